@@ -1,0 +1,4 @@
+pub mod Asked
+pub mod PrintedText
+pub mod SerialHistory
+pub mod Serving

@@ -1,3 +1,5 @@
+ghost use Rattle.std.specs.Prelude.{◌≡◌};
+
 use crate::Request;
 use std::marker::Model;
 
@@ -40,6 +42,21 @@ impl Model for Streams {
     ghost view = { λ s. s.items.items };
 }
 
+impl Streams {
+    /// The streams of a vector. Takes no memory.
+    pub fn of(items: Vec<Stream>) -> Streams
+        ensures { result ≡ items.items }
+    {
+        Streams { items }
+    }
+
+    pub fn as_slice(&self) -> &[Stream]
+        ensures { result.now ≡ self.now }
+    {
+        self.items.as_slice()
+    }
+}
+
 /// The lines of a script behind its streams, in order. Contracts see the list.
 #[derive(Debug, Drop)]
 pub struct Steps {
@@ -53,6 +70,21 @@ impl Model for Steps {
     ghost Value = { List Step };
 
     ghost view = { λ s. s.items.items };
+}
+
+impl Steps {
+    /// The lines of a vector. Takes no memory.
+    pub fn of(items: Vec<Step>) -> Steps
+        ensures { result ≡ items.items }
+    {
+        Steps { items }
+    }
+
+    pub fn as_slice(&self) -> &[Step]
+        ensures { result.now ≡ self.now }
+    {
+        self.items.as_slice()
+    }
 }
 
 /// A script: so many bytes of image, so many loops, the streams and what they do.

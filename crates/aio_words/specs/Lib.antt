@@ -1,0 +1,3 @@
+pub mod Content
+pub mod Faults
+pub use Rattle.aio_model.specs.Serving

@@ -1,0 +1,10 @@
+//! The outside: where text comes from, where it goes, the device that holds an image, the time, and a gate that a
+//! stream passes before each request. Each is a trait, which the real ones and the ones in memory meet.
+//!
+//! A count of faults tells when an object failed: a call that answers `Failed` raised it.
+#![tactic(auto)]
+
+mod traits;
+
+pub use aio_model::{NoMemory, Unmade};
+pub use traits::{Clock, Device, Failed, Gate, Sink, Source};
