@@ -1,0 +1,6 @@
+pub mod Grammar
+pub mod Text
+pub use Rattle.aio_model.specs.Asked
+pub use Rattle.aio_model.specs.PrintedText
+pub use Rattle.aio_words.specs.Content
+pub use Rattle.aio_words.specs.Faults

@@ -1,0 +1,2 @@
+//! Text to script, and replies to text.
+#![tactic(auto)]
