@@ -1,8 +1,8 @@
 -- The definitions at small scripts, computed: what stands here was worked out by hand.
 use Rattle.std.specs.Fmt.{digits}
-use Rattle.std.proofs.Common.{◌≡◌, ℕ, List, [], ◌∷◌, ◌++◌, refl, replicate, codes, take, drop}
+use Rattle.std.proofs.Common.{◌≡◌, ℕ, List, [], ◌∷◌, refl, replicate, codes}
 use Rattle.aio_model.specs.declared.requests.Request.{Request}
-use Rattle.aio_model.specs.declared.requests.Request.TheVariants.{Read, Write, Zero, Flush}
+use Rattle.aio_model.specs.declared.requests.Request.TheVariants.{Read, Write, Flush}
 use Rattle.aio_model.specs.declared.replies.Reply.{Reply}
 use Rattle.aio_model.specs.declared.replies.Reply.TheVariants.{Put, Got, Flushed, Eio, Einval}
 use Rattle.aio_model.specs.declared.replies.Placed.{Placed}

@@ -1,1 +1,4 @@
 mod Examples
+pub mod Along
+pub mod Names
+pub mod PutAt

@@ -2,7 +2,7 @@
 use Rattle.std.specs.Prelude.{◌≡◌, ℕ, ◌+◌, ◌==◌, Bool, true, false, List, [], ◌∷◌, map, filter, count_by, Option, Some, None, option_map, IsPermutation}
 use Rattle.aio_model.specs.declared.requests.Request.{Request}
 use Rattle.aio_model.specs.declared.replies.Reply.{Reply}
-use Rattle.aio_model.specs.declared.replies.Reply.TheVariants.{Put, Got, Zeroed, Flushed, Eio, Einval}
+use Rattle.aio_model.specs.declared.replies.Reply.TheVariants.{Eio, Einval}
 use Rattle.aio_model.specs.declared.replies.Placed.{Placed}
 use Rattle.aio_model.specs.Asked.{Asked, request_named}
 use Rattle.aio_model.specs.Serving.{Fits, bytes_after}

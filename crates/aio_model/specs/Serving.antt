@@ -1,7 +1,7 @@
 -- Serving one request: which replies it may get on an image of a size, and which bytes stand there afterwards.
 -- Places and lengths are whole numbers, so that nothing wraps. The bytes are those of the whole device: an image is
 -- its first bytes, `size` of them.
-use Rattle.std.specs.Prelude.{◌≡◌, ℕ, ◌+◌, ◌%◌, ◌<◌, ◌≤◌, List, [], ◌++◌, length, take, drop, replicate, Option, IfSome}
+use Rattle.std.specs.Prelude.{◌≡◌, ℕ, ◌+◌, ◌%◌, ◌<◌, ◌≤◌, List, ◌++◌, length, take, drop, replicate, Option, IfSome}
 use Rattle.aio_model.specs.declared.requests.Request.{Request}
 use Rattle.aio_model.specs.declared.requests.Request.TheVariants.{Read, Write, Zero, Flush}
 use Rattle.aio_model.specs.declared.replies.Reply.{Reply}
