@@ -1,0 +1,4 @@
+//! The one call that does all the program does.
+#![tactic(auto)]
+
+mod read;
