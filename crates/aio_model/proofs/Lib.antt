@@ -1,4 +1,5 @@
 mod Examples
 pub mod Along
+pub mod InOrder
 pub mod Names
 pub mod PutAt
