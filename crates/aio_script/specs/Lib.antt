@@ -4,3 +4,4 @@ pub use Rattle.aio_model.specs.Asked
 pub use Rattle.aio_model.specs.PrintedText
 pub use Rattle.aio_words.specs.Content
 pub use Rattle.aio_words.specs.Faults
+pub mod Bounds
