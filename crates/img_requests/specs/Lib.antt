@@ -1,0 +1,6 @@
+pub mod ImageState
+pub mod Journal
+pub mod Pieces
+pub mod Presents
+pub mod Progress
+pub mod Soundness

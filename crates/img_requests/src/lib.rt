@@ -1,2 +1,14 @@
-//! The image: requests are entered, served by pieces on a device, and left with a place in the journal.
+//! The image: requests are entered, served by pieces of at most 4,096 bytes on a device, and left with a place in the
+//! journal. A request that reaches past the image's end is refused as it is entered, and has its place then.
 #![tactic(auto)]
+
+mod answers;
+mod calls;
+mod image;
+mod journal;
+mod present;
+
+pub use answers::{Enter, Left, Piece};
+pub use image::Image;
+pub use journal::{Entry, Mark};
+pub use present::{Present, RequestKind, Stage};

@@ -1,0 +1,3 @@
+pub mod PutAt
+pub mod Joining
+pub mod Sound
