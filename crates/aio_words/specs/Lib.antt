@@ -1,3 +1,6 @@
+pub mod Calls
 pub mod Content
 pub mod Faults
+pub mod SinkState
+pub mod SourceState
 pub use Rattle.aio_model.specs.Serving

@@ -4,7 +4,12 @@
 //! A count of faults tells when an object failed: a call that answers `Failed` raised it.
 #![tactic(auto)]
 
+mod calls;
+mod memory_sink;
+mod memory_source;
 mod traits;
 
 pub use aio_model::{NoMemory, Unmade};
+pub use memory_sink::MemSink;
+pub use memory_source::MemSource;
 pub use traits::{Clock, Device, Failed, Gate, Sink, Source};
