@@ -1,5 +1,5 @@
 -- What a read of a source in memory takes from its front.
-use Rattle.std.proofs.Common.{◌≡◌, ℕ, ◌+◌, ◌≤◌, List, ◌++◌, length, take, drop, sym, ap, ◌∙◌, arith}
+use Rattle.std.proofs.Common.{◌≡◌, ℕ, ◌+◌, ◌≤◌, List, ◌++◌, length, take, drop, sym, ap, ◌∙◌}
 use Rattle.std.proofs.lemmas.List.{take_at, take-append-drop, drop-drop, length-take-le}
 
 -- the bytes that were copied, and then what is left behind them, are what was left before

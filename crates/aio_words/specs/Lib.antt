@@ -1,5 +1,6 @@
 pub mod Calls
 pub mod Content
+pub mod DeviceState
 pub mod Faults
 pub mod SinkState
 pub mod SourceState

@@ -5,11 +5,13 @@
 #![tactic(auto)]
 
 mod calls;
+mod memory_device;
 mod memory_sink;
 mod memory_source;
 mod traits;
 
 pub use aio_model::{NoMemory, Unmade};
+pub use memory_device::MemDevice;
 pub use memory_sink::MemSink;
 pub use memory_source::MemSource;
 pub use traits::{Clock, Device, Failed, Gate, Sink, Source};
