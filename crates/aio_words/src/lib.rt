@@ -5,13 +5,19 @@
 #![tactic(auto)]
 
 mod calls;
+mod clock;
+mod gate;
 mod memory_device;
 mod memory_sink;
 mod memory_source;
+mod standard;
 mod traits;
 
 pub use aio_model::{NoMemory, Unmade};
+pub use clock::StepClock;
+pub use gate::OpenGate;
 pub use memory_device::MemDevice;
 pub use memory_sink::MemSink;
 pub use memory_source::MemSource;
+pub use standard::{StdSink, StdSource};
 pub use traits::{Clock, Device, Failed, Gate, Sink, Source};

@@ -1,0 +1,124 @@
+// Standard input, output and error: the trusted edge. They tell nothing of the bytes that pass, only how many calls
+// failed, and that is what contracts see of them.
+ghost use Rattle.std.specs.Prelude.{◌≡◌, ◌≤◌, ◌<◌, None, length, take, IfOk, OnErr, OnOk, IfSome};
+ghost use Rattle.std.specs.Io.{ReadsAtMost};
+ghost use Rattle.aio_words.specs.Calls.{one_more};
+
+use crate::calls::one_more;
+use crate::{Failed, NoMemory, Sink, Source};
+use std::io;
+use std::io::{ErrorKind, Read, Stderr, Stdin, Stdout, Write};
+use std::marker::Model;
+
+/// How often a read that a signal interrupts is tried before it counts as a fault.
+const TRIES: u32 = 1000;
+
+/// Standard input, or another reader. A read that a signal interrupts is tried again, up to a thousand times; any
+/// other error is a fault.
+#[derive(Drop)]
+pub struct StdSource<R> {
+    reader: R,
+    faults: u64,
+}
+
+impl<R> Model for StdSource<R> {
+    ghost use Rattle.std.specs.Prelude.{ℕ};
+
+    ghost Value = { ℕ };
+
+    ghost view = { λ s. s.faults };
+}
+
+impl<R: Read> StdSource<R> {
+    /// A source over this reader. Takes no memory.
+    pub fn build(reader: R) -> Result<StdSource<R>, NoMemory>
+        ensures { IfOk result (λ source. source ≡ 0) }
+    {
+        Ok(StdSource { reader, faults: 0 })
+    }
+}
+
+impl<R: Read> Source for StdSource<R> {
+    ghost left = { λ _. None };
+
+    ghost faults = { λ s. s };
+
+    fn read(&mut self, buf: &mut [u8]) -> Result<usize, Failed> {
+        match read_retrying(&mut self.reader, buf) {
+            Ok(n) => Ok(n),
+            Err(_) => {
+                self.faults = one_more(self.faults);
+                Err(Failed)
+            }
+        }
+    }
+}
+
+/// One read, tried again where a signal interrupts it.
+fn read_retrying<R: Read>(reader: &mut R, buf: &mut [u8]) -> io::Result<usize>
+    ensures { ReadsAtMost result buf.new }
+{
+    for _ in 1..TRIES {
+        match reader.read(buf) {
+            Err(error) if error.kind() == ErrorKind::Interrupted => {}
+            done => return done,
+        }
+    }
+    reader.read(buf)
+}
+
+/// Standard output, standard error or another writer. Short writes are gone on with, and writes that a signal
+/// interrupts are tried again; a write that takes nothing, and any other error, is a fault.
+#[derive(Drop)]
+pub struct StdSink<W> {
+    writer: W,
+    faults: u64,
+}
+
+impl<W> Model for StdSink<W> {
+    ghost use Rattle.std.specs.Prelude.{ℕ};
+
+    ghost Value = { ℕ };
+
+    ghost view = { λ s. s.faults };
+}
+
+impl StdSink<Stdout> {
+    /// Takes no memory.
+    pub fn output(stdout: Stdout) -> Result<StdSink<Stdout>, NoMemory>
+        ensures { IfOk result (λ sink. sink ≡ 0) }
+    {
+        Ok(StdSink {
+            writer: stdout,
+            faults: 0,
+        })
+    }
+}
+
+impl StdSink<Stderr> {
+    /// Takes no memory.
+    pub fn errors(stderr: Stderr) -> Result<StdSink<Stderr>, NoMemory>
+        ensures { IfOk result (λ sink. sink ≡ 0) }
+    {
+        Ok(StdSink {
+            writer: stderr,
+            faults: 0,
+        })
+    }
+}
+
+impl<W: Write> Sink for StdSink<W> {
+    ghost held = { λ _. None };
+
+    ghost faults = { λ s. s };
+
+    fn write(&mut self, piece: &[u8]) -> Result<(), Failed> {
+        match self.writer.write_all(piece) {
+            Ok(()) => Ok(()),
+            Err(_) => {
+                self.faults = one_more(self.faults);
+                Err(Failed)
+            }
+        }
+    }
+}
