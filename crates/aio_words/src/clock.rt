@@ -2,7 +2,7 @@ ghost use Rattle.std.specs.Prelude.{◌≡◌, ◌+◌, ◌-◌, ◌^◌, ◌≤
 
 use crate::Clock;
 
-/// A clock that stands still, but for its pauses: each makes it later by as long as it was to be.
+/// A clock that only its pauses move on, each by the time that it is to last.
 #[derive(Clone, Copy, Debug, PartialEq, Eq)]
 pub struct StepClock {
     pub now: u64,

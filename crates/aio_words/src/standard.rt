@@ -3,6 +3,7 @@
 ghost use Rattle.std.specs.Prelude.{◌≡◌, ◌≤◌, ◌<◌, None, length, take, IfOk, OnErr, OnOk, IfSome};
 ghost use Rattle.std.specs.Io.{ReadsAtMost};
 ghost use Rattle.aio_words.specs.Calls.{one_more};
+ghost use Rattle.aio_words.specs.Faults.{HasRisen};
 
 use crate::calls::one_more;
 use crate::{Failed, NoMemory, Sink, Source};
@@ -43,7 +44,15 @@ impl<R: Read> Source for StdSource<R> {
 
     ghost faults = { λ s. s };
 
-    fn read(&mut self, buf: &mut [u8]) -> Result<usize, Failed> {
+    fn read(&mut self, buf: &mut [u8]) -> Result<usize, Failed>
+        ensures after { OnOk result (self.new ≡ self.old) }
+        ensures failed { OnErr result (self.new ≡ one_more self.old) }
+
+        // What every source promises.
+        ensures within { IfOk result (λ n. n ≤ length buf.old) }
+        ensures counted { self.old ≤ self.new }
+        ensures cause { OnErr result (HasRisen self.old self.new) }
+    {
         match read_retrying(&mut self.reader, buf) {
             Ok(n) => Ok(n),
             Err(_) => {
@@ -112,7 +121,14 @@ impl<W: Write> Sink for StdSink<W> {
 
     ghost faults = { λ s. s };
 
-    fn write(&mut self, piece: &[u8]) -> Result<(), Failed> {
+    fn write(&mut self, piece: &[u8]) -> Result<(), Failed>
+        ensures after { OnOk result (self.new ≡ self.old) }
+        ensures failed { OnErr result (self.new ≡ one_more self.old) }
+
+        // What every sink promises.
+        ensures counted { self.old ≤ self.new }
+        ensures cause { OnErr result (HasRisen self.old self.new) }
+    {
         match self.writer.write_all(piece) {
             Ok(()) => Ok(()),
             Err(_) => {
