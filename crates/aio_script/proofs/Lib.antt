@@ -1,2 +1,5 @@
 pub mod Bounded
 mod Examples
+pub mod Pieces
+pub mod Prints
+pub mod Texts

@@ -1,4 +1,5 @@
 pub mod Grammar
+pub mod Printing
 pub mod Text
 pub use Rattle.aio_model.specs.Asked
 pub use Rattle.aio_model.specs.PrintedText

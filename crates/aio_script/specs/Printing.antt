@@ -1,0 +1,13 @@
+-- What a call that prints a text does to its sink.
+use Rattle.std.specs.Prelude.{◌≡◌, ℕ, ◌≤◌, List, Option, Result, OnOk, OnErr}
+use Rattle.aio_words.specs.Content.{with_piece, AppendsFront}
+use Rattle.aio_words.specs.Faults.{HasRisen}
+use Rattle.aio_script.specs.declared.print.WriteFault.{WriteFault}
+
+-- The text was printed: whole, or a front of it, where the sink failed. The sink held the first content before and the
+-- second one after, and its count of faults went from the one to the other.
+pub record Prints (text : List ℕ) (before after : Option (List ℕ)) (faults_before faults_after : ℕ) (result : Result Unit WriteFault) : Type 0 where
+  pub ok : OnOk result (after ≡ with_piece text before)
+  pub err : OnErr result (AppendsFront before after text)
+  pub counted : faults_before ≤ faults_after
+  pub cause : OnErr result (HasRisen faults_before faults_after)
