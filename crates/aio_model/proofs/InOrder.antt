@@ -11,23 +11,21 @@ use Rattle.aio_model.specs.PrintedText.{Standing, line_standing, line_of, line_f
 use Rattle.aio_model.proofs.Names.{asked_below-append, standing_from-asked}
 
 -- what is asked by the line at k, as it stands among all
-pub asked_at : List Step → ℕ → Step → List Asked
+abbrev pub asked_at : List Step → ℕ → Step → List Asked
 asked_at lines k step = asked_by step.stream (requests_of step.stream (take k lines)) step.what
 
 module _ (lines : List Step) (k : ℕ) (step : Step) (inside : k < length lines) (here : step ≡ get_or lines k step) where
   pub asked-more : asked (take (k + 1) lines) ≡ asked (take k lines) ++ asked_at lines k step
-  unfolding asked_at
   asked-more =
       ap asked (take_more lines k step inside ∙ ap (λ s. take k lines ++ s ∷ []) (sym here))
       ∙ asked_below-append [] (take k lines) (step ∷ [])
       ∙ ap (λ tail. asked (take k lines) ++ tail) (append-nil (asked_at lines k step))
 
   -- the requests below that line
-  pub asked_rest : List Asked
+  abbrev pub asked_rest : List Asked
   asked_rest = asked_below (take k lines ++ step ∷ []) (drop (k + 1) lines)
 
   pub asked-split : asked lines ≡ asked (take k lines) ++ (asked_at lines k step ++ asked_rest)
-  unfolding asked_at asked_rest
   asked-split =
       ap asked (sym (take-append-drop k lines) ∙ ap (λ tail. take k lines ++ tail) (drop_more lines k step inside ∙ ap (λ s. s ∷ drop (k + 1) lines) (sym here)))
       ∙ asked_below-append [] (take k lines) (step ∷ drop (k + 1) lines)

@@ -160,7 +160,8 @@ indices_of-names stream (placed ∷ served) =
       | inr h ↦ ap (map (λ (p : Placed). p.index)) (cond-false _ _ _ h) ∙ e ∙ sym (cond-false _ _ _ h)
     ]
 
-requests_of-push : (stream : ℕ) (above : List Step) (step : Step)
+-- how many requests of a stream there are with one line more
+pub requests_of-push : (stream : ℕ) (above : List Step) (step : Step)
     → requests_of stream (above ++ step ∷ []) ≡ requests_of stream above + cond (step.stream == stream && is_ask step.what) 1 0
 requests_of-push stream above step =
     let counted : Step → ℕ = λ other. cond (other.stream == stream && is_ask other.what) 1 0 in
