@@ -1,2 +1,5 @@
+pub mod Going
+pub mod Imaged
+pub mod Rooms
 pub mod SoFar
 pub mod Taken

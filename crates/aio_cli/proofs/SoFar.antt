@@ -6,7 +6,7 @@ use Rattle.aio_model.specs.declared.requests.Request.{Request}
 use Rattle.aio_model.specs.declared.replies.Placed.{Placed}
 use Rattle.aio_model.specs.declared.scripts.Step.{Step}
 use Rattle.aio_model.specs.declared.scripts.What.{What}
-use Rattle.aio_model.specs.declared.scripts.What.TheVariants.{Ask}
+use Rattle.aio_model.specs.declared.scripts.What.TheVariants.{Ask, Delay, Move}
 use Rattle.aio_model.specs.Asked.{Asked, is_ask, requests_of, asked_by, asked, request_named}
 use Rattle.aio_model.specs.Serving.{Fits, bytes_after}
 use Rattle.aio_model.specs.SerialHistory.{asked_name, placed_name, bytes_left, FitAlong}
@@ -15,13 +15,14 @@ use Rattle.aio_model.proofs.InOrder.{asked_at, asked_rest, asked-more, asked-spl
 use Rattle.aio_model.proofs.Along.{FitAlong-push, told_left-push}
 use Rattle.std.proofs.lemmas.List.{take_more}
 use Rattle.std.proofs.Math.Bool.{and-true}
+use Rattle.std.proofs.lemmas.Bool.{cond-false, and_right, true≢false}
 use Rattle.img_requests.specs.declared.journal.Entry.{Entry}
 use Rattle.img_requests.specs.Journal.{entries_of}
 use Rattle.img_requests.specs.Progress.{Replied}
 
 -- the lines before k were served
 pub record SoFar (size : ℕ) (lines : List Step) (k : ℕ) (told now : Option (List ℕ)) (journal : List Entry) (served : List Placed)
-  : Type 0 where
+    : Type 0 where
   pub names : map placed_name served ≡ map asked_name (asked (take k lines))
   pub fits : FitAlong size (asked lines) told served
   pub leaves : now ≡ option_map (bytes_left (asked lines) served) told
@@ -95,9 +96,9 @@ module _ (size : ℕ) (lines : List Step) (k : ℕ) (step : Step) (request : Req
   SoFar-more = record {
     names = next_names;
     fits = FitAlong-push (asked lines) size served placed request told so_far.fits named
-      (subst (λ bytes. Fits size bytes request placed.reply) so_far.leaves replied.fits);
+        (subst (λ bytes. Fits size bytes request placed.reply) so_far.leaves replied.fits);
     leaves = replied.leaves ∙ ap (option_map (bytes_after request placed.reply)) so_far.leaves
-      ∙ sym (told_left-push (asked lines) served placed request told named);
+        ∙ sym (told_left-push (asked lines) served placed request told named);
     counted = next_counted;
   }
 
@@ -106,3 +107,29 @@ pub SoFar-names : (size : ℕ) (lines : List Step) (k : ℕ) (told now : Option 
     → SoFar size lines k told now journal served → length lines ≤ k → map placed_name served ≡ map asked_name (asked lines)
 SoFar-names size lines k told now journal served so_far all =
     so_far.names ∙ ap (λ some. map asked_name (asked some)) (take_all k lines all)
+
+-- a line that asks nothing
+skipped : (stream index : ℕ) (what : What) → is_ask what ≡ false → asked_by stream index what ≡ []
+skipped stream index (Ask request) h = absurd (true≢false h)
+skipped stream index (Delay ns) h = refl
+skipped stream index (Move loop) h = refl
+
+pub SoFar-skip : (size : ℕ) (lines : List Step) (k : ℕ) (step : Step) (told now : Option (List ℕ)) (journal : List Entry) (served : List Placed)
+    → k < length lines → step ≡ get_or lines k step → is_ask step.what ≡ false
+    → SoFar size lines k told now journal served → SoFar size lines (k + 1) told now journal served
+SoFar-skip size lines k step told now journal served inside here silent so_far = record {
+  names = so_far.names ∙ ap (map asked_name) (sym (
+    asked-more lines k step inside here
+    ∙ ap (λ a. asked (take k lines) ++ a) (skipped step.stream (requests_of step.stream (take k lines)) step.what silent)
+    ∙ append-nil (asked (take k lines))
+  ));
+  fits = so_far.fits;
+  leaves = so_far.leaves;
+  counted = λ stream.
+    so_far.counted stream ∙ omega (
+      arith,
+      requests_of-push stream (take k lines) step,
+      ap (requests_of stream) (take_more lines k step inside ∙ ap (λ (s : Step). take k lines ++ s ∷ []) (sym here)),
+      cond-false {A = ℕ} (step.stream == stream && is_ask step.what) 1 0 (and_right _ _ silent)
+    );
+}

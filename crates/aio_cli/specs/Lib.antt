@@ -1,2 +1,3 @@
+pub mod Buffers
 pub mod Reading
 pub mod Run

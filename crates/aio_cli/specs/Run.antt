@@ -18,7 +18,7 @@ pub record Serves (script : Script) (before now : Option (List ℕ)) (served : L
 -- A whole run. The text was all that the source had left, the script is the one that it says, its requests were
 -- served, and of their printed text this much was written.
 pub record Runs (left_before left_now bytes_before bytes_now : Option (List ℕ)) (served : List Placed) (Writes : List ℕ → Type 0)
-  : Type 0 where
+    : Type 0 where
   pub text : List ℕ
   pub taken : Takes left_before left_now text
   pub ended : IfSome left_now (λ left. left ≡ [])

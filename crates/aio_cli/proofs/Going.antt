@@ -1,0 +1,128 @@
+-- The loop that serves a script's lines: what holds before each line, and how it goes on.
+use Rattle.std.proofs.Common.{◌≡◌, ℕ, ◌+◌, ◌-◌, ◌^◌, ◌<◌, ◌≤◌, ◌==◌, ◌&&◌, min, Bool, true, false, cond, List, [], ◌∷◌, ◌++◌, length, map, take, drop, get_or, Option, Some, None, option_map, count_by, slice_index, refl, sym, ◌∙◌, ap, subst, arith}
+use Rattle.std.specs.List.{AllByRecursion}
+use Rattle.std.proofs.lemmas.List.{length_push, length-take}
+use Rattle.std.proofs.lemmas.List.Sums.{sum_by-append, sum_by-cons, count_by-le-length}
+use Rattle.std.proofs.lemmas.List.Elements.{All-from_recursion}
+use Rattle.aio_model.specs.declared.requests.Request.{Request}
+use Rattle.aio_model.specs.declared.replies.Placed.{Placed}
+use Rattle.aio_model.specs.declared.scripts.Step.{Step}
+use Rattle.aio_model.specs.declared.scripts.What.{What}
+use Rattle.aio_model.specs.declared.scripts.What.TheVariants.{Ask, Delay, Move}
+use Rattle.aio_model.specs.Asked.{is_ask, requests_of}
+use Rattle.aio_model.specs.SerialHistory.{is_eio, eios_of}
+use Rattle.aio_words.specs.Faults.{HasRisenBy}
+use Rattle.aio_script.specs.Bounds.{IsOfFirst}
+use Rattle.img_requests.specs.declared.journal.Entry.{Entry}
+use Rattle.img_requests.specs.ImageState.{ImageState}
+use Rattle.img_requests.specs.Journal.{entries_of}
+use Rattle.img_requests.specs.Progress.{Replied}
+use Rattle.aio_cli.specs.Buffers.{HasRoomFor, RoomsFor}
+use Rattle.aio_cli.proofs.SoFar.{SoFar, SoFar-begin, SoFar-more, SoFar-skip}
+use Rattle.aio_cli.proofs.Rooms.{RoomsFor-next}
+
+pub record Going {D : Type 0} (bytes : D → Option (List ℕ)) (faults size_faults extent : D → ℕ) (lines : List Step) (first : ImageState D)
+    (k : ℕ) (image : ImageState D) (served : List Placed) (buffers : List (List ℕ)) : Type 0 where
+  pub so_far : SoFar first.size lines k (bytes first.device) (bytes image.device) image.journal served
+  pub frame : image ≡ record first { device = image.device; journal = image.journal }
+  pub rooms : RoomsFor (drop k lines) buffers
+  pub counted : faults first.device ≤ faults image.device
+  pub eios : HasRisenBy (eios_of served) (faults first.device) (faults image.device)
+  pub sizes : size_faults image.device ≡ size_faults first.device
+  pub extents : extent image.device ≡ extent first.device
+  pub few : length served ≤ k
+
+-- what holds of the line at k
+pub own_at : (lines : List Step) (k : ℕ) (step : Step) → AllByRecursion IsOfFirst lines → k < length lines → step ≡ get_or lines k step → IsOfFirst step
+own_at lines k step own inside here = subst IsOfFirst (sym here) (All-from_recursion IsOfFirst lines own k step inside)
+
+eios_of-push : (served : List Placed) (placed : Placed) → eios_of (served ++ placed ∷ []) ≡ eios_of served + cond (is_eio placed.reply) 1 0
+eios_of-push served placed =
+    let counted : Placed → ℕ = λ (p : Placed). cond (is_eio p.reply) 1 0 in
+    let one : eios_of (placed ∷ []) ≡ counted placed + 0 = sum_by-cons counted placed [] in
+    sum_by-append counted served (placed ∷ []) ∙ omega (arith, one)
+
+risen-more : (n m a b c : ℕ) → HasRisenBy n a b → HasRisenBy m b c → HasRisenBy (n + m) a c
+risen-more n m a b c first second = omega arith
+
+module _ {D : Type 0} (bytes : D → Option (List ℕ)) (faults size_faults extent : D → ℕ) (lines : List Step) (first : ImageState D) where
+  pub Going-begin : (buffers : List (List ℕ)) → first.journal ≡ [] → RoomsFor lines buffers
+      → Going bytes faults size_faults extent lines first 0 first [] buffers
+  Going-begin buffers empty rooms = record {
+    so_far = subst (λ journal. SoFar first.size lines 0 (bytes first.device) (bytes first.device) journal []) (sym empty) (SoFar-begin first.size lines (bytes first.device));
+    frame = refl;
+    rooms = rooms;
+    counted = omega arith;
+    eios = omega arith;
+    sizes = refl;
+    extents = refl;
+    few = omega arith;
+  }
+
+  module _ (k : ℕ) (step : Step) (image : ImageState D) (served : List Placed) (bytes_here : List ℕ) (buffers : List (List ℕ))
+      (inside : k < length lines) (here : step ≡ get_or lines k step)
+      (going : Going bytes faults size_faults extent lines first k image served (bytes_here ∷ buffers)) where
+    pub room-here : HasRoomFor step.what bytes_here
+    room-here = (RoomsFor-next lines k step (bytes_here ∷ buffers) inside here going.rooms).0
+
+    -- the stream has a request left
+    pub due-here : AllByRecursion IsOfFirst lines → first.requests ≡ length lines ∷ [] → entries_of step.stream image.journal < slice_index image.requests step.stream
+    due-here own due =
+        let zeroth : step.stream ≡ 0 = (own_at lines k step own inside here).0 in
+        let requests : image.requests ≡ length lines ∷ [] = ap (λ (s : ImageState D). s.requests) going.frame ∙ due in
+        let all : slice_index image.requests step.stream ≡ length lines =
+          ap (slice_index image.requests) zeroth ∙ ap (λ some. slice_index some 0) requests in
+        omega (
+          arith,
+          going.so_far.counted step.stream,
+          count_by-le-length (λ (s : Step). s.stream == step.stream && is_ask s.what) (take k lines),
+          length-take k lines
+        )
+
+    -- a line that asks
+    pub Going-more : (request : Request) (next : ImageState D) (placed : Placed)
+        → step.what ≡ Ask request → placed.stream ≡ step.stream → placed.index ≡ entries_of step.stream image.journal
+        → Replied image.size request (bytes image.device) (bytes next.device) placed.reply
+        → ((entry : Entry) × (entry.stream ≡ step.stream) × (next ≡ record image { device = next.device; journal = image.journal ++ entry ∷ [] }))
+        → faults image.device ≤ faults next.device
+        → HasRisenBy (cond (is_eio placed.reply) 1 0) (faults image.device) (faults next.device)
+        → size_faults next.device ≡ size_faults image.device → extent next.device ≡ extent image.device
+        → Going bytes faults size_faults extent lines first (k + 1) next (served ++ placed ∷ []) buffers
+    Going-more request next placed asks own index replied noted counted eios sizes extents =
+        let size : image.size ≡ first.size = ap (λ (s : ImageState D). s.size) going.frame in
+        let journal : next.journal ≡ image.journal ++ noted.0 ∷ [] = ap (λ (s : ImageState D). s.journal) noted.2 in
+        let fitting : Replied first.size request (bytes image.device) (bytes next.device) placed.reply =
+          subst (λ n. Replied n request (bytes image.device) (bytes next.device) placed.reply) size replied in
+        record {
+          so_far = subst (λ all. SoFar first.size lines (k + 1) (bytes first.device) (bytes next.device) all (served ++ placed ∷ [])) (sym journal)
+            (SoFar-more first.size lines k step request (bytes first.device) (bytes image.device) (bytes next.device) image.journal noted.0 served placed
+              inside here asks going.so_far own noted.1 index fitting);
+          frame = noted.2
+            ∙ ap (λ (s : ImageState D). record s { device = next.device; journal = image.journal ++ noted.0 ∷ [] }) going.frame
+            ∙ ap (λ all. record first { device = next.device; journal = all }) (sym journal);
+          rooms = (RoomsFor-next lines k step (bytes_here ∷ buffers) inside here going.rooms).1;
+          counted = omega (arith, going.counted);
+          eios = subst (λ n. HasRisenBy n (faults first.device) (faults next.device)) (sym (eios_of-push served placed))
+            (risen-more (eios_of served) (cond (is_eio placed.reply) 1 0) (faults first.device) (faults image.device) (faults next.device) going.eios eios);
+          sizes = sizes ∙ going.sizes;
+          extents = extents ∙ going.extents;
+          few = omega (arith, length_push served placed, going.few);
+        }
+
+    -- a line that asks nothing
+    pub Going-skip : is_ask step.what ≡ false → Going bytes faults size_faults extent lines first (k + 1) image served buffers
+    Going-skip silent = record {
+      so_far = SoFar-skip first.size lines k step (bytes first.device) (bytes image.device) image.journal served inside here silent going.so_far;
+      frame = going.frame;
+      rooms = (RoomsFor-next lines k step (bytes_here ∷ buffers) inside here going.rooms).1;
+      counted = going.counted;
+      eios = going.eios;
+      sizes = going.sizes;
+      extents = going.extents;
+      few = omega (arith, going.few);
+    }
+
+pub is_ask-other : (what : What) → ((request : Request) → what ≡ Ask request → ⊥) → is_ask what ≡ false
+is_ask-other (Ask request) other = absurd (other request refl)
+is_ask-other (Delay ns) other = refl
+is_ask-other (Move loop) other = refl
