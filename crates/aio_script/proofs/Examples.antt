@@ -1,5 +1,5 @@
 -- The grammar at small texts, computed: what stands here was worked out by hand.
-use Rattle.std.proofs.Common.{◌≡◌, List, [], ◌∷◌, refl, codes, Option, Some, None}
+use Rattle.std.proofs.Common.{◌≡◌, [], ◌∷◌, refl, codes, Some, None}
 use Rattle.hex.specs.Hex.{decode_pairs}
 use Rattle.aio_model.specs.declared.requests.Request.TheVariants.{Read, Write, Flush}
 use Rattle.aio_script.specs.Grammar.{script_of, script_with, ask_of}

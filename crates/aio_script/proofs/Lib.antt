@@ -1,5 +1,7 @@
 pub mod Bounded
 mod Examples
+pub mod Cuts
+pub mod Forms
 pub mod Pieces
 pub mod Prints
 pub mod Texts

@@ -1,11 +1,10 @@
 -- The scripts that can be read so far: an image, one loop, one stream, and its reads, writes and flushes.
-use Rattle.std.specs.Prelude.{ℕ, ◌+◌, ◌&&◌, Bool, nat_le, List, [], ◌∷◌, length, sum_by, codes, Option, Some, None, option_map, option_and_then, if◌then◌else◌}
+use Rattle.std.specs.Prelude.{ℕ, ◌&&◌, Bool, nat_le, List, [], ◌∷◌, length, sum_by, codes, Option, Some, None, option_map, option_and_then, if◌then◌else◌}
 use Rattle.aio_model.specs.declared.requests.Request.{Request}
-use Rattle.aio_model.specs.declared.requests.Request.TheVariants.{Read, Write, Zero, Flush}
-use Rattle.aio_model.specs.declared.scripts.Stream.{Stream}
+use Rattle.aio_model.specs.declared.requests.Request.TheVariants.{Read, Write, Flush}
 use Rattle.aio_model.specs.declared.scripts.Step.{Step}
 use Rattle.aio_model.specs.declared.scripts.What.{What}
-use Rattle.aio_model.specs.declared.scripts.What.TheVariants.{Ask, Delay, Move}
+use Rattle.aio_model.specs.declared.scripts.What.TheVariants.{Ask}
 use Rattle.aio_model.specs.declared.scripts.Script.{Script}
 use Rattle.aio_script.specs.Text.{is, significant_lines, words_of, number_of, number_within, data_of}
 

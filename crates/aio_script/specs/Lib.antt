@@ -1,5 +1,6 @@
 pub mod Grammar
 pub mod Printing
+pub mod Reading
 pub mod Text
 pub use Rattle.aio_model.specs.Asked
 pub use Rattle.aio_model.specs.PrintedText

@@ -2,6 +2,11 @@
 #![tactic(auto)]
 
 mod print;
+mod reader;
+mod refusals;
+mod text;
 
 pub use aio_model::{Bytes, Placed, Reply, Request, Script, Step, Steps, Stream, Streams, What};
 pub use print::{WriteFault, print_end, print_line};
+pub use reader::read_script;
+pub use refusals::{ScriptFail, ScriptRefusal};

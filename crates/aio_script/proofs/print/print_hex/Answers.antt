@@ -1,4 +1,4 @@
-use Rattle.std.proofs.Common.{◌+◌, ◌≤◌, drop, length, arith, rules}
+use Rattle.std.proofs.Common.{◌+◌, ◌≤◌, drop, length, arith}
 use Rattle.aio_model.specs.PrintedText.{hex_of}
 use Rattle.aio_script.proofs.Prints.{Prints-then, Prints-stops, Prints-same}
 use Rattle.aio_script.proofs.Texts.{hex_of-range, hex_of-rest}

@@ -1,0 +1,116 @@
+//! Words, numbers and data of a line.
+ghost use Rattle.std.specs.Prelude.{◌≡◌, ◌==◌, ◌<◌, ◌≤◌, ◌∷◌, [], length, position, Some, None, MatchOption, IfSome, if◌then◌else◌};
+ghost use Rattle.std.specs.List.{list_all, slice_split};
+ghost use Rattle.std.specs.Char.{is_ascii_digit};
+ghost use Rattle.aio_script.specs.Reading.{AreSeveral};
+ghost use Rattle.aio_script.specs.Text.{is, is_skipped, number_of, number_within, significant_lines, value_of, words_of};
+
+/// The text up to the first such byte, and what stands behind that byte. Where there is none, the whole text.
+pub(crate) fn cut(text: &[u8], byte: u8) -> (&[u8], Option<&[u8]>)
+    ensures parts { MatchOption result.1
+        (slice_split (λ x. x == byte) text.now ≡ result.0.now ∷ [])
+        (λ rest. slice_split (λ x. x == byte) text.now ≡ result.0.now ∷ slice_split (λ x. x == byte) rest.now) }
+    ensures shorter { IfSome result.1 (λ rest. length rest.now < length text.now) }
+{
+    match find(text, byte) {
+        Some(at) => (&text[..at], Some(&text[at + 1..])),
+        None => (text, None),
+    }
+}
+
+fn find(text: &[u8], byte: u8) -> Option<usize>
+    ensures { result ≡ position (λ x. x == byte) text.now }
+{
+    text.iter().position(|x| *x == byte)
+}
+
+/// The word that a text is, if it is but one.
+pub(crate) fn one_word(text: &[u8]) -> Option<&[u8]>
+    ensures { MatchOption result (AreSeveral (words_of text.now)) (λ word. words_of text.now ≡ word.now ∷ []) }
+{
+    let (word, behind) = cut(text, b' ');
+    match behind {
+        Some(_) => None,
+        None => Some(word),
+    }
+}
+
+/// Whether these bytes are those of the other text.
+pub(crate) fn is(text: &[u8], other: &str) -> bool
+    ensures { result ≡ is text.now other.now }
+{
+    text == other.as_bytes()
+}
+
+/// The first line that says something, and what stands behind it.
+pub(crate) fn next_line(text: &[u8]) -> Option<(&[u8], &[u8])>
+    ensures lines { MatchOption result
+        (significant_lines text.now ≡ [])
+        (λ cut. significant_lines text.now ≡ cut.0.now ∷ significant_lines cut.1.now) }
+    ensures shorter { IfSome result (λ cut. length cut.1.now < length text.now) }
+{
+    let mut left = text;
+    while !left.is_empty() {
+        let (line, behind) = cut_line(left);
+        if !is_skipped(line) {
+            return Some((line, behind));
+        }
+        left = behind;
+    }
+    None
+}
+
+// The first line, and what stands behind its line feed: nothing, where it has none.
+fn cut_line(text: &[u8]) -> (&[u8], &[u8])
+    requires { 0 < length text.now }
+    ensures lines { significant_lines text.now ≡ (if is_skipped result.0.now then significant_lines result.1.now else result.0.now ∷ significant_lines result.1.now) }
+    ensures shorter { length result.1.now < length text.now }
+{
+    let (line, behind) = cut(text, b'\n');
+    match behind {
+        Some(behind) => (line, behind),
+        None => (line, &[]),
+    }
+}
+
+fn is_skipped(line: &[u8]) -> bool
+    ensures { result ≡ is_skipped line.now }
+{
+    matches!(line, [] | [b'#', ..])
+}
+
+const MOST_DIGITS: usize = 20;
+
+/// The number that a word is.
+pub(crate) fn read_number(word: &[u8]) -> Option<u64>
+    ensures { result ≡ number_of word.now }
+{
+    if word.is_empty() || word.len() > MOST_DIGITS {
+        return None;
+    }
+    let value = read_digits(word)?;
+    u64::try_from(value).ok()
+}
+
+// What at most twenty digits stand for.
+fn read_digits(word: &[u8]) -> Option<u128>
+    requires { length word.now ≤ 20 }
+    ensures { result ≡ (if list_all is_ascii_digit word.now then Some (value_of word.now) else None) }
+{
+    let mut value: u128 = 0;
+    for digit in word {
+        if !digit.is_ascii_digit() {
+            return None;
+        }
+        value = 10 * value + u128::from(*digit - b'0');
+    }
+    Some(value)
+}
+
+/// The number that a word is, if it is at most the limit.
+pub(crate) fn read_within(word: &[u8], limit: u64) -> Option<u64>
+    ensures { result ≡ number_within limit word.now }
+{
+    let value = read_number(word)?;
+    if value <= limit { Some(value) } else { None }
+}
