@@ -1,11 +1,11 @@
--- Lines that are of no form, and lines read one behind the other.
-use Rattle.std.proofs.Common.{◌≡◌, ℕ, ◌+◌, ◌<◌, ◌≤◌, Bool, true, false, ◌&&◌, ◌⊎◌, leb, cond, inl, inr, List, [], ◌∷◌, ◌++◌, length, Option, Some, None, refl, sym, ap, ◌∙◌, arith, append_assoc, append-nil, length-append}
+-- Lines of many words, and lines read one behind the other.
+use Rattle.std.proofs.Common.{◌≡◌, ℕ, ◌+◌, ◌<◌, ◌≤◌, Bool, true, false, ◌&&◌, ◌⊎◌, leb, cond, inl, inr, List, [], ◌∷◌, ◌++◌, length, Option, Some, None, refl, sym, ap, ◌∙◌, arith, append_assoc, length-append}
 use Rattle.std.specs.Prelude.{sum_by, option_map, option_and_then}
 use Rattle.std.specs.List.{slice_split, onto_first}
-use Rattle.std.proofs.lemmas.Bool.{cases_Bool, le-leb, lt-leb}
+use Rattle.std.proofs.lemmas.Bool.{cases_Bool, lt-leb}
 use Rattle.std.proofs.lemmas.List.Sums.{sum_by-append}
 use Rattle.aio_model.specs.declared.scripts.Step.{Step}
-use Rattle.aio_script.specs.Grammar.{bounded_steps, bytes_moved, image_of_words, request_of, step_of, steps_of}
+use Rattle.aio_script.specs.Grammar.{bounded_steps, bytes_moved, step_of, steps_of}
 use Rattle.aio_script.specs.Reading.{AreSeveral}
 use Rattle.aio_script.specs.Text.{words_of}
 
@@ -24,28 +24,11 @@ behind_space p (byte ∷ rest) first = elim (cases_Bool (p byte)) [
 pub AreSeveral-cons : (text first rest : List ℕ) → words_of text ≡ first ∷ words_of rest → AreSeveral (words_of text)
 AreSeveral-cons text first rest h = rw h (behind_space _ rest first)
 
-pub image_of_words-several : (word : List ℕ) (words : List (List ℕ)) → AreSeveral words → image_of_words (word ∷ words) ≡ None
-image_of_words-several word [] several = absurd several
-image_of_words-several word (one ∷ []) several = absurd several
-image_of_words-several word (one ∷ two ∷ words) several = refl
-
-pub request_of-several : (verb at : List ℕ) (words : List (List ℕ)) → AreSeveral words → request_of (verb ∷ at ∷ words) ≡ None
-request_of-several verb at [] several = absurd several
-request_of-several verb at (one ∷ []) several = absurd several
-request_of-several verb at (one ∷ two ∷ words) several = refl
-
 -- ---- lines
 
 -- these lines were read, and what the others say stands behind them
 abbrev pub Continues : Option (List Step) → List Step → List (List ℕ) → Type 0
 Continues whole done left = whole ≡ option_map (λ rest. done ++ rest) (steps_of left)
-
-Continues-nothing : (o : Option (List Step)) → o ≡ option_map (λ rest. [] ++ rest) o
-Continues-nothing (Some steps) = refl
-Continues-nothing None = refl
-
-pub Continues-start : (left : List (List ℕ)) → Continues (steps_of left) [] left
-Continues-start left = Continues-nothing (steps_of left)
 
 on_one_more : (done : List Step) (step : Step) (o : Option (List Step))
     → option_map (λ rest. done ++ rest) (option_map (λ steps. step ∷ steps) o) ≡ option_map (λ rest. (done ++ step ∷ []) ++ rest) o
@@ -60,29 +43,11 @@ Continues-step whole done left behind line step h cut reads =
     ∙ ap (λ (o : Option Step). option_map (λ rest. done ++ rest) (option_and_then (λ s. option_map (λ steps. s ∷ steps) (steps_of behind)) o)) reads
     ∙ on_one_more done step (steps_of behind)
 
--- a line that isn't one
-pub Continues-none : (whole : Option (List Step)) (done : List Step) (left behind : List (List ℕ)) (line : List ℕ)
-    → Continues whole done left → left ≡ line ∷ behind → step_of line ≡ None → whole ≡ None
-Continues-none whole done left behind line h cut reads =
-    h
-    ∙ ap (λ (lines : List (List ℕ)). option_map (λ rest. done ++ rest) (steps_of lines)) cut
-    ∙ ap (λ (o : Option Step). option_map (λ rest. done ++ rest) (option_and_then (λ s. option_map (λ steps. s ∷ steps) (steps_of behind)) o)) reads
-
--- no line is left
-pub Continues-end : (whole : Option (List Step)) (done : List Step) (left : List (List ℕ)) → Continues whole done left → left ≡ [] → whole ≡ Some done
-Continues-end whole done left h end =
-    h
-    ∙ ap (λ (lines : List (List ℕ)). option_map (λ rest. done ++ rest) (steps_of lines)) end
-    ∙ ap Some (append-nil done)
-
 -- ---- limits
 
 -- how many bytes the lines read and write
 abbrev pub moved_by : List Step → ℕ
 moved_by steps = sum_by (λ step. bytes_moved step.what) steps
-
-pub bounded_steps-within : (steps : List Step) → length steps ≤ 4096 → moved_by steps ≤ 67108864 → bounded_steps steps ≡ Some steps
-bounded_steps-within steps few small = rw (le-leb (length steps) 4096 few, le-leb (moved_by steps) 67108864 small) refl
 
 -- limits that don't hold
 refused : (few small : Bool) (steps : List Step) → (few ≡ false) ⊎ (small ≡ false) → cond (few && small) (Some steps) None ≡ None
