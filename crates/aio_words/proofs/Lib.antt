@@ -1,1 +1,3 @@
+pub mod ContentLemmas
+pub mod FaultLemmas
 mod SourceReads
