@@ -45,38 +45,38 @@ with_piece-with_piece (Some bytes) first second = ap Some (append_assoc bytes fi
 -- nothing was appended
 pub AppendsFront-nothing : (held : Option (List ℕ)) (piece : List ℕ) → AppendsFront held held piece
 AppendsFront-nothing held piece = record {
-    front = [];
-    rest = piece;
-    whole = refl;
-    holds = sym (with_piece-nil held);
+  front = [];
+  rest = piece;
+  whole = refl;
+  holds = sym (with_piece-nil held);
 }
 
 -- the whole piece was appended
 pub AppendsFront-whole : (before now : Option (List ℕ)) (piece : List ℕ)
     → now ≡ with_piece piece before → AppendsFront before now piece
 AppendsFront-whole before now piece holds = record {
-    front = piece;
-    rest = [];
-    whole = sym (append-nil piece);
-    holds = holds;
+  front = piece;
+  rest = [];
+  whole = sym (append-nil piece);
+  holds = holds;
 }
 
 -- a front of a piece is one of a longer text too
 pub AppendsFront-longer : (before now : Option (List ℕ)) (piece behind : List ℕ)
     → AppendsFront before now piece → AppendsFront before now (piece ++ behind)
 AppendsFront-longer before now piece behind some = record {
-    front = some.front;
-    rest = some.rest ++ behind;
-    whole = ap (λ xs. xs ++ behind) some.whole ∙ append_assoc some.front some.rest behind;
-    holds = some.holds;
+  front = some.front;
+  rest = some.rest ++ behind;
+  whole = ap (λ xs. xs ++ behind) some.whole ∙ append_assoc some.front some.rest behind;
+  holds = some.holds;
 }
 
 -- a whole piece was appended, and then a front of the next
 pub AppendsFront-behind : (before between now : Option (List ℕ)) (first second : List ℕ)
     → between ≡ with_piece first before → AppendsFront between now second → AppendsFront before now (first ++ second)
 AppendsFront-behind before between now first second appended some = record {
-    front = first ++ some.front;
-    rest = some.rest;
-    whole = ap (λ xs. first ++ xs) some.whole ∙ sym (append_assoc first some.front some.rest);
-    holds = some.holds ∙ ap (with_piece some.front) appended ∙ with_piece-with_piece before first some.front;
+  front = first ++ some.front;
+  rest = some.rest;
+  whole = ap (λ xs. first ++ xs) some.whole ∙ sym (append_assoc first some.front some.rest);
+  holds = some.holds ∙ ap (with_piece some.front) appended ∙ with_piece-with_piece before first some.front;
 }
