@@ -1,5 +1,5 @@
 -- How the pieces of a request join up to its reply.
-use Rattle.std.proofs.Common.{◌≡◌, ℕ, ◌+◌, ◌<◌, ◌≤◌, List, ◌++◌, length, take, drop, replicate, Option, Some, None, option_map, IfSome, refl, sym, ap, subst, ◌∙◌, arith, length-drop}
+use Rattle.std.proofs.Common.{◌⊎◌, inl, inr, ◌≡◌, ℕ, ◌+◌, ◌<◌, ◌≤◌, List, ◌++◌, length, take, drop, replicate, Option, Some, None, option_map, IfSome, refl, sym, ap, subst, ◌∙◌, arith, length-drop}
 use Rattle.std.proofs.lemmas.List.{take_all, drop-drop, length-take-le, length-replicate, replicate-append-replicate}
 use Rattle.std.proofs.Math.Seq.{take-add}
 use Rattle.aio_model.specs.declared.requests.Request.{Request}
@@ -12,7 +12,6 @@ use Rattle.img_requests.specs.declared.journal.Mark.TheVariants as mark
 use Rattle.img_requests.specs.Journal.{good_mark, mark_of, reply_of}
 use Rattle.img_requests.specs.Presents.{kind_of, present_of}
 use Rattle.img_requests.specs.Pieces.{Pieced, HasRoom, bytes_with, buffer_with, piece_at, piece_length, done_after, stage_after}
-use Rattle.img_requests.specs.ImageState.{IsEnded}
 use Rattle.img_requests.specs.Progress.{Progress, Replied, bytes_so_far, FoundSoFar, good_reply}
 use Rattle.img_requests.proofs.PutAt.{put_at-nothing, put_at_behind, take-put_at}
 
@@ -216,17 +215,17 @@ bytes_after-einval Flush (Some bytes) = refl
 pub Replied-last : (stream : ℕ) {size : ℕ} {request : Request} {told now next : Option (List ℕ)} {before after : List ℕ} {done n : ℕ}
     → (answer : Piece)
     → Progress size request told now before done → Pieced request done n answer now next before after
-    → IsEnded (stage_after answer)
+    → (answer ≡ Whole) ⊎ (answer ≡ Failed)
     → Replied size request told next
     (reply_of (mark_of (Some (present_of stream request (done_after answer done n) (stage_after answer)))) after)
-Replied-last stream More so_far piece ended = absurd ended
-Replied-last stream {size} {request} {told} {now} {next} {before} {after} {done} {n} Whole so_far piece ended =
+Replied-last stream More so_far piece last = elim last [ inl whole ↦ cc | inr failed ↦ cc ]
+Replied-last stream {size} {request} {told} {now} {next} {before} {after} {done} {n} Whole so_far piece last =
     let whole : done + n ≡ length_of request = piece.answered in
     let served : Progress size request told next after (done + n) =
     Progress-served size request told now next before after done n so_far (omega arith) piece.puts piece.finds piece.long in
     subst (Replied size request told next) (sym (reply_of-good request after))
     (Replied-good size request told next after (subst (Progress size request told next after) whole served))
-Replied-last stream {size} {request} {told} {now} {next} {before} {after} {done} {n} Failed so_far piece ended = record {
+Replied-last stream {size} {request} {told} {now} {next} {before} {after} {done} {n} Failed so_far piece last = record {
   fits = record { answers = (so_far.within, piece.answered); finds = FindsBytes-eio request done told };
   leaves = piece.keeps ∙ so_far.puts ∙ bytes_after-eio request done told;
 }

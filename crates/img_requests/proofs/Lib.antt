@@ -1,3 +1,4 @@
-pub mod PutAt
 pub mod Joining
+pub mod PutAt
+pub mod Served
 pub mod Sound

@@ -1,7 +1,8 @@
 -- An image as its callers see it, and what entering a request does.
 use Rattle.std.specs.Prelude.{◌≡◌, ℕ, ◌<◌, ◌≤◌, List, [], ◌∷◌, ◌++◌, length, Option, Some, None}
 use Rattle.aio_model.specs.declared.requests.Request.{Request}
-use Rattle.aio_model.specs.Serving.{end_of}
+use Rattle.aio_model.specs.Serving.{length_of, end_of}
+use Rattle.img_requests.specs.declared.answers.Piece.{Piece}
 use Rattle.img_requests.specs.declared.answers.Enter.{Enter}
 use Rattle.img_requests.specs.declared.answers.Enter.TheVariants.{Begun, Queued, Refused}
 use Rattle.img_requests.specs.declared.journal.Entry.{Entry}
@@ -10,7 +11,8 @@ use Rattle.img_requests.specs.declared.present.Present.{Present}
 use Rattle.img_requests.specs.declared.present.Stage.{Stage}
 use Rattle.img_requests.specs.declared.present.Stage.TheVariants as stage
 use Rattle.img_requests.specs.Journal.{entry_next}
-use Rattle.img_requests.specs.Presents.{present_of}
+use Rattle.img_requests.specs.Pieces.{Pieced, piece_length, done_after, stage_after}
+use Rattle.img_requests.specs.Presents.{present_of, done_of}
 
 pub record ImageState (D : Type 0) : Type 0 where
   pub device : D
@@ -47,3 +49,17 @@ abbrev pub OnBegun : Enter → Type 0 → Type 0
 OnBegun Begun P = P
 OnBegun Queued P = Unit {0}
 OnBegun (Refused place) P = Unit {0}
+
+-- What `piece` does, where its answer is this one: the next piece of the present request to the device and the buffer,
+-- and to the image no more than how far the request has come. `bytes` are those that a device tells.
+pub record Serves {D : Type 0} (bytes : D → Option (List ℕ)) (stream : ℕ) (request : Request) (answer : Piece)
+    (old new : ImageState D) (before after : List ℕ)
+    : Type 0 where
+  pub pieced : Pieced request (done_of old.present) (piece_length (length_of request) (done_of old.present)) answer
+      (bytes old.device) (bytes new.device) before after
+  pub image : new
+      ≡ record old {
+        device = new.device;
+        present = Some (present_of stream request
+            (done_after answer (done_of old.present) (piece_length (length_of request) (done_of old.present))) (stage_after answer));
+      }

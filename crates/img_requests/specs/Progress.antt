@@ -5,7 +5,10 @@ use Rattle.aio_model.specs.declared.requests.Request.TheVariants.{Read, Write, Z
 use Rattle.aio_model.specs.declared.replies.Reply.{Reply}
 use Rattle.aio_model.specs.declared.replies.Reply.TheVariants.{Put, Got, Zeroed, Flushed}
 use Rattle.aio_model.specs.Serving.{put_at, length_of, end_of, Fits, bytes_after}
+use Rattle.img_requests.specs.ImageState.{ImageState, CanLeave}
+use Rattle.img_requests.specs.Journal.{mark_of, reply_of}
 use Rattle.img_requests.specs.Pieces.{HasRoom}
+use Rattle.img_requests.specs.Presents.{IsBegun, done_of}
 
 -- the bytes after so many bytes of the request
 abbrev pub bytes_so_far : Request → ℕ → List ℕ → List ℕ
@@ -43,3 +46,21 @@ good_reply Flush found = Flushed
 pub record Replied (size : ℕ) (request : Request) (told now : Option (List ℕ)) (reply : Reply) : Type 0 where
   pub fits : Fits size told request reply
   pub leaves : now ≡ option_map (bytes_after request reply) told
+
+-- The pieces of the stream's request so far brought the image from `old`, where it was begun, to `now`, and more may
+-- come.
+pub record UnderWay {D : Type 0} (bytes : D → Option (List ℕ)) (stream : ℕ) (request : Request)
+    (old now : ImageState D) (buffer : List ℕ)
+    : Type 0 where
+  pub begun : IsBegun stream request now.present
+  pub kept : now ≡ record old { device = now.device; present = now.present }
+  pub progress : Progress old.size request (bytes old.device) (bytes now.device) buffer (done_of now.present)
+
+-- All pieces of the stream's request brought the image from `old`, where it was begun, to `now`: it may leave, and the
+-- reply whose mark it then gets fits.
+pub record IsServed {D : Type 0} (bytes : D → Option (List ℕ)) (stream : ℕ) (request : Request)
+    (old now : ImageState D) (buffer : List ℕ)
+    : Type 0 where
+  pub ended : CanLeave stream now.present
+  pub kept : now ≡ record old { device = now.device; present = now.present }
+  pub replied : Replied old.size request (bytes old.device) (bytes now.device) (reply_of (mark_of now.present) buffer)

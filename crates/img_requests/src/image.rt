@@ -33,10 +33,10 @@ impl<D: Device> Model for Image<D> {
 impl<D: Device> Image<D> {
     ghost use Rattle.std.specs.Prelude.{None, Some};
     ghost use Rattle.aio_words.specs.Faults.{HasRisen};
-    ghost use Rattle.img_requests.specs.ImageState.{Enters, CanLeave, OnBegun};
+    ghost use Rattle.img_requests.specs.ImageState.{Enters, CanLeave, OnBegun, Serves};
     ghost use Rattle.img_requests.specs.Journal.{entries_of, entry_next, mark_of};
-    ghost use Rattle.img_requests.specs.Pieces.{Pieced, OnFailed, HasRoom, IsSilent, piece_length, done_after, stage_after};
-    ghost use Rattle.img_requests.specs.Presents.{present_of, done_of, IsBegun};
+    ghost use Rattle.img_requests.specs.Pieces.{OnFailed, HasRoom, IsSilent, piece_length};
+    ghost use Rattle.img_requests.specs.Presents.{done_of, IsBegun};
 
     /// An image of the device's first `size` bytes, for so many requests of its one stream.
     pub fn build(
@@ -91,15 +91,7 @@ impl<D: Device> Image<D> {
     pub fn piece(&mut self, stream: u32, request: &Request, buf: &mut [u8]) -> Piece
         requires begun { IsBegun stream request.now self.old.present }
         requires room { HasRoom request.now buf.old }
-        ensures pieced { let done = done_of self.old.present in
-            Pieced request.now done (piece_length (length_of request.now) done) result
-            (D.bytes self.old.device) (D.bytes self.new.device) buf.old buf.new }
-        ensures image { let done = done_of self.old.present in
-            self.new ≡ record self.old {
-              device = self.new.device;
-              present = Some (present_of stream request.now
-                  (done_after result done (piece_length (length_of request.now) done)) (stage_after result));
-            } }
+        ensures served { Serves D.bytes stream request.now result self.old self.new buf.old buf.new }
         ensures cause { OnFailed result (HasRisen (D.faults self.old.device) (D.faults self.new.device)) }
         ensures counted { D.faults self.old.device ≤ D.faults self.new.device }
         ensures quiet { IsSilent request.now (piece_length (length_of request.now) (done_of self.old.present))
