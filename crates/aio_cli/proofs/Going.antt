@@ -71,12 +71,12 @@ module _ {D : Type 0} (bytes : D → Option (List ℕ)) (faults size_faults exte
         let zeroth : step.stream ≡ 0 = (own_at lines k step own inside here).0 in
         let requests : image.requests ≡ length lines ∷ [] = ap (λ (s : ImageState D). s.requests) going.frame ∙ due in
         let all : slice_index image.requests step.stream ≡ length lines =
-          ap (slice_index image.requests) zeroth ∙ ap (λ some. slice_index some 0) requests in
+        ap (slice_index image.requests) zeroth ∙ ap (λ some. slice_index some 0) requests in
         omega (
           arith,
           going.so_far.counted step.stream,
           count_by-le-length (λ (s : Step). s.stream == step.stream && is_ask s.what) (take k lines),
-          length-take k lines
+          length-take k lines,
         )
 
     -- a line that asks
@@ -92,18 +92,18 @@ module _ {D : Type 0} (bytes : D → Option (List ℕ)) (faults size_faults exte
         let size : image.size ≡ first.size = ap (λ (s : ImageState D). s.size) going.frame in
         let journal : next.journal ≡ image.journal ++ noted.0 ∷ [] = ap (λ (s : ImageState D). s.journal) noted.2 in
         let fitting : Replied first.size request (bytes image.device) (bytes next.device) placed.reply =
-          subst (λ n. Replied n request (bytes image.device) (bytes next.device) placed.reply) size replied in
+        subst (λ n. Replied n request (bytes image.device) (bytes next.device) placed.reply) size replied in
         record {
           so_far = subst (λ all. SoFar first.size lines (k + 1) (bytes first.device) (bytes next.device) all (served ++ placed ∷ [])) (sym journal)
-            (SoFar-more first.size lines k step request (bytes first.device) (bytes image.device) (bytes next.device) image.journal noted.0 served placed
+              (SoFar-more first.size lines k step request (bytes first.device) (bytes image.device) (bytes next.device) image.journal noted.0 served placed
               inside here asks going.so_far own noted.1 index fitting);
           frame = noted.2
-            ∙ ap (λ (s : ImageState D). record s { device = next.device; journal = image.journal ++ noted.0 ∷ [] }) going.frame
-            ∙ ap (λ all. record first { device = next.device; journal = all }) (sym journal);
+              ∙ ap (λ (s : ImageState D). record s { device = next.device; journal = image.journal ++ noted.0 ∷ [] }) going.frame
+              ∙ ap (λ all. record first { device = next.device; journal = all }) (sym journal);
           rooms = (RoomsFor-next lines k step (bytes_here ∷ buffers) inside here going.rooms).1;
           counted = omega (arith, going.counted);
           eios = subst (λ n. HasRisenBy n (faults first.device) (faults next.device)) (sym (eios_of-push served placed))
-            (risen-more (eios_of served) (cond (is_eio placed.reply) 1 0) (faults first.device) (faults image.device) (faults next.device) going.eios eios);
+              (risen-more (eios_of served) (cond (is_eio placed.reply) 1 0) (faults first.device) (faults image.device) (faults next.device) going.eios eios);
           sizes = sizes ∙ going.sizes;
           extents = extents ∙ going.extents;
           few = omega (arith, length_push served placed, going.few);

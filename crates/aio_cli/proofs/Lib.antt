@@ -1,5 +1,4 @@
 pub mod Going
-pub mod Imaged
 pub mod Rooms
 pub mod SoFar
 pub mod Taken

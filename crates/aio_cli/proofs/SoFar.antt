@@ -119,17 +119,17 @@ pub SoFar-skip : (size : ℕ) (lines : List Step) (k : ℕ) (step : Step) (told 
     → SoFar size lines k told now journal served → SoFar size lines (k + 1) told now journal served
 SoFar-skip size lines k step told now journal served inside here silent so_far = record {
   names = so_far.names ∙ ap (map asked_name) (sym (
-    asked-more lines k step inside here
-    ∙ ap (λ a. asked (take k lines) ++ a) (skipped step.stream (requests_of step.stream (take k lines)) step.what silent)
-    ∙ append-nil (asked (take k lines))
-  ));
+      asked-more lines k step inside here
+      ∙ ap (λ a. asked (take k lines) ++ a) (skipped step.stream (requests_of step.stream (take k lines)) step.what silent)
+      ∙ append-nil (asked (take k lines))
+      ));
   fits = so_far.fits;
   leaves = so_far.leaves;
   counted = λ stream.
-    so_far.counted stream ∙ omega (
-      arith,
-      requests_of-push stream (take k lines) step,
-      ap (requests_of stream) (take_more lines k step inside ∙ ap (λ (s : Step). take k lines ++ s ∷ []) (sym here)),
-      cond-false {A = ℕ} (step.stream == stream && is_ask step.what) 1 0 (and_right _ _ silent)
-    );
+      so_far.counted stream ∙ omega (
+        arith,
+        requests_of-push stream (take k lines) step,
+        ap (requests_of stream) (take_more lines k step inside ∙ ap (λ (s : Step). take k lines ++ s ∷ []) (sym here)),
+        cond-false {A = ℕ} (step.stream == stream && is_ask step.what) 1 0 (and_right _ _ silent),
+      );
 }

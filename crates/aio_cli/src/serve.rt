@@ -5,13 +5,10 @@ ghost use Rattle.aio_model.specs.Serving.{length_of};
 ghost use Rattle.aio_model.specs.SerialHistory.{asked_name, placed_name, bytes_left, FitAlong, is_eio, eios_of};
 ghost use Rattle.aio_words.specs.Faults.{HasRisenBy};
 ghost use Rattle.aio_script.specs.Bounds.{IsOfFirst};
-ghost use Rattle.img_requests.specs.ImageState.{CanLeave};
 ghost use Rattle.img_requests.specs.Journal.{entries_of, entry_next, mark_of, reply_of};
 ghost use Rattle.img_requests.specs.Pieces.{HasRoom};
-ghost use Rattle.img_requests.specs.Presents.{present_of};
-ghost use Rattle.img_requests.specs.Progress.{Progress, Replied};
+ghost use Rattle.img_requests.specs.Progress.{IsServed, Replied, UnderWay};
 ghost use Rattle.img_requests.specs.declared.journal.Entry.{Entry};
-ghost use Rattle.img_requests.specs.declared.present.Stage.TheVariants as stage;
 ghost use Rattle.aio_cli.specs.Buffers.{RoomsFor, HasRoomFor};
 
 use aio_model::{Bytes, Placed, Request, Step, What};
@@ -22,12 +19,8 @@ use std::collections::VecDeque;
 
 /// Serves the pieces of the request that has begun, until it has ended.
 fn serve_pieces<D: Device>(image: &mut Image<D>, stream: u32, request: &Request, buffer: &mut [u8])
-    requires begun { image.old.present ≡ Some (present_of stream request.now 0 stage.Begun) }
-    requires inside { Progress image.old.size request.now (D.bytes image.old.device) (D.bytes image.old.device) buffer.old 0 }
-    ensures ended { CanLeave stream image.new.present }
-    ensures replied { Replied image.old.size request.now (D.bytes image.old.device) (D.bytes image.new.device)
-        (reply_of (mark_of image.new.present) buffer.new) }
-    ensures image { image.new ≡ record image.old { device = image.new.device; present = image.new.present } }
+    requires under_way { UnderWay D.bytes stream request.now image.old image.old buffer.old }
+    ensures served { IsServed D.bytes stream request.now image.old image.new buffer.new }
     ensures counted { D.faults image.old.device ≤ D.faults image.new.device }
     ensures eios { HasRisenBy (if is_eio (reply_of (mark_of image.new.present) buffer.new) then 1 else 0)
         (D.faults image.old.device) (D.faults image.new.device) }

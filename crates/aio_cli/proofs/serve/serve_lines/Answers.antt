@@ -12,13 +12,15 @@ pub loop-line-preserved : goal.loop-line-preserved
 loop-line-preserved g c =
     let going = rw c.in-Some.ensures.items at c.loop-line.invariant.0 in
     elim c.match-line.branch [
-      in-Ask w ↦
-        (rw (w.image-is, w.served-is, w.push_reserved.ensures.items)
-          (Going-more _ _ _ _ _ _ _ c.line-item.result _ _ _ _ (omega arith) c.line-item.is going w.in-Ask.request _ w.serve_request.result
+      | in-Ask w ↦ (
+        rw (w.image-is, w.served-is, w.push_reserved.ensures.items)
+            (Going-more _ _ _ _ _ _ _ c.line-item.result _ _ _ _ (omega arith) c.line-item.is going w.in-Ask.request _ w.serve_request.result
             w.in-Ask.is w.serve_request.ensures.stream w.serve_request.ensures.index w.serve_request.ensures.replied w.serve_request.ensures.image
             w.serve_request.ensures.counted w.serve_request.ensures.eios w.serve_request.ensures.sizes w.serve_request.ensures.extent),
-        ap (λ v. vec_capacity v) w.served-is ∙ w.push_reserved.ensures.capacity ∙ c.loop-line.invariant.1)
-    | in_default-what w ↦
-        (rw (w.image-is, w.served-is) (Going-skip _ _ _ _ _ _ _ c.line-item.result _ _ _ _ (omega arith) c.line-item.is going (is_ask-other c.line-item.result.what w.in_default-what.not-Ask)),
-        ap (λ v. vec_capacity v) w.served-is ∙ c.loop-line.invariant.1)
+        ap (λ v. vec_capacity v) w.served-is ∙ w.push_reserved.ensures.capacity ∙ c.loop-line.invariant.1,
+      )
+      | in_default-what w ↦ (
+        rw (w.image-is, w.served-is) (Going-skip _ _ _ _ _ _ _ c.line-item.result _ _ _ _ (omega arith) c.line-item.is going (is_ask-other c.line-item.result.what w.in_default-what.not-Ask)),
+        ap (λ v. vec_capacity v) w.served-is ∙ c.loop-line.invariant.1,
+      )
     ]
