@@ -1,4 +1,5 @@
 pub mod Going
+pub mod Printing
 pub mod Rooms
 pub mod SoFar
 pub mod Taken

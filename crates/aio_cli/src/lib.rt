@@ -1,5 +1,6 @@
 //! The one call that does all the program does.
 #![tactic(auto)]
 
+mod print;
 mod read;
 mod serve;

@@ -1,3 +1,5 @@
+ghost use Rattle.std.specs.Prelude.{◌≡◌};
+
 use crate::Bytes;
 
 /// What came of a request.
@@ -14,6 +16,16 @@ pub enum Reply {
     Eio(u32),
     /// The request reaches past the image's end (Linux's error 22).
     Einval,
+}
+
+impl Reply {
+    ghost use Rattle.aio_model.specs.SerialHistory.{is_error};
+
+    pub fn is_error(&self) -> bool
+        ensures { result ≡ is_error self.now }
+    {
+        matches!(self, Reply::Eio(_) | Reply::Einval)
+    }
 }
 
 /// A reply, and the request that it answers: the one with this place among the requests of this stream, from 0.
