@@ -1,5 +1,6 @@
 pub mod Going
 pub mod Printing
 pub mod Rooms
+pub mod Served
 pub mod SoFar
 pub mod Taken

@@ -113,6 +113,7 @@ pub(crate) fn serve_lines<D: Device>(
     requires rooms { RoomsFor lines.now (map (λ buffer. buffer.items) buffers.items) }
     requires none { served.old.items ≡ [] }
     requires places { length lines.now ≤ vec_capacity served.old }
+    ensures few { length served.new.items ≤ length lines.now }
     ensures names { map placed_name served.new.items ≡ map asked_name (asked lines.now) }
     ensures fits { FitAlong image.old.size (asked lines.now) (D.bytes image.old.device) served.new.items }
     ensures leaves { D.bytes image.new.device ≡ option_map (bytes_left (asked lines.now) served.new.items) (D.bytes image.old.device) }

@@ -13,7 +13,7 @@ pub bounds-served-place : goal.bounds-served-place
 bounds-served-place g c =
     omega (
       arith,
-      place-inside c.args.lines.now c.args.served.now c.requires.names c.loop-line.line-index c.line-item.result (omega arith) c.line-item.is c.in-Ask.request c.in-Ask.is
+      place-inside c.args.lines.now c.args.served.now c.requires.names c.loop-line.line-index c.line-item.result (omega arith) c.line-item.is c.in-Ask.request c.in-Ask.is,
     )
 
 pub overflow_add-place : goal.overflow_add-place
@@ -21,7 +21,7 @@ overflow_add-place g c =
     omega (
       arith,
       c.requires.few,
-      place-inside c.args.lines.now c.args.served.now c.requires.names c.loop-line.line-index c.line-item.result (omega arith) c.line-item.is c.in-Ask.request c.in-Ask.is
+      place-inside c.args.lines.now c.args.served.now c.requires.names c.loop-line.line-index c.line-item.result (omega arith) c.line-item.is c.in-Ask.request c.in-Ask.is,
     )
 
 pub returns-in_err-print_one : goal.returns-in_err-print_one
@@ -34,7 +34,7 @@ returns-in_err-print_one g c =
     let rest = flat_map (line_for served) (asked_rest lines k step inside c.line-item.is) in
     Prints-same
     (printed-whole lines served c.requires.names k step inside c.line-item.is c.in-Ask.request c.in-Ask.is c.loop-line.place c.index-served-place.result
-      c.loop-line.invariant.1 c.index-served-place.is)
+    c.loop-line.invariant.1 c.index-served-place.is)
     (Prints-then c.from_residual.result c.loop-line.invariant.0
     (Prints-stops rest c.from_residual.result c.from_residual.ensures.0 c.in_err-print_one.ensures))
 
@@ -46,16 +46,18 @@ loop-line-preserved g c =
     let step = c.line-item.result in
     let inside : k < length lines = omega arith in
     elim c.match-line.branch [
-      in-Ask+in_ok-print_one w ↦
-        (rw w.sink-is
-          (Prints-same
+      | in-Ask+in_ok-print_one w ↦ (
+        rw w.sink-is
+            (Prints-same
             (printed-more lines served c.requires.names k step inside c.line-item.is w.in-Ask.request w.in-Ask.is c.loop-line.place w.index-served-place.result
-              c.loop-line.invariant.1 w.index-served-place.is)
+            c.loop-line.invariant.1 w.index-served-place.is)
             (Prints-then (Ok tt) c.loop-line.invariant.0 w.in_ok-print_one.ensures)),
         w.place-is ∙ ap (λ n. n + 1) c.loop-line.invariant.1
-          ∙ sym (place-more lines served c.requires.names k step inside c.line-item.is w.in-Ask.request w.in-Ask.is))
-    | in_default w ↦
-        let same = asked-silent lines served c.requires.names k step inside c.line-item.is (is_ask-other step.what w.in_default.not-Ask) in
-        (rw w.sink-is (Prints-same (ap (flat_map (line_for served)) (sym same)) c.loop-line.invariant.0),
-        w.place-is ∙ c.loop-line.invariant.1 ∙ ap length (sym same))
+            ∙ sym (place-more lines served c.requires.names k step inside c.line-item.is w.in-Ask.request w.in-Ask.is),
+      )
+      | in_default w ↦
+          let same = asked-silent lines served c.requires.names k step inside c.line-item.is (is_ask-other step.what w.in_default.not-Ask) in (
+            rw w.sink-is (Prints-same (ap (flat_map (line_for served)) (sym same)) c.loop-line.invariant.0),
+            w.place-is ∙ c.loop-line.invariant.1 ∙ ap length (sym same),
+          )
     ]

@@ -15,7 +15,7 @@ returns g c =
     let all = asked c.args.lines.now in
     let served = c.args.served.now in
     let same : length served ≡ length all =
-      sym (length-map served placed_name) ∙ ap length c.requires.names ∙ length-map all asked_name in
+    sym (length-map served placed_name) ∙ ap length c.requires.names ∙ length-map all asked_name in
     let last : end_line (length served) c.errors_in.result ≡ end_line (length all) (errors_of served) =
-      ap (λ n. end_line n c.errors_in.result) same ∙ ap (end_line (length all)) c.errors_in.ensures in
+    ap (λ n. end_line n c.errors_in.result) same ∙ ap (end_line (length all)) c.errors_in.ensures in
     Prints-then c.print_last.result c.in_ok-print_lines.ensures (Prints-same last c.print_last.ensures)

@@ -1,0 +1,50 @@
+ghost use Rattle.std.specs.Prelude.{◌≡◌};
+
+use aio_model::Placed;
+use aio_script::ScriptRefusal;
+
+/// How a run of the program ended.
+#[derive(Clone, Copy, Debug, PartialEq, Eq)]
+pub enum Answer {
+    /// The script was served, all was written, and no reply is an error.
+    Done,
+    /// The script was served and all was written; so many replies are errors.
+    Errors(u32),
+    /// The words of the command line aren't those that it takes.
+    Usage,
+    /// The text isn't a script.
+    BadScript(ScriptRefusal),
+    /// The text couldn't be read.
+    ReadFault,
+    /// The script was served, and not all of its replies could be written.
+    WriteFault,
+    /// Memory ran out before anything was served.
+    NoMemory,
+}
+
+/// What a run of the program leaves: how it ended, the device, and the replies in the order of their places. There are
+/// none where nothing was served.
+pub struct End<D> {
+    pub answer: Answer,
+    pub device: D,
+    pub served: Vec<Placed>,
+}
+
+impl<D> End<D> {
+    ghost use Rattle.aio_cli.specs.Answers.{status_of};
+
+    /// The exit status of the program.
+    pub fn status(&self) -> u8
+        ensures { result ≡ status_of self.now.answer }
+    {
+        match self.answer {
+            Answer::Done => 0,
+            Answer::Errors(_) => 1,
+            Answer::Usage => 2,
+            Answer::BadScript(_) => 3,
+            Answer::ReadFault => 6,
+            Answer::WriteFault => 7,
+            Answer::NoMemory => 8,
+        }
+    }
+}

@@ -1,0 +1,147 @@
+ghost use Rattle.std.specs.Prelude.{◌≡◌, ◌<◌, ◌≤◌, ◌^◌, [], length, map, vec_capacity, IfOk, IfErr};
+ghost use Rattle.aio_model.specs.Asked.{asked};
+ghost use Rattle.aio_model.specs.PrintedText.{printed_text};
+ghost use Rattle.aio_model.specs.SerialHistory.{asked_name, placed_name, eios_of};
+ghost use Rattle.aio_words.specs.Content.{with_piece, AppendsFront};
+ghost use Rattle.aio_words.specs.Faults.{HasRisen, HasRisenBy};
+ghost use Rattle.aio_script.specs.Bounds.{IsBounded};
+ghost use Rattle.aio_cli.specs.Answers.{IsOfRun, IsServed, OnCut, OnUnserved, OnWritten, TellsErrors};
+ghost use Rattle.aio_cli.specs.Buffers.{RoomsFor};
+ghost use Rattle.aio_cli.specs.Run.{Serves};
+
+use crate::print::{errors_in, print_replies};
+use crate::serve::{prepare_buffers, serve_lines};
+use crate::{Answer, End};
+use aio_model::{Placed, Script, Step, Unmade};
+use aio_script::WriteFault;
+use aio_words::{Device, Sink};
+use img_requests::Image;
+use std::alloc::{AllocError, Global};
+use std::collections::VecDeque;
+
+/// What serving takes of memory: a buffer for each line, and room for the replies.
+struct Room {
+    buffers: VecDeque<Vec<u8>>,
+    served: Vec<Placed>,
+}
+
+fn prepare(alloc: Global, lines: &[Step]) -> Result<Room, AllocError>
+    ensures rooms { IfOk result (λ room. RoomsFor lines.now (map (λ buffer. buffer.items) room.buffers.items)) }
+    ensures none { IfOk result (λ room. room.served.items ≡ []) }
+    ensures places { IfOk result (λ room. length lines.now ≤ vec_capacity room.served) }
+{
+    Ok(Room {
+        buffers: prepare_buffers(alloc, lines)?,
+        served: Vec::with_capacity(alloc, lines.len())?,
+    })
+}
+
+/// The end of a run at which nothing was served.
+pub(crate) fn unserved<D>(alloc: Global, answer: Answer, device: D) -> End<D>
+    ensures answer { result.answer ≡ answer }
+    ensures device { result.device ≡ device }
+    ensures served { result.served.items ≡ [] }
+{
+    End {
+        answer,
+        device,
+        served: Vec::new(alloc),
+    }
+}
+
+/// A device after a script was served on it, and the replies.
+struct Served<D> {
+    device: D,
+    replies: Vec<Placed>,
+}
+
+/// Serves a script on a device, which comes back unserved where memory runs out.
+fn serve_script<D: Device>(
+    alloc: Global,
+    script: &Script,
+    device: D,
+) -> Result<Served<D>, Unmade<D>>
+    requires bounded { IsBounded script.now }
+    requires fits { script.now.image ≤ D.extent device }
+    ensures unmade { IfErr result (λ unmade. unmade.back ≡ device) }
+    ensures few { IfOk result (λ served. length served.replies.items ≤ 4096) }
+    ensures names { IfOk result (λ served. map placed_name served.replies.items ≡ map asked_name (asked script.now.lines)) }
+    ensures serves { IfOk result (λ served. Serves script.now (D.bytes device) (D.bytes served.device) served.replies.items) }
+    ensures eios { IfOk result (λ served. HasRisenBy (eios_of served.replies.items) (D.faults device) (D.faults served.device)) }
+    ensures counted { IfOk result (λ served. D.faults device ≤ D.faults served.device) }
+    ensures sizes { IfOk result (λ served. D.size_faults served.device ≡ D.size_faults device) }
+    ensures extent { IfOk result (λ served. D.extent served.device ≡ D.extent device) }
+{
+    let lines = script.lines.as_slice();
+    let Ok(room) = prepare(alloc, lines) else {
+        return Err(Unmade { back: device });
+    };
+    let Room {
+        buffers,
+        served: mut replies,
+    } = room;
+    let mut image = Image::build(alloc, device, script.image, &[lines.len() as u32])?;
+    serve_lines(&mut image, lines, buffers, &mut replies);
+    Ok(Served {
+        device: image.into_device(),
+        replies,
+    })
+}
+
+/// Serves a script on a device, and prints the replies.
+pub(crate) fn run_script<K: Sink, D: Device>(
+    alloc: Global,
+    script: &Script,
+    sink: &mut K,
+    device: D,
+) -> End<D>
+    requires bounded { IsBounded script.now }
+    requires fits { script.now.image ≤ D.extent device }
+    ensures of_run { IsOfRun result.answer }
+    ensures written { OnWritten result.answer
+        (Serves script.now (D.bytes device) (D.bytes result.device) result.served.items
+        × (K.held sink.new ≡ with_piece (printed_text (asked script.now.lines) result.served.items) (K.held sink.old))) }
+    ensures cut { OnCut result.answer
+        (Serves script.now (D.bytes device) (D.bytes result.device) result.served.items
+        × AppendsFront (K.held sink.old) (K.held sink.new) (printed_text (asked script.now.lines) result.served.items)) }
+    ensures unserved { OnUnserved result.answer ((sink.new ≡ sink.old) × (result.device ≡ device) × (result.served.items ≡ [])) }
+    ensures errors { TellsErrors result.answer result.served.items }
+    ensures eios { HasRisenBy (eios_of result.served.items) (D.faults device) (D.faults result.device) }
+    ensures device_counted { D.faults device ≤ D.faults result.device }
+    ensures sizes { D.size_faults result.device ≡ D.size_faults device }
+    ensures extent { D.extent result.device ≡ D.extent device }
+    ensures sink_counted { K.faults sink.old ≤ K.faults sink.new }
+    ensures write_fault { OnCut result.answer (HasRisen (K.faults sink.old) (K.faults sink.new)) }
+{
+    match serve_script(alloc, script, device) {
+        Err(unmade) => unserved(alloc, Answer::NoMemory, unmade.back),
+        Ok(Served { device, replies }) => {
+            let answer = print_answer(sink, script.lines.as_slice(), replies.as_slice());
+            End {
+                answer,
+                device,
+                served: replies,
+            }
+        }
+    }
+}
+
+/// Prints the replies, and tells how that ended.
+fn print_answer<K: Sink>(sink: &mut K, lines: &[Step], served: &[Placed]) -> Answer
+    requires names { map placed_name served.now ≡ map asked_name (asked lines.now) }
+    requires few { length served.now ≤ 4096 }
+    ensures of_run { IsServed result }
+    ensures written { OnWritten result (K.held sink.new ≡ with_piece (printed_text (asked lines.now) served.now) (K.held sink.old)) }
+    ensures cut { OnCut result (AppendsFront (K.held sink.old) (K.held sink.new) (printed_text (asked lines.now) served.now)) }
+    ensures errors { TellsErrors result served.now }
+    ensures counted { K.faults sink.old ≤ K.faults sink.new }
+    ensures write_fault { OnCut result (HasRisen (K.faults sink.old) (K.faults sink.new)) }
+{
+    match print_replies(sink, lines, served) {
+        Err(WriteFault) => Answer::WriteFault,
+        Ok(()) => match errors_in(served) {
+            0 => Answer::Done,
+            n => Answer::Errors(n),
+        },
+    }
+}
