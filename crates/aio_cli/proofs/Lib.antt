@@ -1,3 +1,4 @@
+pub mod Causes
 pub mod Going
 pub mod Printing
 pub mod Rooms

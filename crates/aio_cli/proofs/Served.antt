@@ -47,11 +47,11 @@ Serves-of {D} bytes script lines size first device last served same_lines same_s
     Serves-in_order script (bytes device) (bytes last) served inside
     (subst (λ all. map placed_name served ≡ map asked_name (asked all)) same_lines names)
     (subst (λ all. FitAlong script.image (asked all) (bytes device) served) same_lines
-      (subst (λ d. FitAlong script.image (asked lines) (bytes d) served) same_device
-        (subst (λ n. FitAlong n (asked lines) (bytes first) served) same_size fits)))
+    (subst (λ d. FitAlong script.image (asked lines) (bytes d) served) same_device
+    (subst (λ n. FitAlong n (asked lines) (bytes first) served) same_size fits)))
     (leaves
-      ∙ ap (λ d. option_map (bytes_left (asked lines) served) (bytes d)) same_device
-      ∙ ap (λ all. option_map (bytes_left (asked all) served) (bytes device)) same_lines)
+    ∙ ap (λ d. option_map (bytes_left (asked lines) served) (bytes d)) same_device
+    ∙ ap (λ all. option_map (bytes_left (asked all) served) (bytes device)) same_lines)
 
 pub OnWritten-both : (answer : Answer) (P Q : Type 0) → P → OnWritten answer Q → OnWritten answer (P × Q)
 OnWritten-both Done P Q p q = (p, q)

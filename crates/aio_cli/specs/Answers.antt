@@ -1,8 +1,10 @@
 -- What an answer of the program says.
-use Rattle.std.specs.Prelude.{◌≡◌, ℕ, ◌<◌, List}
+use Rattle.std.specs.Prelude.{◌≡◌, ℕ, ◌<◌, List, Option}
 use Rattle.aio_model.specs.declared.replies.Placed.{Placed}
 use Rattle.aio_model.specs.SerialHistory.{errors_of, eios_of}
+use Rattle.aio_words.specs.Faults.{HasRisen}
 use Rattle.aio_script.specs.declared.refusals.ScriptRefusal.{ScriptRefusal}
+use Rattle.aio_cli.specs.Reading.{SaysNone}
 use Rattle.aio_cli.specs.declared.answer.Answer.{Answer}
 use Rattle.aio_cli.specs.declared.answer.Answer.TheVariants.{Done, Errors, Usage, BadScript, ReadFault, WriteFault, NoMemory}
 
@@ -70,3 +72,10 @@ IsServed Done = Unit {0}
 IsServed (Errors n) = Unit {0}
 IsServed WriteFault = Unit {0}
 IsServed answer = ⊥
+
+-- why no script was read
+abbrev pub FailsReading : Option (List ℕ) → Option (List ℕ) → ℕ → ℕ → Answer → Type 0
+FailsReading before now faults_before faults_now ReadFault = HasRisen faults_before faults_now
+FailsReading before now faults_before faults_now (BadScript refusal) = SaysNone before now
+FailsReading before now faults_before faults_now NoMemory = Unit {0}
+FailsReading before now faults_before faults_now answer = ⊥

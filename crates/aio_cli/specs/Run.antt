@@ -5,8 +5,7 @@ use Rattle.aio_model.specs.declared.scripts.Script.{Script}
 use Rattle.aio_model.specs.Asked.{asked}
 use Rattle.aio_model.specs.SerialHistory.{IsSerialHistory, bytes_left}
 use Rattle.aio_model.specs.PrintedText.{printed_text}
-use Rattle.aio_words.specs.Content.{Takes}
-use Rattle.aio_script.specs.Grammar.{script_of}
+use Rattle.aio_cli.specs.Reading.{Says}
 
 -- The requests of a script were served: the replies are a serial history of them on the opening bytes, the device
 -- has the bytes that they leave, and those past the image are as they were.
@@ -19,10 +18,7 @@ pub record Serves (script : Script) (before now : Option (List ℕ)) (served : L
 -- served, and of their printed text this much was written.
 pub record Runs (left_before left_now bytes_before bytes_now : Option (List ℕ)) (served : List Placed) (Writes : List ℕ → Type 0)
     : Type 0 where
-  pub text : List ℕ
-  pub taken : Takes left_before left_now text
-  pub ended : IfSome left_now (λ left. left ≡ [])
   pub script : Script
-  pub says : script_of text ≡ Some script
+  pub said : Says left_before left_now script
   pub serves : Serves script bytes_before bytes_now served
   pub writes : Writes (printed_text (asked script.lines) served)

@@ -3,8 +3,11 @@
 
 mod answer;
 mod print;
+mod program;
 mod read;
 mod run;
 mod serve;
 
 pub use answer::{Answer, End};
+pub use program::top;
+pub use read::READ_LIMIT;

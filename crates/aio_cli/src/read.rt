@@ -9,7 +9,7 @@ use aio_words::{Failed, Source};
 use std::alloc::{AllocError, Global};
 
 /// One byte more than a script may have.
-pub(crate) const READ_LIMIT: usize = 1048577;
+pub const READ_LIMIT: usize = 1048577;
 
 /// How many bytes one read asks for at most.
 const CHUNK: usize = 4096;

@@ -1,0 +1,137 @@
+ghost use Rattle.std.specs.Prelude.{◌≡◌, ◌≢◌, ◌↔◌, ◌≤◌, [], List, ℕ, length, vec_len, IfOk, IfErr, IfSome, IsSome, None};
+ghost use Rattle.aio_model.specs.SerialHistory.{eios_of};
+ghost use Rattle.aio_words.specs.Content.{with_piece, AppendsFront};
+ghost use Rattle.aio_words.specs.Faults.{HasRisen, HasRisenBy};
+ghost use Rattle.aio_script.specs.Bounds.{IsBounded};
+ghost use Rattle.aio_script.specs.Grammar.{script_of};
+ghost use Rattle.aio_cli.specs.Answers.{FailsReading, IsRefusal, IsWhole, OnBadScript, OnCut, OnUnserved, OnWritten, TellsErrors};
+ghost use Rattle.aio_cli.specs.Reading.{Says, SaysNone, TakesAtMost};
+ghost use Rattle.aio_cli.specs.Run.{Runs};
+
+use crate::read::{READ_LIMIT, ReadFail, read_text};
+use crate::run::{run_script, unserved};
+use crate::{Answer, End};
+use aio_model::Script;
+use aio_script::{ScriptFail, read_script};
+use aio_words::{Clock, Device, Gate, Sink, Source};
+use std::alloc::Global;
+
+/// Reads the script that a source's text says, or tells the answer that stands in its place.
+fn read_all<S: Source>(alloc: Global, source: &mut S) -> Result<Script, Answer>
+    ensures says { IfOk result (λ script. Says (S.left source.old) (S.left source.new) script) }
+    ensures bounded { IfOk result IsBounded }
+    ensures fails { IfErr result (λ answer.
+        FailsReading (S.left source.old) (S.left source.new) (S.faults source.old) (S.faults source.new) answer) }
+    ensures taken { TakesAtMost READ_LIMIT (S.left source.old) (S.left source.new) }
+    ensures counted { S.faults source.old ≤ S.faults source.new }
+{
+    let text = match read_text(alloc, source) {
+        Ok(text) => text,
+        Err(ReadFail::Fault) => return Err(Answer::ReadFault),
+        Err(ReadFail::NoMemory) => return Err(Answer::NoMemory),
+    };
+    match read_script(alloc, text.as_slice()) {
+        Ok(script) => Ok(script),
+        Err(ScriptFail::Refused(refusal)) => Err(Answer::BadScript(refusal)),
+        Err(ScriptFail::NoMemory) => Err(Answer::NoMemory),
+    }
+}
+
+/// What `top` does.
+fn run_words<S: Source, K: Sink, D: Device>(
+    alloc: Global,
+    words: &[String],
+    source: &mut S,
+    sink: &mut K,
+    device: D,
+) -> End<D>
+    requires large { 1048576 ≤ D.extent device }
+    ensures written { OnWritten result.answer
+        (Runs (S.left source.old) (S.left source.new) (D.bytes device) (D.bytes result.device) result.served.items
+        (λ text. K.held sink.new ≡ with_piece text (K.held sink.old))) }
+    ensures cut { OnCut result.answer
+        (Runs (S.left source.old) (S.left source.new) (D.bytes device) (D.bytes result.device) result.served.items
+        (AppendsFront (K.held sink.old) (K.held sink.new))) }
+    ensures unserved { OnUnserved result.answer ((sink.new ≡ sink.old) × (result.device ≡ device) × (result.served.items ≡ [])) }
+    ensures errors { TellsErrors result.answer result.served.items }
+    ensures eios { HasRisenBy (eios_of result.served.items) (D.faults device) (D.faults result.device) }
+    ensures usage { (result.answer ≡ Answer.Usage) ↔ (words.now ≢ []) }
+    ensures usage_source { result.answer ≡ Answer.Usage → source.new ≡ source.old }
+    ensures bad_script { OnBadScript result.answer (SaysNone (S.left source.old) (S.left source.new)) }
+    ensures read_fault { result.answer ≡ Answer.ReadFault → HasRisen (S.faults source.old) (S.faults source.new) }
+    ensures write_fault { result.answer ≡ Answer.WriteFault → HasRisen (K.faults sink.old) (K.faults sink.new) }
+    ensures taken { TakesAtMost READ_LIMIT (S.left source.old) (S.left source.new) }
+    ensures source_counted { S.faults source.old ≤ S.faults source.new }
+    ensures sink_counted { K.faults sink.old ≤ K.faults sink.new }
+    ensures device_counted { D.faults device ≤ D.faults result.device }
+    ensures sizes { D.size_faults result.device ≡ D.size_faults device }
+    ensures extent { D.extent result.device ≡ D.extent device }
+{
+    if !words.is_empty() {
+        return unserved(alloc, Answer::Usage, device);
+    }
+    match read_all(alloc, source) {
+        Ok(script) => run_script(alloc, &script, sink, device),
+        Err(answer) => unserved(alloc, answer, device),
+    }
+}
+
+/// Does all that the program does: reads a script from the source, serves its requests on the device, and writes the
+/// replies to the sink.
+///
+/// The words are those of the command line behind the program's name. The clocks and the gate aren't used yet.
+/// The device comes back at every answer. An answer is looked for in this order: Usage, ReadFault, BadScript,
+/// and once the script was served WriteFault; NoMemory may stand in place of any from the reading to the serving.
+pub fn top<S: Source, K: Sink, D: Device + Send, C: Clock + Send + Drop, G: Gate + Sync>(
+    alloc: Global,
+    words: &[String],
+    source: &mut S,
+    sink: &mut K,
+    device: D,
+    clocks: Vec<C>,
+    gate: &G,
+) -> End<D>
+    requires sixteen { vec_len clocks ≡ 16 }
+    requires large { 1048576 ≤ D.extent device }
+
+    // At Done and Errors all of the printed text was written.
+    ensures written { OnWritten result.answer
+        (Runs (S.left source.old) (S.left source.new) (D.bytes device) (D.bytes result.device) result.served.items
+        (λ text. K.held sink.new ≡ with_piece text (K.held sink.old))) }
+    // At WriteFault a front of it.
+    ensures cut { OnCut result.answer
+        (Runs (S.left source.old) (S.left source.new) (D.bytes device) (D.bytes result.device) result.served.items
+        (AppendsFront (K.held sink.old) (K.held sink.new))) }
+    // At every other answer nothing was served and nothing written.
+    ensures unserved { OnUnserved result.answer ((sink.new ≡ sink.old) × (result.device ≡ device) × (result.served.items ≡ [])) }
+
+    ensures errors { TellsErrors result.answer result.served.items }
+    ensures eios { HasRisenBy (eios_of result.served.items) (D.faults device) (D.faults result.device) }
+
+    // When each answer comes.
+    ensures usage { (result.answer ≡ Answer.Usage) ↔ (words.now ≢ []) }
+    ensures usage_source { result.answer ≡ Answer.Usage → source.new ≡ source.old }
+    ensures bad_script { OnBadScript result.answer (SaysNone (S.left source.old) (S.left source.new)) }
+    ensures read_fault { result.answer ≡ Answer.ReadFault → HasRisen (S.faults source.old) (S.faults source.new) }
+    ensures write_fault { result.answer ≡ Answer.WriteFault → HasRisen (K.faults sink.old) (K.faults sink.new) }
+
+    ensures taken { TakesAtMost READ_LIMIT (S.left source.old) (S.left source.new) }
+    ensures source_counted { S.faults source.old ≤ S.faults source.new }
+    ensures sink_counted { K.faults sink.old ≤ K.faults sink.new }
+    ensures device_counted { D.faults device ≤ D.faults result.device }
+    ensures sizes { D.size_faults result.device ≡ D.size_faults device }
+    ensures extent { D.extent result.device ≡ D.extent device }
+
+    // Where no read failed, a text that says no script is answered so.
+    ensures refused { words.now ≡ [] → (HasRisen (S.faults source.old) (S.faults source.new) → ⊥)
+        → IfSome (S.left source.old) (λ text. script_of text ≡ None → IsRefusal result.answer) }
+
+    // Where nothing failed, a text that says a script is served, and each error is that of a request past the end.
+    ensures complete { words.now ≡ [] → (HasRisen (S.faults source.old) (S.faults source.new) → ⊥)
+        → (HasRisen (K.faults sink.old) (K.faults sink.new) → ⊥) → (HasRisen (D.faults device) (D.faults result.device) → ⊥)
+        → IfSome (S.left source.old) (λ text. IsSome (script_of text) → IsWhole result.answer result.served.items) }
+{
+    drop(clocks);
+    let _ = gate;
+    run_words(alloc, words, source, sink, device)
+}
