@@ -4,6 +4,8 @@
 mod print;
 mod reader;
 mod refusals;
+#[cfg(test)]
+mod tests;
 mod text;
 
 pub use aio_model::{Bytes, Placed, Reply, Request, Script, Step, Steps, Stream, Streams, What};
