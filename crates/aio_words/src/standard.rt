@@ -1,7 +1,8 @@
-// Standard input, output and error: the trusted edge. They tell nothing of the bytes that pass, only how many calls
-// failed, and that is what contracts see of them.
-ghost use Rattle.std.specs.Prelude.{◌≡◌, ◌≤◌, ◌<◌, None, length, take, IfOk, OnErr, OnOk, IfSome};
+// Standard input, output and error: the trusted edge. Sources and sinks over them tell nothing of the bytes that pass,
+// only how many calls failed. Over a stream that tells its bytes, as one in memory may, clauses say what became of them.
+ghost use Rattle.std.specs.Prelude.{◌≡◌, ◌≤◌, ◌<◌, None, length, take, IfOk, IsOkAnd, OnErr, OnOk, IfSome};
 ghost use Rattle.std.specs.Io.{ReadsAtMost};
+ghost use Rattle.std.specs.Io.KnownBytes.{Appends, ReadConsumes};
 ghost use Rattle.aio_words.specs.Calls.{one_more};
 ghost use Rattle.aio_words.specs.Faults.{HasRisen};
 
@@ -23,17 +24,17 @@ pub struct StdSource<R> {
 }
 
 impl<R> Model for StdSource<R> {
-    ghost use Rattle.std.specs.Prelude.{ℕ};
+    ghost use Rattle.aio_words.specs.Over.{Over};
 
-    ghost Value = { ℕ };
+    ghost Value = { Over R };
 
-    ghost view = { λ s. s.faults };
+    ghost view = { λ s. record { stream = s.reader; faults = s.faults } };
 }
 
 impl<R: Read> StdSource<R> {
     /// A source over this reader. Takes no memory.
     pub fn build(reader: R) -> Result<StdSource<R>, NoMemory>
-        ensures { IfOk result (λ source. source ≡ 0) }
+        ensures { IsOkAnd result (λ source. source ≡ record { stream = reader; faults = 0 }) }
     {
         Ok(StdSource { reader, faults: 0 })
     }
@@ -42,16 +43,17 @@ impl<R: Read> StdSource<R> {
 impl<R: Read> Source for StdSource<R> {
     ghost left = { λ _. None };
 
-    ghost faults = { λ s. s };
+    ghost faults = { λ s. s.faults };
 
     fn read(&mut self, buf: &mut [u8]) -> Result<usize, Failed>
-        ensures after { OnOk result (self.new ≡ self.old) }
-        ensures failed { OnErr result (self.new ≡ one_more self.old) }
+        ensures after { OnOk result (self.new.faults ≡ self.old.faults) }
+        ensures failed { OnErr result (self.new.faults ≡ one_more self.old.faults) }
+        ensures bytes { ReadConsumes (R.remaining self.old.stream) (R.remaining self.new.stream) result buf.new }
 
         // What every source promises.
         ensures within { IfOk result (λ n. n ≤ length buf.old) }
-        ensures counted { self.old ≤ self.new }
-        ensures cause { OnErr result (HasRisen self.old self.new) }
+        ensures counted { self.old.faults ≤ self.new.faults }
+        ensures cause { OnErr result (HasRisen self.old.faults self.new.faults) }
     {
         match read_retrying(&mut self.reader, buf) {
             Ok(n) => Ok(n),
@@ -65,12 +67,17 @@ impl<R: Read> Source for StdSource<R> {
 
 /// One read, tried again where a signal interrupts it.
 fn read_retrying<R: Read>(reader: &mut R, buf: &mut [u8]) -> io::Result<usize>
-    ensures { ReadsAtMost result buf.new }
+    ensures within { ReadsAtMost result buf.new }
+    ensures bytes { ReadConsumes (R.remaining reader.old) (R.remaining reader.new) result buf.new }
 {
     for _ in 1..TRIES {
         match reader.read(buf) {
-            Err(error) if error.kind() == ErrorKind::Interrupted => {}
-            done => return done,
+            Ok(n) => return Ok(n),
+            Err(error) => {
+                if error.kind() != ErrorKind::Interrupted {
+                    return Err(error);
+                }
+            }
         }
     }
     reader.read(buf)
@@ -85,17 +92,17 @@ pub struct StdSink<W> {
 }
 
 impl<W> Model for StdSink<W> {
-    ghost use Rattle.std.specs.Prelude.{ℕ};
+    ghost use Rattle.aio_words.specs.Over.{Over};
 
-    ghost Value = { ℕ };
+    ghost Value = { Over W };
 
-    ghost view = { λ s. s.faults };
+    ghost view = { λ s. record { stream = s.writer; faults = s.faults } };
 }
 
 impl StdSink<Stdout> {
     /// Takes no memory.
     pub fn output(stdout: Stdout) -> Result<StdSink<Stdout>, NoMemory>
-        ensures { IfOk result (λ sink. sink ≡ 0) }
+        ensures { IsOkAnd result (λ sink. sink ≡ record { stream = stdout; faults = 0 }) }
     {
         Ok(StdSink {
             writer: stdout,
@@ -107,7 +114,7 @@ impl StdSink<Stdout> {
 impl StdSink<Stderr> {
     /// Takes no memory.
     pub fn errors(stderr: Stderr) -> Result<StdSink<Stderr>, NoMemory>
-        ensures { IfOk result (λ sink. sink ≡ 0) }
+        ensures { IsOkAnd result (λ sink. sink ≡ record { stream = stderr; faults = 0 }) }
     {
         Ok(StdSink {
             writer: stderr,
@@ -119,15 +126,16 @@ impl StdSink<Stderr> {
 impl<W: Write> Sink for StdSink<W> {
     ghost held = { λ _. None };
 
-    ghost faults = { λ s. s };
+    ghost faults = { λ s. s.faults };
 
     fn write(&mut self, piece: &[u8]) -> Result<(), Failed>
-        ensures after { OnOk result (self.new ≡ self.old) }
-        ensures failed { OnErr result (self.new ≡ one_more self.old) }
+        ensures after { OnOk result (self.new.faults ≡ self.old.faults) }
+        ensures failed { OnErr result (self.new.faults ≡ one_more self.old.faults) }
+        ensures bytes { OnOk result (Appends (W.contents self.old.stream) (W.contents self.new.stream) piece.now) }
 
         // What every sink promises.
-        ensures counted { self.old ≤ self.new }
-        ensures cause { OnErr result (HasRisen self.old self.new) }
+        ensures counted { self.old.faults ≤ self.new.faults }
+        ensures cause { OnErr result (HasRisen self.old.faults self.new.faults) }
     {
         match self.writer.write_all(piece) {
             Ok(()) => Ok(()),
