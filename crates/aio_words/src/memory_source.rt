@@ -1,4 +1,4 @@
-ghost use Rattle.std.specs.Prelude.{◌≡◌, ℕ, ◌+◌, ◌-◌, ◌^◌, ◌≤◌, ◌<◌, [], Some, length, take, drop, min, is_err, IfOk, OnErr, OnOk};
+ghost use Rattle.std.specs.Prelude.{◌≡◌, ◌≤◌, ◌<◌, [], Some, length, take, drop, is_err, IfOk, OnErr};
 ghost use Rattle.aio_words.specs.Calls.{is_listed, one_more};
 ghost use Rattle.aio_words.specs.Content.{Takes};
 ghost use Rattle.aio_words.specs.Faults.{HasRisen};

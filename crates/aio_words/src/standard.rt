@@ -1,6 +1,6 @@
 // Standard input, output and error: the trusted edge. Sources and sinks over them tell nothing of the bytes that pass,
 // only how many calls failed. Over a stream that tells its bytes, as one in memory may, clauses say what became of them.
-ghost use Rattle.std.specs.Prelude.{◌≡◌, ◌≤◌, ◌<◌, None, length, take, IfOk, IsOkAnd, OnErr, OnOk, IfSome};
+ghost use Rattle.std.specs.Prelude.{◌≡◌, ◌≤◌, None, length, IfOk, IsOkAnd, OnErr, OnOk};
 ghost use Rattle.std.specs.Io.{ReadsAtMost};
 ghost use Rattle.std.specs.Io.KnownBytes.{Appends, ReadConsumes};
 ghost use Rattle.aio_words.specs.Calls.{one_more};
