@@ -12,7 +12,7 @@ use Rattle.img_requests.specs.declared.present.Stage.{Stage}
 use Rattle.img_requests.specs.declared.present.Stage.TheVariants as stage
 use Rattle.img_requests.specs.Journal.{entry_next}
 use Rattle.img_requests.specs.Pieces.{Pieced, piece_length, done_after, stage_after}
-use Rattle.img_requests.specs.Presents.{present_of, done_of}
+use Rattle.img_requests.specs.Presents.{begun_of, present_of, done_of}
 
 pub record ImageState (D : Type 0) : Type 0 where
   pub device : D
@@ -37,7 +37,7 @@ CanLeave stream (Some present) = (present.stream ≡ stream) × IsEnded present.
 -- What `enter` answers, and what it leaves. A request that reaches past the image's end is refused, and no other.
 abbrev pub Enters : {D : Type 0} → ImageState D → ℕ → Request → Enter → ImageState D → Type 0
 Enters old stream request Begun new =
-    (end_of request ≤ old.size) × (new ≡ record old { present = Some (present_of stream request 0 stage.Begun) })
+    (end_of request ≤ old.size) × (new ≡ record old { present = Some (begun_of stream request) })
 Enters old stream request Queued new = ⊥
 Enters old stream request (Refused place) new =
     (old.size < end_of request)

@@ -27,6 +27,10 @@ present_of stream request done stage =
       stage = stage;
     }
 
+-- the request as it is begun
+abbrev pub begun_of : ℕ → Request → Present
+begun_of stream request = present_of stream request 0 Begun
+
 -- how many bytes of the present request were served
 abbrev pub done_of : Option Present → ℕ
 done_of None = 0
