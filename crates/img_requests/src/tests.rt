@@ -1,4 +1,4 @@
-ghost use Rattle.std.specs.Prelude.{◌≡◌, ◌+◌, ◌<◌, ◌≤◌, ◌^◌, length, slice_index, IfOk, IfSome, Some, None};
+ghost use Rattle.std.specs.Prelude.{◌≡◌, ◌+◌, ◌<◌, ◌≤◌, ◌^◌, length, slice_index, IfOk, IfSome, Some, None, []};
 ghost use Rattle.aio_model.specs.Serving.{length_of, end_of};
 ghost use Rattle.img_requests.specs.Journal.{entries_of};
 ghost use Rattle.img_requests.specs.Pieces.{HasRoom};
@@ -9,7 +9,7 @@ mod disk;
 
 use super::*;
 use crate::tests::disk::{Disk, NEVER};
-use aio_model::{Bytes, Reply, Request};
+use aio_model::{Bytes, Reply, Request, Unmade};
 use aio_words::Device;
 use std::alloc::{AllocError, Global};
 use std::test::Fail;
@@ -119,99 +119,58 @@ fn write_read_flush(rt: HostRuntime) -> Result<(), Fail> {
     Ok(())
 }
 
+/// What came of the only request of an image.
+#[derive(Drop)]
+struct Outcome {
+    pieces: u32,
+    mark: Option<Mark>,
+    disk: Disk,
+}
+
+/// Serves a request alone, one that isn't a read.
+fn alone(alloc: Global, disk: Disk, size: u64, request: &Request) -> Result<Outcome, Unmade<Disk>>
+    requires inside { size ≤ length disk.bytes.items }
+    requires small { length_of request.now < 2 ^ 32 }
+    requires room { HasRoom request.now [] }
+{
+    let mut image = Image::build(alloc, disk, size, &[1])?;
+    let pieces = serve(&mut image, request, &mut []).pieces;
+    let mark = image.journal().first().map(|entry| entry.mark);
+    let disk = image.into_device();
+    Ok(Outcome { pieces, mark, disk })
+}
+
 #[test]
 fn past_the_end_is_einval(rt: HostRuntime) -> Result<(), Fail> {
     let alloc = rt.alloc();
-    let mut found = [7; 8];
-    let disk = Disk::new(bytes_of(alloc, 0, 20)?, NEVER);
-    let mut image = Image::build(alloc, disk, 16, &[5])?;
-    let (inside, past) = (
-        Request::Read { at: 8, len: 8 },
-        Request::Read { at: 9, len: 8 },
-    );
-    assert_eq!(rt;
-        serve(&mut image, &inside, &mut found),
-        Run {
-            pieces: 1,
-            place: 0
-        }
-    );
-    assert_eq!(rt;
-        serve(&mut image, &past, &mut found),
-        Run {
-            pieces: 0,
-            place: 1
-        }
-    );
-    let (inside, past) = (
-        Request::Read { at: 16, len: 0 },
-        Request::Read { at: 17, len: 0 },
-    );
-    assert_eq!(rt;
-        serve(&mut image, &inside, &mut []),
-        Run {
-            pieces: 1,
-            place: 2
-        }
-    );
-    assert_eq!(rt;
-        serve(&mut image, &past, &mut []),
-        Run {
-            pieces: 0,
-            place: 3
-        }
-    );
-    let last = Request::Zero {
-        at: u64::MAX,
-        len: u32::MAX,
-    };
-    assert_eq!(rt;
-        serve(&mut image, &last, &mut []),
-        Run {
-            pieces: 0,
-            place: 4
-        }
-    );
-    let journal = [
-        entry(0, Mark::Got(8)),
-        entry(1, Mark::Einval),
-        entry(2, Mark::Got(0)),
-        entry(3, Mark::Einval),
-        entry(4, Mark::Einval),
-    ];
-    assert_eq!(rt; image.journal(), journal.as_slice());
-    assert_eq!(rt; image.into_device().calls, 1);
+    for (at, len, mark) in [
+        (8, 8, Mark::Zeroed(8)),
+        (9, 8, Mark::Einval),
+        (16, 0, Mark::Zeroed(0)),
+        (17, 0, Mark::Einval),
+        (u64::MAX, u32::MAX, Mark::Einval),
+    ] {
+        let disk = Disk::new(bytes_of(alloc, 0, 20)?, NEVER);
+        let outcome = alone(alloc, disk, 16, &Request::Zero { at, len })?;
+        assert_eq!(rt; outcome.mark, Some(mark), "{len} bytes at {at}");
+    }
     Ok(())
-}
-
-/// How many pieces and device calls zeroing so many bytes takes, and its mark.
-fn zeroed(rt: &HostRuntime, length: u32) -> Result<(u32, u64, bool), Fail>
-    requires { length ≤ 8192 }
-{
-    let alloc = rt.alloc();
-    let disk = Disk::new(bytes_of(alloc, 0xff, 8192)?, NEVER);
-    let mut image = Image::build(alloc, disk, 8192, &[1])?;
-    let zero = Request::Zero { at: 0, len: length };
-    let pieces = serve(&mut image, &zero, &mut []).pieces;
-    let marked = image.journal() == [entry(0, Mark::Zeroed(length))].as_slice();
-    let disk = image.into_device();
-    Ok((pieces, disk.calls, marked))
 }
 
 #[test]
 fn pieces_have_4096_bytes(rt: HostRuntime) -> Result<(), Fail> {
-    for (length, pieces, calls) in [
+    let alloc = rt.alloc();
+    for (len, pieces, calls) in [
         (0, 1, 0),
         (1, 1, 1),
         (4095, 1, 1),
         (4096, 1, 1),
         (4097, 2, 2),
     ] {
-        assert_eq!(rt;
-            zeroed(&rt, length)?,
-            (pieces, calls, true),
-            "{length} bytes"
-        );
+        let disk = Disk::new(bytes_of(alloc, 0xff, 8192)?, NEVER);
+        let outcome = alone(alloc, disk, 8192, &Request::Zero { at: 0, len })?;
+        assert_eq!(rt; outcome.pieces, pieces, "{len} bytes");
+        assert_eq!(rt; outcome.disk.calls, calls, "{len} bytes");
     }
     Ok(())
 }
@@ -221,21 +180,11 @@ fn a_failed_piece_is_eio(rt: HostRuntime) -> Result<(), Fail> {
     let alloc = rt.alloc();
     let bytes = Bytes::of(bytes_of(alloc, 0xff, 5000)?);
     let disk = Disk::new(bytes_of(alloc, 0, 5000)?, 1);
-    let mut image = Image::build(alloc, disk, 5000, &[1])?;
-    let write = Request::Write { at: 0, bytes };
-    assert_eq!(rt;
-        serve(&mut image, &write, &mut []),
-        Run {
-            pieces: 2,
-            place: 0
-        }
-    );
-    assert_eq!(rt; image.journal(), [entry(0, Mark::Eio(4096))].as_slice());
-    let disk = image.into_device();
-    let whole = disk.bytes.as_slice();
+    let outcome = alone(alloc, disk, 5000, &Request::Write { at: 0, bytes })?;
+    assert_eq!(rt; outcome.mark, Some(Mark::Eio(4096)));
+    let whole = outcome.disk.bytes.as_slice();
     assert_eq!(rt; whole.iter().position(|byte| *byte == 0), Some(4096));
     assert_eq!(rt; whole.iter().filter(|byte| **byte == 0xff).count(), 4096);
-    assert_eq!(rt; disk.faults, 1);
     Ok(())
 }
 
@@ -243,16 +192,9 @@ fn a_failed_piece_is_eio(rt: HostRuntime) -> Result<(), Fail> {
 fn a_failed_flush_is_eio_of_nothing(rt: HostRuntime) -> Result<(), Fail> {
     let alloc = rt.alloc();
     let disk = Disk::new(bytes_of(alloc, 0, 1)?, 0);
-    let mut image = Image::build(alloc, disk, 1, &[1])?;
-    assert_eq!(rt;
-        serve(&mut image, &Request::Flush, &mut []),
-        Run {
-            pieces: 1,
-            place: 0
-        }
-    );
-    assert_eq!(rt; image.journal(), [entry(0, Mark::Eio(0))].as_slice());
-    let _disk = image.into_device();
+    let outcome = alone(alloc, disk, 1, &Request::Flush)?;
+    assert_eq!(rt; outcome.mark, Some(Mark::Eio(0)));
+    assert_eq!(rt; outcome.disk.faults, 1);
     Ok(())
 }
 
