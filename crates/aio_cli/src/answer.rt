@@ -24,6 +24,7 @@ pub enum Answer {
 
 /// What a run of the program leaves: how it ended, the device, and the replies in the order of their places. There are
 /// none where nothing was served.
+#[derive(Drop)]
 pub struct End<D> {
     pub answer: Answer,
     pub device: D,

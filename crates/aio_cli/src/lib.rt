@@ -7,6 +7,8 @@ mod program;
 mod read;
 mod run;
 mod serve;
+#[cfg(test)]
+mod tests;
 
 pub use answer::{Answer, End};
 pub use program::top;

@@ -1,5 +1,5 @@
 -- A script that can be read is within the limits.
-use Rattle.std.proofs.Common.{◌≡◌, ℕ, ◌≤◌, Bool, true, false, nat_le, List, [], ◌∷◌, length, cond, Option, Some, None, option_map, option_and_then, refl, sym, ◌∙◌, ap, subst, arith, codes, sum_by}
+use Rattle.std.proofs.Common.{◌≡◌, ℕ, ◌≤◌, Bool, true, false, nat_le, List, [], ◌∷◌, length, cond, Option, Some, None, option_map, option_and_then, refl, sym, ◌∙◌, ap, subst, arith, codes, sum_by, Result, Ok, Err, IfOk}
 use Rattle.std.specs.List.{AllByRecursion}
 use Rattle.std.proofs.lemmas.Option.{none-some, same_Some}
 use Rattle.std.proofs.lemmas.Bool.{leb-true, and_parts, false≢true}
@@ -11,6 +11,8 @@ use Rattle.aio_model.specs.Serving.{length_of}
 use Rattle.aio_script.specs.Text.{is, significant_lines, words_of, number_of, number_within, bounded, data_of}
 use Rattle.aio_script.specs.Grammar.{is_short, image_of, image_of_words, read_of, write_of, bounded_data, request_of, ask_of, step_of, step_of_words, steps_of, bytes_moved, bounded_steps, script_with, script_of_lines, script_of}
 use Rattle.aio_script.specs.Bounds.{IsOfFirst, IsBounded}
+use Rattle.aio_script.specs.Reading.{GivesScript}
+use Rattle.aio_script.specs.declared.refusals.ScriptFail.{ScriptFail}
 
 -- what a test let through
 chosen : {A : Type 0} (b : Bool) (o : Option A) (y : A) → cond b o None ≡ Some y → (b ≡ true) × (o ≡ Some y)
@@ -89,7 +91,7 @@ steps_of-own (line ∷ lines) steps e =
     let first = followed (λ step. option_map (λ rest. step ∷ rest) (steps_of lines)) (step_of line) steps e in
     let others = mapped (λ rest. first.0 ∷ rest) (steps_of lines) steps first.2 in
     let all : AllByRecursion IsOfFirst (first.0 ∷ others.0) =
-      (step_of_words-own (words_of line) first.0 first.1, steps_of-own lines others.0 others.1) in
+    (step_of_words-own (words_of line) first.0 first.1, steps_of-own lines others.0 others.1) in
     subst (AllByRecursion IsOfFirst) others.2 all
 
 script_with-bounded : (size : ℕ) (lines : List (List ℕ)) (script : Script)
@@ -117,7 +119,12 @@ script_of_lines-bounded (image ∷ loops ∷ stream ∷ lines) script e =
     let sized = followed (λ size. option_map (script_with size) (option_and_then bounded_steps (steps_of lines))) (image_of image) script passed.1 in
     script_with-bounded sized.0 lines script (image_of_words-le (words_of image) sized.0 sized.1) sized.2
 
-pub script_of-bounded : (text : List ℕ) (script : Script) → script_of text ≡ Some script → (length text ≤ 1048576) × IsBounded script
+script_of-bounded : (text : List ℕ) (script : Script) → script_of text ≡ Some script → (length text ≤ 1048576) × IsBounded script
 script_of-bounded text script e =
     let short = chosen (is_short text) (script_of_lines (significant_lines text)) script e in
     (leb-true (length text) 1048576 short.0, script_of_lines-bounded (significant_lines text) script short.1)
+
+-- what a call gives that gives what the grammar says
+pub bounded_from_gives : (text : List ℕ) (result : Result Script ScriptFail) → GivesScript (script_of text) result → IfOk result IsBounded
+bounded_from_gives text (Ok script) said = (script_of-bounded text script said).1
+bounded_from_gives text (Err fail) said = tt

@@ -1,5 +1,6 @@
 //! Text to script. Each function reads one form of the grammar, and answers what the definition of that form says.
-ghost use Rattle.std.specs.Prelude.{◌≡◌, ◌∷◌, [], ◌≤◌, length, Option, option_and_then, option_map, MatchOption, None};
+ghost use Rattle.std.specs.Prelude.{◌≡◌, ◌∷◌, [], ◌≤◌, length, Option, option_and_then, option_map, MatchOption, None, IfOk};
+ghost use Rattle.aio_script.specs.Bounds.{IsBounded};
 ghost use Rattle.aio_script.specs.Grammar.{bounded_data, bounded_steps, bytes_moved, image_of, read_of, request_of, script_of, script_of_lines, script_with, step_of, steps_of, write_of};
 ghost use Rattle.aio_script.specs.Reading.{Gives, GivesScript};
 ghost use Rattle.aio_script.specs.Text.{data_of, significant_lines, words_of};
@@ -24,6 +25,14 @@ const UNBUILT: ScriptFail = ScriptFail::Refused(ScriptRefusal::Unbuilt);
 
 /// The script that a text says. Takes memory for its lines and their data.
 pub fn read_script(alloc: Global, text: &[u8]) -> Result<Script, ScriptFail>
+    requires { length text.now ≤ 4294967295 }
+    ensures gives { GivesScript (script_of text.now) result }
+    ensures bounded { IfOk result IsBounded }
+{
+    read_text(alloc, text)
+}
+
+fn read_text(alloc: Global, text: &[u8]) -> Result<Script, ScriptFail>
     requires { length text.now ≤ 4294967295 }
     ensures { GivesScript (script_of text.now) result }
 {

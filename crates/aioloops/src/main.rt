@@ -1,0 +1,70 @@
+//! Serves a script of reads, writes and flushes on an image of zeros in memory.
+#![tactic(auto)]
+
+ghost use Rattle.std.specs.Prelude.{◌≡◌, length, vec_len, IfOk};
+
+use aio_cli::top;
+use aio_words::{MemDevice, NoMemory, OpenGate, StdSink, StdSource, StepClock};
+use std::alloc::Global;
+use std::io::ErrorKind;
+use std::process::ExitCode;
+use std::{env, io};
+
+/// How many bytes the device has.
+const DEVICE: u32 = 1_048_576;
+
+/// The exit status where the words of the command line can't be read.
+const USAGE: u8 = 2;
+
+/// The exit status where memory runs out before a script is read.
+const NO_MEMORY: u8 = 8;
+
+fn main(rt: HostRuntime) -> ExitCode {
+    let status = match words(&rt) {
+        Ok(words) => run(&rt, words.as_slice()).unwrap_or(NO_MEMORY),
+        Err(error) => match error.kind() {
+            ErrorKind::OutOfMemory => NO_MEMORY,
+            _ => USAGE,
+        },
+    };
+    ExitCode::from(status)
+}
+
+/// The words of the command line behind the program's name.
+fn words(rt: &HostRuntime) -> io::Result<Vec<String>> {
+    Ok(env::args(rt)?.skip(1).collect(rt.alloc())?)
+}
+
+/// Runs the program, and answers its exit status.
+fn run(rt: &HostRuntime, words: &[String]) -> Result<u8, NoMemory> {
+    let alloc = rt.alloc();
+    let mut source = StdSource::build(rt.stdin())?;
+    let mut sink = StdSink::output(rt.stdout())?;
+    let device = zeros(alloc, DEVICE)?;
+    let clocks = clocks(alloc)?;
+    let end = top(
+        alloc,
+        words,
+        &mut source,
+        &mut sink,
+        device,
+        clocks,
+        &OpenGate,
+    );
+    Ok(end.status())
+}
+
+fn zeros(alloc: Global, len: u32) -> Result<MemDevice, NoMemory>
+    ensures { IfOk result (λ device. length device.bytes ≡ len) }
+{
+    MemDevice::zeros(alloc, len)
+}
+
+fn clocks(alloc: Global) -> Result<Vec<StepClock>, NoMemory>
+    ensures { IfOk result (λ clocks. vec_len clocks ≡ 16) }
+{
+    match vec![in alloc; StepClock { now: 0 }; 16] {
+        Ok(clocks) => Ok(clocks),
+        Err(_) => Err(NoMemory),
+    }
+}
