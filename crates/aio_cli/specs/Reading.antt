@@ -3,7 +3,10 @@ use Rattle.std.specs.Prelude.{◌≡◌, ◌⊎◌, ℕ, ◌≤◌, List, [], le
 use Rattle.aio_model.specs.declared.scripts.Script.{Script}
 use Rattle.aio_words.specs.Content.{Takes}
 use Rattle.aio_script.specs.Grammar.{script_of}
-use Rattle.aio_cli.specs.declared.read.TheConstants.{READ_LIMIT}
+
+-- how much is read at most: one byte more than a script may have
+abbrev pub most_read : ℕ
+most_read = 1048577
 
 -- at most so many bytes were taken from the source: one more than a script may have
 pub record TakesAtMost (limit : ℕ) (before now : Option (List ℕ)) : Type 0 where
@@ -27,5 +30,5 @@ pub record Says (before now : Option (List ℕ)) (script : Script) : Type 0 wher
 -- the text that was read says none
 pub record SaysNone (before now : Option (List ℕ)) : Type 0 where
   pub text : List ℕ
-  pub read : IsRead READ_LIMIT before now text
+  pub read : IsRead most_read before now text
   pub says : script_of text ≡ None

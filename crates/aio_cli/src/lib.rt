@@ -12,4 +12,3 @@ mod tests;
 
 pub use answer::{Answer, End};
 pub use program::top;
-pub use read::READ_LIMIT;

@@ -5,10 +5,10 @@ ghost use Rattle.aio_words.specs.Faults.{HasRisen, HasRisenBy};
 ghost use Rattle.aio_script.specs.Bounds.{IsBounded};
 ghost use Rattle.aio_script.specs.Grammar.{script_of};
 ghost use Rattle.aio_cli.specs.Answers.{FailsReading, IsRefusal, IsWhole, OnBadScript, OnCut, OnUnserved, OnWritten, TellsErrors};
-ghost use Rattle.aio_cli.specs.Reading.{Says, SaysNone, TakesAtMost};
+ghost use Rattle.aio_cli.specs.Reading.{Says, SaysNone, TakesAtMost, most_read};
 ghost use Rattle.aio_cli.specs.Run.{Runs};
 
-use crate::read::{READ_LIMIT, ReadFail, read_text};
+use crate::read::{ReadFail, read_text};
 use crate::run::{run_script, unserved};
 use crate::{Answer, End};
 use aio_model::Script;
@@ -22,7 +22,7 @@ fn read_all<S: Source>(alloc: Global, source: &mut S) -> Result<Script, Answer>
     ensures bounded { IfOk result IsBounded }
     ensures fails { IfErr result (λ answer.
         FailsReading (S.left source.old) (S.left source.new) (S.faults source.old) (S.faults source.new) answer) }
-    ensures taken { TakesAtMost READ_LIMIT (S.left source.old) (S.left source.new) }
+    ensures taken { TakesAtMost most_read (S.left source.old) (S.left source.new) }
     ensures counted { S.faults source.old ≤ S.faults source.new }
 {
     let text = match read_text(alloc, source) {
@@ -60,7 +60,7 @@ fn run_words<S: Source, K: Sink, D: Device>(
     ensures bad_script { OnBadScript result.answer (SaysNone (S.left source.old) (S.left source.new)) }
     ensures read_fault { result.answer ≡ Answer.ReadFault → HasRisen (S.faults source.old) (S.faults source.new) }
     ensures write_fault { result.answer ≡ Answer.WriteFault → HasRisen (K.faults sink.old) (K.faults sink.new) }
-    ensures taken { TakesAtMost READ_LIMIT (S.left source.old) (S.left source.new) }
+    ensures taken { TakesAtMost most_read (S.left source.old) (S.left source.new) }
     ensures source_counted { S.faults source.old ≤ S.faults source.new }
     ensures sink_counted { K.faults sink.old ≤ K.faults sink.new }
     ensures device_counted { D.faults device ≤ D.faults result.device }
@@ -115,7 +115,7 @@ pub fn top<S: Source, K: Sink, D: Device + Send, C: Clock + Send + Drop, G: Gate
     ensures read_fault { result.answer ≡ Answer.ReadFault → HasRisen (S.faults source.old) (S.faults source.new) }
     ensures write_fault { result.answer ≡ Answer.WriteFault → HasRisen (K.faults sink.old) (K.faults sink.new) }
 
-    ensures taken { TakesAtMost READ_LIMIT (S.left source.old) (S.left source.new) }
+    ensures taken { TakesAtMost most_read (S.left source.old) (S.left source.new) }
     ensures source_counted { S.faults source.old ≤ S.faults source.new }
     ensures sink_counted { K.faults sink.old ≤ K.faults sink.new }
     ensures device_counted { D.faults device ≤ D.faults result.device }

@@ -1,15 +1,14 @@
 ghost use Rattle.std.specs.Prelude.{◌≡◌, ◌≤◌, ◌<◌, [], length, take, IfOk, IfErr, OnErr, IfSome, IsErrOf};
 ghost use Rattle.aio_words.specs.Content.{Takes};
 ghost use Rattle.aio_words.specs.Faults.{HasRisen};
-ghost use Rattle.aio_cli.specs.Reading.{IsRead, TakesAtMost};
-ghost use Rattle.aio_cli.specs.declared.read.TheConstants.{READ_LIMIT};
+ghost use Rattle.aio_cli.specs.Reading.{IsRead, TakesAtMost, most_read};
 ghost use Rattle.aio_cli.specs.declared.read.ReadFail.TheVariants.{NoMemory};
 
 use aio_words::{Failed, Source};
 use std::alloc::{AllocError, Global};
 
 /// One byte more than a script may have.
-pub const READ_LIMIT: usize = 1048577;
+const READ_LIMIT: usize = 1048577;
 
 /// How many bytes one read asks for at most.
 const CHUNK: usize = 4096;
@@ -49,8 +48,8 @@ fn read_piece<S: Source>(source: &mut S, chunk: &mut [u8], room: usize) -> Resul
 
 /// Reads all that the source has left, but stops once more was read than a script may have.
 pub(crate) fn read_text<S: Source>(alloc: Global, source: &mut S) -> Result<Vec<u8>, ReadFail>
-    ensures read { IfOk result (λ text. IsRead READ_LIMIT (S.left source.old) (S.left source.new) text.items) }
-    ensures few { TakesAtMost READ_LIMIT (S.left source.old) (S.left source.new) }
+    ensures read { IfOk result (λ text. IsRead most_read (S.left source.old) (S.left source.new) text.items) }
+    ensures few { TakesAtMost most_read (S.left source.old) (S.left source.new) }
     ensures counted { S.faults source.old ≤ S.faults source.new }
     ensures cause { IsErrOf result ReadFail.Fault → HasRisen (S.faults source.old) (S.faults source.new) }
 {

@@ -10,10 +10,10 @@ use std::test::Fail;
 
 const FIRST: &[u8] = b"image 16\nloops 1\nstream 0 0\n0 write 2 6869\n0 read 0 6\n0 flush";
 
-const FIRST_REPLIES: &[u8] =
-    b"0 0 write ok 2\n1 0 read ok 000068690000\n2 0 flush ok\nend 3 0\n";
+const FIRST_REPLIES: &[u8] = b"0 0 write ok 2\n1 0 read ok 000068690000\n2 0 flush ok\nend 3 0\n";
 
 /// What is seen of a run.
+#[derive(Drop)]
 struct Seen {
     answer: Answer,
     status: u8,
@@ -123,11 +123,7 @@ fn past_the_end_is_einval(rt: HostRuntime) -> Result<(), Fail> {
     for (lines, replies, errors) in cases {
         let mut text = Vec::from_slice(alloc, b"image 16\nloops 1\nstream 0 0\n")?;
         text.extend_from_slice(lines.as_bytes())?;
-        let seen = serve(
-            alloc,
-            text.as_slice(),
-            device(alloc, 0, 1_048_576, &[])?,
-        )?;
+        let seen = serve(alloc, text.as_slice(), device(alloc, 0, 1_048_576, &[])?)?;
         let answer = if errors == 0 {
             Answer::Done
         } else {
@@ -146,11 +142,7 @@ fn requests_of_one_piece_and_of_two(rt: HostRuntime) -> Result<(), Fail> {
         let bytes = data(alloc, n)?;
         let lines = format!(in alloc; "0 write 5 {bytes}\n0 read 5 {n}\n")?;
         let text = script(alloc, lines.as_str())?;
-        let seen = serve(
-            alloc,
-            text.as_slice(),
-            device(alloc, 0, 1_048_576, &[])?,
-        )?;
+        let seen = serve(alloc, text.as_slice(), device(alloc, 0, 1_048_576, &[])?)?;
         let replies = format!(in alloc; "0 0 write ok {n}\n1 0 read ok {bytes}\nend 2 0\n")?;
         assert_eq!(rt; seen.printed.as_slice(), replies.as_bytes(), "at {n}");
         let written = seen.device.iter().filter(|b| **b == 255).count();
@@ -166,11 +158,7 @@ fn a_failed_piece_keeps_those_before_it(rt: HostRuntime) -> Result<(), Fail> {
     let lines = format!(in alloc; "0 write 0 {bytes}\n")?;
     let text = script(alloc, lines.as_str())?;
     for k in 0u32..3 {
-        let seen = serve(
-            alloc,
-            text.as_slice(),
-            device(alloc, 0, 1_048_576, &[k])?,
-        )?;
+        let seen = serve(alloc, text.as_slice(), device(alloc, 0, 1_048_576, &[k])?)?;
         let good = 4096 * k;
         let replies = format!(in alloc; "0 0 write eio {good}\nend 1 1\n")?;
         assert_eq!(rt; seen.answer, Answer::Errors(1));
@@ -275,18 +263,10 @@ fn a_text_may_have_1048576_bytes(rt: HostRuntime) -> Result<(), Fail> {
     while text.len() < 1_048_576 {
         text.push(b'x')?;
     }
-    let seen = serve(
-        alloc,
-        text.as_slice(),
-        device(alloc, 0, 1_048_576, &[])?,
-    )?;
+    let seen = serve(alloc, text.as_slice(), device(alloc, 0, 1_048_576, &[])?)?;
     assert_eq!(rt; seen.answer, Answer::Done);
     text.push(b'x')?;
-    let seen = serve(
-        alloc,
-        text.as_slice(),
-        device(alloc, 0, 1_048_576, &[])?,
-    )?;
+    let seen = serve(alloc, text.as_slice(), device(alloc, 0, 1_048_576, &[])?)?;
     assert_eq!(rt; seen.answer, Answer::BadScript(ScriptRefusal::Unbuilt));
     assert_eq!(rt; seen.status, 3);
     assert!(rt; seen.printed.is_empty());

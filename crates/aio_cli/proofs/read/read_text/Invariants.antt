@@ -1,14 +1,14 @@
 use Rattle.std.proofs.Common.{◌≡◌, ◌≤◌, ℕ, length, ◌-◌}
 use Rattle.aio_words.specs.Content.{Takes}
-use Rattle.aio_cli.specs.declared.read.TheConstants.{READ_LIMIT}
+use Rattle.aio_cli.specs.Reading.{most_read}
 use Rattle.aio_cli.proofs.read.read_text.Given as goal
 
 abbrev pub invariant-loop-chunk : goal.invariant-loop-chunk
 invariant-loop-chunk g l =
     Takes (g.S.Source.left l.fn.source) (g.S.Source.left l.source) l.text.items
-    × (length l.text.items ≤ READ_LIMIT)
+    × (length l.text.items ≤ most_read)
     × (g.S.Source.faults l.fn.source ≤ g.S.Source.faults l.source)
     × (length l.chunk ≡ 4096)
 
 abbrev pub decreases-loop-chunk : goal.decreases-loop-chunk
-decreases-loop-chunk g l = READ_LIMIT - length l.text.items
+decreases-loop-chunk g l = most_read - length l.text.items
