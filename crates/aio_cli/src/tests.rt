@@ -260,7 +260,7 @@ fn a_text_may_have_1048576_bytes(rt: HostRuntime) -> Result<(), Fail> {
     let alloc = rt.alloc();
     let mut text = Vec::from_slice(alloc, FIRST)?;
     text.extend_from_slice(b"\n#")?;
-    while text.len() < 1_048_576 {
+    for _ in text.len()..1_048_576 {
         text.push(b'x')?;
     }
     let seen = serve(alloc, text.as_slice(), device(alloc, 0, 1_048_576, &[])?)?;

@@ -1,10 +1,10 @@
 -- A script that can be read is within the limits.
-use Rattle.std.proofs.Common.{◌≡◌, ℕ, ◌≤◌, Bool, true, false, nat_le, List, [], ◌∷◌, length, cond, Option, Some, None, option_map, option_and_then, refl, sym, ◌∙◌, ap, subst, arith, codes, sum_by, Result, Ok, Err, IfOk}
+use Rattle.std.proofs.Common.{◌≡◌, ℕ, ◌≤◌, Bool, true, false, nat_le, List, [], ◌∷◌, length, cond, Option, Some, None, option_map, option_and_then, refl, ◌∙◌, ap, subst, arith, codes, sum_by, Result, Ok, Err, IfOk}
 use Rattle.std.specs.List.{AllByRecursion}
 use Rattle.std.proofs.lemmas.Option.{none-some, same_Some}
-use Rattle.std.proofs.lemmas.Bool.{leb-true, and_parts, false≢true}
+use Rattle.std.proofs.lemmas.Bool.{leb-true, and_parts}
 use Rattle.aio_model.specs.declared.requests.Request.{Request}
-use Rattle.aio_model.specs.declared.requests.Request.TheVariants.{Read, Write, Zero, Flush}
+use Rattle.aio_model.specs.declared.requests.Request.TheVariants.{Read, Write, Flush}
 use Rattle.aio_model.specs.declared.scripts.Step.{Step}
 use Rattle.aio_model.specs.declared.scripts.Script.{Script}
 use Rattle.aio_model.specs.Serving.{length_of}

@@ -1,5 +1,5 @@
 -- What holds of each script that can be read so far.
-use Rattle.std.specs.Prelude.{◌≡◌, ℕ, ◌≤◌, length, sum_by}
+use Rattle.std.specs.Prelude.{◌≡◌, ◌≤◌, length, sum_by}
 use Rattle.std.specs.List.{AllByRecursion}
 use Rattle.aio_model.specs.declared.scripts.Step.{Step}
 use Rattle.aio_model.specs.declared.scripts.What.{What}
