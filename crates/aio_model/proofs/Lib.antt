@@ -3,3 +3,6 @@ pub mod Along
 pub mod InOrder
 pub mod Names
 pub mod PutAt
+pub mod FlagsWords
+pub mod Indices
+pub mod AnnouncedOnce

@@ -2,3 +2,9 @@ pub mod Asked
 pub mod PrintedText
 pub mod SerialHistory
 pub mod Serving
+pub mod FlagsWord
+pub mod LoopHistory
+pub mod LoopFlags
+pub mod LoopLists
+pub mod LoopLegal
+pub mod LoopLaws
