@@ -1,8 +1,8 @@
 -- In a legal history what is pending stands once among the announced, the stack and out.
-use Rattle.std.proofs.Common.{◌≡◌, ◌≢◌, ℕ, suc, ◌+◌, ◌<◌, ◌≤◌, Bool, true, false, not, ◌&&◌, ◌||◌, eqb, ltb, List, [], ◌∷◌, ◌++◌, length, drop, length-append, Option, Some, None, refl, sym, ap, ◌∙◌, arith}
+use Rattle.std.proofs.Common.{◌≡◌, ℕ, ◌+◌, ◌<◌, ◌≤◌, Bool, true, false, not, ◌&&◌, ◌||◌, eqb, ltb, [], ◌∷◌, ◌++◌, length, length-append, Some, refl, arith}
 use Rattle.std.proofs.lemmas.Bool.{eq-eqb, lt-ltb}
 use Rattle.aio_model.specs.FlagsWord.{bit}
-use Rattle.aio_model.specs.LoopHistory.{Sizes, Asked, ToCall, ToCallIdle, ToDelete, ToCallOnce, Entry, New, Enqueue, Put, Cancel, Take, Dequeue, Free, SetEvent, ClearEvent, History}
+use Rattle.aio_model.specs.LoopHistory.{Sizes, Asked, ToCall, ToCallIdle, ToDelete, ToCallOnce, New, Enqueue, Put, Cancel, Take, Dequeue, Free, SetEvent, ClearEvent, History}
 use Rattle.aio_model.specs.LoopFlags.{has_life, lives, is_lot, was_dequeued, is_pending}
 use Rattle.aio_model.specs.LoopLists.{was_put, is_announced, claimer_of, stack_of, taken_of, dequeue_count, out_of, head_of}
 use Rattle.aio_model.specs.LoopLegal.{MayFollow, MayAsk, IsLegal}
@@ -72,7 +72,7 @@ dead-idle false false q true lot dead k = absurd (let e : false ≡ true = k ref
 dead-idle false false q false lot dead k = refl
 
 module _ (sizes : Sizes) where
-  lot_is_no_handle : (i : ℕ) → is_lot sizes i ≡ true → i < sizes.handles → ⊥
+  pub lot_is_no_handle : (i : ℕ) → is_lot sizes i ≡ true → i < sizes.handles → ⊥
   lot_is_no_handle i lot below =
       let e : ltb i sizes.handles ≡ true = lt-ltb i sizes.handles below in
       let no_lot : false ≡ true = rw e at lot in
@@ -97,7 +97,7 @@ module _ (sizes : Sizes) where
         enqueued = rw e (λ _. refl);
         alive = rw e (λ _. h.0);
         fresh = rw e (λ t q. absurd cc);
-        done = rw e (λ lot d. absurd (let n = lot_not_dequeued i P asked s f h.2 lot in cc))
+        done = rw e (λ lot d. absurd (let n = lot_not_dequeued i P asked s f h.2 lot in cc));
       }
 
   enqueue_other : (P : History) (i j : ℕ) (asked : Asked) (s : ℕ) (was : _) → Fits sizes i P → eqb i j ≡ false → Fits sizes i (Enqueue j asked s was ∷ P)
@@ -107,7 +107,7 @@ module _ (sizes : Sizes) where
         enqueued = rw e f.enqueued;
         alive = rw e f.alive;
         fresh = rw e f.fresh;
-        done = rw e f.done
+        done = rw e f.done;
       }
 
   put_same : (P : History) (i s : ℕ) → Fits sizes i P → MayFollow sizes (Put i s) P → Fits sizes i (Put i s ∷ P)
@@ -118,7 +118,7 @@ module _ (sizes : Sizes) where
         enqueued = rw e (λ _. put_is_pending (is_pending i P) (was_put i P) h.0);
         alive = f.alive;
         fresh = f.fresh;
-        done = f.done
+        done = f.done;
       }
 
   put_other : (P : History) (i j s : ℕ) → Fits sizes i P → eqb i j ≡ false → Fits sizes i (Put j s ∷ P)
@@ -128,7 +128,7 @@ module _ (sizes : Sizes) where
         enqueued = rw e f.enqueued;
         alive = f.alive;
         fresh = f.fresh;
-        done = f.done
+        done = f.done;
       }
 
   take_any : (P : History) (i : ℕ) → IsLegal sizes P → Fits sizes i P → Fits sizes i (Take ∷ P)
@@ -138,7 +138,7 @@ module _ (sizes : Sizes) where
         enqueued = f.enqueued;
         alive = f.alive;
         fresh = f.fresh;
-        done = f.done
+        done = f.done;
       }
 
   dequeue_same : (P : History) (i : ℕ) (ran : Bool) → Fits sizes i P → MayFollow sizes (Dequeue i ran) P → Fits sizes i (Dequeue i ran ∷ P)
@@ -151,8 +151,15 @@ module _ (sizes : Sizes) where
         enqueued = rw e (λ q. absurd cc);
         alive = rw e (λ q. absurd cc);
         fresh = λ s q. absurd (let idle = (f.fresh s q).0 in cc (was.0));
-        done = rw e (λ _ _. refl)
+        done = rw e (λ _ _. refl);
       }
+
+  -- what is the first of out is pending
+  pub head_is_pending : (P : History) (i : ℕ) (ran : Bool) → Fits sizes i P → head_of (out_of P) ≡ Some i → is_pending i P ≡ true
+  head_is_pending P i ran f first =
+      let e : eqb i i ≡ true = eq-eqb i i refl in
+      let count : times_of i (out_of P) ≡ 1 + times_of i (out_of (Dequeue i ran ∷ P)) = rw (out_of-dequeue P i ran first, e) refl in
+      (out_is_pending (is_pending i P) (was_put i P) (times_of i (stack_of P)) (times_of i (out_of P)) (times_of i (out_of (Dequeue i ran ∷ P))) f.once count).0
 
   dequeue_other : (P : History) (i j : ℕ) (ran : Bool) → Fits sizes i P → MayFollow sizes (Dequeue j ran) P → eqb i j ≡ false → Fits sizes i (Dequeue j ran ∷ P)
   dequeue_other P i j ran f h e =
@@ -162,7 +169,7 @@ module _ (sizes : Sizes) where
         enqueued = rw e f.enqueued;
         alive = rw e f.alive;
         fresh = rw e f.fresh;
-        done = rw e f.done
+        done = rw e f.done;
       }
 
   -- a life of a lot begins or ends where it is not pending
@@ -178,7 +185,7 @@ module _ (sizes : Sizes) where
         enqueued = rw e (λ q. absurd cc);
         alive = rw e (λ q. absurd cc);
         fresh = rw e (λ _ _. (refl, refl));
-        done = rw e (λ _ _. refl)
+        done = rw e (λ _ _. refl);
       }
 
   new_other : (P : History) (i j s job : ℕ) → Fits sizes i P → eqb i j ≡ false → Fits sizes i (New j s job ∷ P)
@@ -188,7 +195,7 @@ module _ (sizes : Sizes) where
         enqueued = rw e f.enqueued;
         alive = rw e f.alive;
         fresh = rw e f.fresh;
-        done = rw e f.done
+        done = rw e f.done;
       }
 
   free_same : (P : History) (i : ℕ) → Fits sizes i P → MayFollow sizes (Free i) P → Fits sizes i (Free i ∷ P)
@@ -200,7 +207,7 @@ module _ (sizes : Sizes) where
         enqueued = rw e (λ q. absurd cc);
         alive = rw e (λ q. absurd cc);
         fresh = rw e (λ t q. absurd cc);
-        done = rw e (λ _ _. refl)
+        done = rw e (λ _ _. refl);
       }
 
   free_other : (P : History) (i j : ℕ) → Fits sizes i P → eqb i j ≡ false → Fits sizes i (Free j ∷ P)
@@ -210,7 +217,7 @@ module _ (sizes : Sizes) where
         enqueued = rw e f.enqueued;
         alive = rw e f.alive;
         fresh = rw e f.fresh;
-        done = rw e f.done
+        done = rw e f.done;
       }
 
 pub fits : (sizes : Sizes) (history : History) (i : ℕ) → IsLegal sizes history → Fits sizes i history

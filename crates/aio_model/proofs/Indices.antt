@@ -1,7 +1,6 @@
 -- Lists of indices: how often one stands there, the first, and what is left after some.
-use Rattle.std.proofs.Common.{◌≡◌, ℕ, zero, suc, ◌+◌, ◌<◌, ◌≤◌, Bool, true, false, eqb, List, [], ◌∷◌, ◌++◌, length, drop, Option, Some, None, refl, sym, ap, ◌∙◌, subst, inl, inr, arith}
+use Rattle.std.proofs.Common.{◌≡◌, ◌≢◌, ℕ, zero, suc, ◌+◌, ◌<◌, false, eqb, List, [], ◌∷◌, ◌++◌, length, drop, Some, sym, subst, inl, inr, arith}
 use Rattle.std.proofs.lemmas.Bool.{cases_eq, ne_eqb}
-use Rattle.aio_model.specs.FlagsWord.{bit}
 use Rattle.aio_model.specs.LoopLists.{head_of}
 use Rattle.aio_model.specs.LoopLaws.{times_of}
 
@@ -9,6 +8,11 @@ use Rattle.aio_model.specs.LoopLaws.{times_of}
 pub by_index : (i j : ℕ) (Q : ℕ → Type 0) → Q i → (eqb i j ≡ false → Q j) → Q j
 by_index i j Q same other =
     elim (cases_eq i j) [ inl e ↦ subst Q e same | inr ne ↦ other (ne_eqb i j ne) ]
+
+-- the same, where it is the other that is compared
+pub by_query : (i j : ℕ) (Q : ℕ → Type 0) → Q i → (j ≢ i → eqb j i ≡ false → Q j) → Q j
+by_query i j Q same other =
+    elim (cases_eq j i) [ inl e ↦ subst Q (sym e) same | inr ne ↦ other ne (ne_eqb j i ne) ]
 
 pub times_of-append : (i : ℕ) (xs ys : List ℕ) → times_of i (xs ++ ys) ≡ times_of i xs + times_of i ys
 times_of-append i [] ys = omega arith

@@ -5,4 +5,10 @@ pub mod Names
 pub mod PutAt
 pub mod FlagsWords
 pub mod Indices
+pub mod Searches
 pub mod AnnouncedOnce
+pub mod LoopKept
+pub mod LoopFollows
+pub mod Lifeless
+pub mod OnceFollows
+pub mod CommitFollows

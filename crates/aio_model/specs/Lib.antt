@@ -8,3 +8,7 @@ pub mod LoopFlags
 pub mod LoopLists
 pub mod LoopLegal
 pub mod LoopLaws
+pub mod LoopLog
+pub mod LoopState
+pub mod LoopSteps
+pub mod LoopInside

@@ -1,7 +1,7 @@
 -- Lives and rounds, and the flags of an index.
-use Rattle.std.specs.Prelude.{ℕ, ◌+◌, Bool, true, false, not, ◌&&◌, ◌||◌, ◌==◌, nat_lt, if◌then◌else◌, Option, None, Some, List, [], ◌∷◌}
+use Rattle.std.specs.Prelude.{ℕ, ◌+◌, Bool, true, false, not, ◌&&◌, ◌||◌, ◌==◌, nat_lt, if◌then◌else◌, [], ◌∷◌}
 use Rattle.aio_model.specs.declared.flags.Flags.{Flags}
-use Rattle.aio_model.specs.LoopHistory.{Asked, ToCall, ToCallIdle, ToDelete, ToCallOnce, Entry, New, Enqueue, Put, Cancel, Take, Dequeue, Free, SetEvent, ClearEvent, History, Sizes}
+use Rattle.aio_model.specs.LoopHistory.{Asked, ToCallIdle, ToDelete, ToCallOnce, Entry, New, Enqueue, Put, Cancel, Dequeue, Free, History, Sizes}
 
 -- What one entry does to an index.
 

@@ -1,7 +1,7 @@
 -- The laws of legal histories.
-use Rattle.std.specs.Prelude.{◌≡◌, ℕ, ◌+◌, Bool, true, false, ◌==◌, List, [], ◌∷◌, ◌++◌}
+use Rattle.std.specs.Prelude.{◌≡◌, ℕ, ◌+◌, ◌==◌, List, [], ◌∷◌}
 use Rattle.aio_model.specs.FlagsWord.{bit}
-use Rattle.aio_model.specs.LoopHistory.{Sizes, Entry, History}
+use Rattle.aio_model.specs.LoopHistory.{Sizes, History}
 use Rattle.aio_model.specs.LoopFlags.{is_pending}
 use Rattle.aio_model.specs.LoopLists.{is_announced, stack_of, out_of}
 use Rattle.aio_model.specs.LoopLegal.{IsLegal}

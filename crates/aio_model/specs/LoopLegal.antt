@@ -1,6 +1,6 @@
 -- Which histories are legal: each entry agrees with the entries before it.
-use Rattle.std.specs.Prelude.{◌≡◌, ℕ, ◌<◌, Bool, true, false, Option, Some, List, [], ◌∷◌}
-use Rattle.aio_model.specs.LoopHistory.{Asked, ToCall, ToCallIdle, ToDelete, ToCallOnce, Entry, New, Enqueue, Put, Cancel, Take, Dequeue, Free, SetEvent, ClearEvent, History, Sizes}
+use Rattle.std.specs.Prelude.{◌≡◌, ℕ, ◌<◌, true, false, Some, [], ◌∷◌}
+use Rattle.aio_model.specs.LoopHistory.{Asked, ToCallOnce, Entry, New, Enqueue, Put, Cancel, Take, Dequeue, Free, SetEvent, ClearEvent, History, Sizes}
 use Rattle.aio_model.specs.LoopFlags.{has_life, lives, is_lot, was_dequeued, flags_of, is_due}
 use Rattle.aio_model.specs.LoopLists.{is_announced, announcer_of, claimer_of, out_of, head_of, is_set}
 

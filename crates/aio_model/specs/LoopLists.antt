@@ -1,6 +1,6 @@
 -- Which indices were pushed, taken and are still out; which are announced and not yet pushed; which events are set.
-use Rattle.std.specs.Prelude.{ℕ, suc, Bool, true, false, not, ◌&&◌, ◌||◌, ◌==◌, if◌then◌else◌, Option, None, Some, List, [], ◌∷◌, ◌++◌, drop}
-use Rattle.aio_model.specs.LoopHistory.{Entry, New, Enqueue, Put, Cancel, Take, Dequeue, Free, SetEvent, ClearEvent, History, Sizes}
+use Rattle.std.specs.Prelude.{ℕ, suc, Bool, false, not, ◌&&◌, ◌||◌, ◌==◌, if◌then◌else◌, Option, None, Some, List, [], ◌∷◌, ◌++◌, drop}
+use Rattle.aio_model.specs.LoopHistory.{Entry, New, Enqueue, Put, Cancel, Take, Dequeue, Free, SetEvent, ClearEvent, History}
 use Rattle.aio_model.specs.LoopFlags.{begins, frees, enqueues, puts, ends_round, is_pending}
 
 -- the number of the seat that made the entry; the home's is 64

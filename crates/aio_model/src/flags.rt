@@ -19,9 +19,13 @@ impl Flags {
     ghost use Rattle.aio_model.specs.FlagsWord.{flags_in, word_of};
 
     pub const PENDING: u64 = 1;
+
     pub const SCHEDULED: u64 = 2;
+
     pub const DELETED: u64 = 4;
+
     pub const ONESHOT: u64 = 8;
+
     pub const IDLE: u64 = 16;
 
     pub fn from_word(word: u64) -> Flags

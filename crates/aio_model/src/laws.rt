@@ -7,5 +7,4 @@ ghost use Rattle.aio_model.specs.LoopLaws.{IsAnnouncedOnce};
 /// stands once in one of the three.
 pub fn pending_is_announced_once()
     ensures { IsAnnouncedOnce }
-{
-}
+{}

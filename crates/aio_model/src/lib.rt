@@ -2,24 +2,25 @@
 //! definitions that their contracts cite.
 #![tactic(auto)]
 
+mod bottom_halves;
 mod bytes;
-mod memory;
-mod replies;
-mod requests;
-mod scripts;
-
 mod commits;
 mod flags;
 mod kinds;
 mod laws;
+mod memory;
+mod one_loop;
+mod replies;
+mod requests;
+mod scripts;
 
 pub use bytes::Bytes;
-pub use memory::{NoMemory, Unmade};
-pub use replies::{Placed, Reply};
-pub use requests::Request;
-pub use scripts::{Script, Step, Steps, Stream, Streams, What};
-
 pub use commits::{Commit, Why};
 pub use flags::Flags;
 pub use kinds::Kind;
 pub use laws::pending_is_announced_once;
+pub use memory::{NoMemory, Unmade};
+pub use one_loop::OneLoop;
+pub use replies::{Placed, Reply};
+pub use requests::Request;
+pub use scripts::{Script, Step, Steps, Stream, Streams, What};
