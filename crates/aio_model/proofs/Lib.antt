@@ -12,3 +12,4 @@ pub mod LoopFollows
 pub mod Lifeless
 pub mod OnceFollows
 pub mod CommitFollows
+pub mod Rounds
