@@ -13,3 +13,4 @@ pub mod Lifeless
 pub mod OnceFollows
 pub mod CommitFollows
 pub mod Rounds
+pub mod Frames

@@ -12,3 +12,6 @@ pub mod LoopLog
 pub mod LoopState
 pub mod LoopSteps
 pub mod LoopInside
+pub mod LoopSeats
+pub mod LoopFrame
+pub mod InFlight

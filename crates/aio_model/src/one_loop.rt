@@ -406,3 +406,6 @@ impl OneLoop {
         commit_by(urgent, set, rung, due)
     }
 }
+
+#[cfg(test)]
+mod tests;
