@@ -1,10 +1,7 @@
 -- Polls, part by part.
-use Rattle.std.proofs.Common.{◌≡◌, ℕ, zero, suc, List, [], ◌∷◌, ◌++◌, append_assoc, refl, sym, ap, ◌∙◌, subst}
-use Rattle.aio_model.specs.LoopHistory.{Sizes, History}
-use Rattle.aio_model.specs.LoopLists.{out_of}
-use Rattle.aio_model.specs.LoopSeats.{IsSeenOf, StandsInHistory, StandsAtTheEnd}
-use Rattle.aio_model.specs.InFlight.{Phase, flight_of, IsInFlightFor}
-use Rattle.aio_model.specs.LoopFrame.{Place, Entered, Makes, Turn, Turns, TakesAndTurns, nests_above, Frame, Runs, ran_of, cut_nests_of, called_of}
+use Rattle.std.proofs.Common.{ℕ, zero, suc, List, [], ◌∷◌, ◌++◌, refl, sym, subst}
+use Rattle.aio_model.specs.LoopHistory.{Sizes}
+use Rattle.aio_model.specs.LoopFrame.{Place, Entered, Turn, Turns, TakesAndTurns, nests_above, Frame, Runs}
 
 -- what a runner does in one part of a log and then in the next
 pub Runs-append : {R : Type 0} (does : R → Entered → R → Type 0) (before mid after : R) (newer older : List Entered) → Runs does before older mid → Runs does mid newer after → Runs does before (newer ++ older) after

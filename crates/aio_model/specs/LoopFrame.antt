@@ -1,6 +1,6 @@
 -- The frame of a poll: one take, and then turns until nothing is out, with the frames of nested polls in their bodies.
-use Rattle.std.specs.Prelude.{◌≡◌, ℕ, zero, suc, ◌+◌, Bool, true, false, not, ◌&&◌, ◌||◌, if◌then◌else◌, Option, None, Some, List, [], ◌∷◌, ◌++◌, ◌⊎◌, MatchBool}
-use Rattle.aio_model.specs.LoopHistory.{Sizes, Entry, New, Enqueue, Put, Cancel, Take, Dequeue, Free, SetEvent, ClearEvent, History}
+use Rattle.std.specs.Prelude.{◌≡◌, ℕ, zero, suc, ◌+◌, Bool, true, false, not, ◌&&◌, ◌||◌, if◌then◌else◌, Option, None, List, [], ◌∷◌, ◌++◌, ◌⊎◌, MatchBool}
+use Rattle.aio_model.specs.LoopHistory.{Sizes, Entry, Take, Dequeue, Free, ClearEvent, History}
 use Rattle.aio_model.specs.LoopFlags.{is_lot, is_idle}
 use Rattle.aio_model.specs.LoopLists.{out_of, job_of}
 use Rattle.aio_model.specs.LoopSeats.{home, entries_of}

@@ -2,7 +2,7 @@
 use Rattle.std.specs.Prelude.{◌≡◌, ℕ, ◌+◌, Bool, true, false, ◌||◌, ◌==◌, List, [], ◌∷◌, ◌++◌}
 use Rattle.aio_model.specs.declared.flags.Flags.{Flags}
 use Rattle.aio_model.specs.FlagsWord.{bit}
-use Rattle.aio_model.specs.LoopHistory.{Sizes, Asked, ToDelete, Entry, Enqueue, Dequeue, History}
+use Rattle.aio_model.specs.LoopHistory.{Sizes, ToDelete, Entry, Enqueue, Dequeue, History}
 use Rattle.aio_model.specs.LoopFlags.{is_pending, was_scheduled, is_scheduling, enqueues, asks, ends_life}
 use Rattle.aio_model.specs.LoopLists.{is_announced, stack_of, out_of}
 use Rattle.aio_model.specs.LoopLegal.{IsLegal}

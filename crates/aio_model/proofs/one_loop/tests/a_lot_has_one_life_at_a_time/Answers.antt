@@ -1,4 +1,4 @@
-use Rattle.std.proofs.Common.{◌≡◌, [], ◌∷◌, true, false, ap, refl, sym, ◌∙◌, subst}
+use Rattle.std.proofs.Common.{◌≡◌, [], true, false, ap, refl, sym, ◌∙◌, subst}
 use Rattle.aio_model.specs.declared.bottom_halves.BottomHalf.{BottomHalf}
 use Rattle.aio_model.specs.LoopHistory.{Sizes}
 use Rattle.aio_model.specs.LoopLog.{history_of, once_log, taken_log, dequeued_log}
