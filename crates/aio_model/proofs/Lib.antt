@@ -1,4 +1,5 @@
 mod Examples
+mod LoopExamples
 pub mod Along
 pub mod InOrder
 pub mod Names
