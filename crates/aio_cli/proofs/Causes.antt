@@ -1,5 +1,5 @@
 -- Which answers are left where nothing failed.
-use Rattle.std.proofs.Common.{◌≡◌, ◌⊎◌, inl, inr, ℕ, zero, suc, ◌+◌, ◌<◌, ◌≤◌, Bool, true, false, List, [], ◌++◌, length, Option, Some, None, IfSome, is_some, option_map, refl, sym, ◌∙◌, ap, subst, arith, length-append}
+use Rattle.std.proofs.Common.{◌≡◌, inl, inr, ℕ, zero, suc, ◌<◌, ◌≤◌, List, [], ◌++◌, length, Option, Some, None, IfSome, refl, sym, ◌∙◌, ap, subst, arith, length-append}
 use Rattle.std.specs.Prelude.{IsSome}
 use Rattle.std.proofs.lemmas.Option.{none-some, same_Some}
 use Rattle.std.proofs.lemmas.Bool.{cond-false, lt-leb}
@@ -15,7 +15,7 @@ use Rattle.aio_script.specs.Grammar.{is_short, script_of_lines, script_of}
 use Rattle.aio_cli.specs.declared.answer.Answer.{Answer}
 use Rattle.aio_cli.specs.declared.answer.Answer.TheVariants.{Done, Errors, Usage, BadScript, ReadFault, WriteFault, NoMemory}
 use Rattle.aio_cli.specs.Answers.{IsRefusal, IsWhole, OnBadScript, OnCut, OnWritten}
-use Rattle.aio_cli.specs.Reading.{IsRead, Says, SaysNone}
+use Rattle.aio_cli.specs.Reading.{Says, SaysNone}
 use Rattle.aio_cli.specs.Run.{Runs}
 
 -- a fact for the bytes that are told, if they are

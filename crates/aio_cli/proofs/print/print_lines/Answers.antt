@@ -1,6 +1,5 @@
-use Rattle.std.proofs.Common.{◌≡◌, ◌+◌, ◌<◌, ◌∙◌, length, take, ap, sym, arith, Ok}
+use Rattle.std.proofs.Common.{◌+◌, ◌<◌, ◌∙◌, length, ap, sym, arith, Ok}
 use Rattle.std.specs.List.{flat_map}
-use Rattle.aio_model.specs.Asked.{asked}
 use Rattle.aio_model.specs.PrintedText.{line_for}
 use Rattle.aio_model.proofs.InOrder.{asked_rest}
 use Rattle.aio_script.proofs.Prints.{Prints-then, Prints-stops, Prints-same}

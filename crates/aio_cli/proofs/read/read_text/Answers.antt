@@ -1,7 +1,6 @@
-use Rattle.std.proofs.Common.{◌≡◌, ◌≤◌, ℕ, length, arith, length-append}
+use Rattle.std.proofs.Common.{arith, length-append}
 use Rattle.std.proofs.lemmas.List.{length-take}
-use Rattle.std.proofs.lemmas.Grind.{common_steps}
-use Rattle.aio_cli.proofs.Taken.{Takes-none, Takes-more}
+use Rattle.aio_cli.proofs.Taken.{Takes-more}
 use Rattle.aio_cli.proofs.read.read_text.Goals as goal
 
 pub returns-in_err-extend_from_slice-clause-few : goal.returns-in_err-extend_from_slice-clause-few

@@ -1,4 +1,4 @@
-use Rattle.std.proofs.Common.{◌≡◌, ◌≤◌, ℕ, length, ◌-◌}
+use Rattle.std.proofs.Common.{◌≡◌, ◌≤◌, length, ◌-◌}
 use Rattle.aio_words.specs.Content.{Takes}
 use Rattle.aio_cli.specs.Reading.{most_read}
 use Rattle.aio_cli.proofs.read.read_text.Given as goal

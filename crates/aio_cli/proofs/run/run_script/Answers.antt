@@ -1,4 +1,3 @@
-use Rattle.std.proofs.Common.{◌≡◌}
 use Rattle.aio_cli.proofs.Served.{OnWritten-both, OnCut-both}
 use Rattle.aio_cli.proofs.run.run_script.Goals as goal
 

@@ -1,4 +1,4 @@
-use Rattle.std.proofs.Common.{ap, ◌∙◌, sym}
+use Rattle.std.proofs.Common.{ap, ◌∙◌}
 use Rattle.img_requests.specs.ImageState.{ImageState}
 use Rattle.aio_cli.proofs.Served.{Serves-of, told-inside}
 use Rattle.aio_cli.proofs.run.serve_script.Goals as goal

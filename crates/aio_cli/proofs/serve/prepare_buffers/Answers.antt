@@ -1,7 +1,6 @@
-use Rattle.std.proofs.Common.{◌≡◌, ◌<◌, ◌++◌, [], ◌∷◌, ◌+◌, length, map, take, arith, sym, ap, ◌∙◌, subst}
-use Rattle.std.proofs.lemmas.List.{take_more, map_push, length-replicate}
+use Rattle.std.proofs.Common.{◌≡◌, ◌++◌, [], ◌∷◌, ◌+◌, map, take, arith, sym, ap, ◌∙◌}
+use Rattle.std.proofs.lemmas.List.{take_more, map_push}
 use Rattle.aio_model.specs.declared.scripts.Step.{Step}
-use Rattle.aio_cli.specs.Buffers.{RoomsFor}
 use Rattle.aio_cli.proofs.Rooms.{RoomsFor-push}
 use Rattle.aio_cli.proofs.serve.prepare_buffers.Goals as goal
 

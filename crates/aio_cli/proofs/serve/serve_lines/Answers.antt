@@ -1,4 +1,4 @@
-use Rattle.std.proofs.Common.{◌≡◌, ◌<◌, length, false, arith, refl, sym, ap, ◌∙◌, map, vec_capacity}
+use Rattle.std.proofs.Common.{arith, ap, ◌∙◌, vec_capacity}
 use Rattle.aio_cli.proofs.Going.{Going-more, Going-skip, due-here, is_ask-other}
 use Rattle.aio_cli.proofs.serve.serve_lines.Goals as goal
 use Rattle.aio_cli.proofs.serve.serve_lines.Goals.{in-Ask, in_default-what}

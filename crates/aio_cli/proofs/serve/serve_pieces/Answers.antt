@@ -1,4 +1,4 @@
-use Rattle.std.proofs.Common.{◌≤◌, inl, inr, refl, arith, ◌∙◌}
+use Rattle.std.proofs.Common.{inl, inr, refl, arith, ◌∙◌}
 use Rattle.img_requests.proofs.Served.{UnderWay-more, IsServed-last}
 use Rattle.aio_cli.proofs.serve.serve_pieces.Goals as goal
 
