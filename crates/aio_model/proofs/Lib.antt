@@ -15,3 +15,5 @@ pub mod OnceFollows
 pub mod CommitFollows
 pub mod Rounds
 pub mod Frames
+mod HandlerRows
+mod TimerRows

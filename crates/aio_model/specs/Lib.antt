@@ -15,3 +15,5 @@ pub mod LoopInside
 pub mod LoopSeats
 pub mod LoopFrame
 pub mod InFlight
+pub mod HandlerCalls
+pub mod TimerCalls

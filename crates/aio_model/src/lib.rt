@@ -27,3 +27,9 @@ pub use one_loop::OneLoop;
 pub use replies::{Placed, Reply};
 pub use requests::Request;
 pub use scripts::{Script, Step, Steps, Stream, Streams, What};
+
+mod handler_calls;
+mod timer_calls;
+
+pub use handler_calls::HandlerCall;
+pub use timer_calls::TimerCall;
