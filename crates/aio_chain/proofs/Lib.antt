@@ -1,0 +1,5 @@
+mod Calls
+mod Circles
+pub mod Contained
+mod Paths
+pub mod Steps

@@ -1,0 +1,2 @@
+pub mod LinkList
+pub mod Nodes
