@@ -86,7 +86,7 @@ once_push i (x ∷ xs) h d =
     let new = or_parts (eqb i x) (contains i xs) h in
     (absent_from x xs (i ∷ []) d.0 (or_from _ _ (eqb-false_comm i x new.0) refl), once_push i xs new.1 d.1)
 
-or_swap : (a b c : Bool) → (a || (b || c)) ≡ (b || (a || c))
+pub or_swap : (a b c : Bool) → (a || (b || c)) ≡ (b || (a || c))
 or_swap true true c = refl
 or_swap true false c = refl
 or_swap false b c = refl

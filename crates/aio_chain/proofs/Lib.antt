@@ -3,3 +3,4 @@ mod Circles
 pub mod Contained
 mod Paths
 pub mod Steps
+pub mod Walks

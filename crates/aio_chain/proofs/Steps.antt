@@ -1,6 +1,6 @@
 -- The steps on a list of indices, where it is cut at an index.
-use Rattle.std.proofs.Common.{◌≡◌, ℕ, false, ◌||◌, eqb, List, [], ◌∷◌, ◌++◌, refl, sym, ◌∙◌, ap, inl, inr}
-use Rattle.std.proofs.lemmas.Bool.{cases_Bool, eq-eqb, eqb-true, or_parts, or_from}
+use Rattle.std.proofs.Common.{◌≡◌, ℕ, true, false, ◌||◌, eqb, List, [], ◌∷◌, ◌++◌, length, ◌<◌, ◌≤◌, Option, Some, None, refl, sym, ◌∙◌, ap, inl, inr, arith}
+use Rattle.std.proofs.lemmas.Bool.{cases_Bool, both_ways, eq-eqb, eqb-true, or_parts, or_from}
 use Rattle.aio_chain.specs.LinkList.{contains, first_of, next_after, put_before, without}
 
 pub next_after-split : (i : ℕ) (xs ys : List ℕ) → contains i xs ≡ false → next_after i (xs ++ i ∷ ys) ≡ first_of ys
@@ -41,4 +41,34 @@ contains-without_other k i (x ∷ xs) apart = elim (cases_Bool (eqb i x)) [
       let k_x : eqb k x ≡ false = ap (eqb k) (sym (eqb-true i x e)) ∙ apart in
       rw (e, k_x) (contains-without_other k i xs apart)
   | inr ne ↦ rw ne (ap (λ b. eqb k x || b) (contains-without_other k i xs apart))
+]
+
+pub length-without-le : (i : ℕ) (xs : List ℕ) → length (without i xs) ≤ length xs
+length-without-le i [] = omega arith
+length-without-le i (x ∷ xs) = elim (cases_Bool (eqb i x)) [
+  | inl e ↦ rw e (omega (arith, length-without-le i xs))
+  | inr ne ↦ rw ne (omega (arith, length-without-le i xs))
+]
+
+pub without-first : (x : ℕ) (xs : List ℕ) → contains x xs ≡ false → without x (x ∷ xs) ≡ xs
+without-first x xs absent = let x_x = eq-eqb x x refl in rw x_x (without-absent x xs absent)
+
+-- a list is shorter without its first index
+pub length-without_first : (x : ℕ) (xs : List ℕ) → first_of xs ≡ Some x → length (without x xs) < length xs
+length-without_first x [] e = absurd (cc)
+length-without_first x (y ∷ xs) e =
+    let same : x ≡ y = cc in
+    let here : eqb x y ≡ true = eq-eqb x y same in
+    rw here (omega (arith, length-without-le x xs))
+
+pub nil_from_first : (xs : List ℕ) → first_of xs ≡ None → xs ≡ []
+nil_from_first [] e = refl
+nil_from_first (x ∷ xs) e = absurd (cc)
+
+pub contains-from_without : (k i : ℕ) (xs : List ℕ) → contains k (without i xs) ≡ true → contains k xs ≡ true
+contains-from_without k i xs h = elim (cases_Bool (eqb k i)) [
+  | inl e ↦
+  let gone : contains k (without i xs) ≡ false = ap (λ x. contains x (without i xs)) (eqb-true k i e) ∙ contains-without_same i xs in
+  absurd (both_ways (contains k (without i xs)) gone h)
+  | inr ne ↦ sym (contains-without_other k i xs ne) ∙ h
 ]

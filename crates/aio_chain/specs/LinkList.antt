@@ -38,3 +38,13 @@ IsEachOnce (x ∷ rest) = IsFalse (contains x rest) × IsEachOnce rest
 pub record IsLinked (list : LinkList) : Type 0 where
   pub each_once : IsEachOnce list.items
   pub below : (i : ℕ) → IsTrue (contains i list.items) → i < list.room
+
+-- the list from this index on
+abbrev pub rest_at : ℕ → List ℕ → List ℕ
+rest_at i [] = []
+rest_at i (x ∷ rest) = if i == x then x ∷ rest else rest_at i rest
+
+-- What a walk along the list has yet to see, where it stands at this index, or has come to the end.
+abbrev pub rest_from : Option ℕ → List ℕ → List ℕ
+rest_from None items = []
+rest_from (Some i) items = rest_at i items

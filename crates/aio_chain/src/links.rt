@@ -95,6 +95,13 @@ impl Links {
         }
     }
 
+    /// All indices of the list are below it.
+    pub fn room(&self) -> u32
+        ensures { result ≡ self.now.room }
+    {
+        self.end
+    }
+
     /// Whether the index is in the list.
     pub fn has(&self, i: u32) -> bool
         ensures has { result ≡ contains i self.now.items }

@@ -1,0 +1,5 @@
+mod Keeping
+mod Ordered
+mod Placed
+mod Standing
+mod Walked
