@@ -17,3 +17,4 @@ pub mod LoopFrame
 pub mod InFlight
 pub mod HandlerCalls
 pub mod TimerCalls
+pub mod TimerStates

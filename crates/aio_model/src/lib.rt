@@ -30,6 +30,8 @@ pub use scripts::{Script, Step, Steps, Stream, Streams, What};
 
 mod handler_calls;
 mod timer_calls;
+mod timer_states;
 
 pub use handler_calls::HandlerCall;
 pub use timer_calls::TimerCall;
+pub use timer_states::{TimerState, timer_state};
