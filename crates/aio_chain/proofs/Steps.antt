@@ -1,5 +1,5 @@
 -- The steps on a list of indices, where it is cut at an index.
-use Rattle.std.proofs.Common.{◌≡◌, ℕ, true, false, ◌||◌, eqb, List, [], ◌∷◌, ◌++◌, length, ◌<◌, ◌≤◌, Option, Some, None, refl, sym, ◌∙◌, ap, inl, inr, arith}
+use Rattle.std.proofs.Common.{◌≡◌, ℕ, true, false, ◌||◌, eqb, List, [], ◌∷◌, ◌++◌, length, ◌<◌, ◌≤◌, Some, None, refl, sym, ◌∙◌, ap, inl, inr, arith}
 use Rattle.std.proofs.lemmas.Bool.{cases_Bool, both_ways, eq-eqb, eqb-true, or_parts, or_from}
 use Rattle.aio_chain.specs.LinkList.{contains, first_of, next_after, put_before, without}
 
@@ -68,7 +68,7 @@ nil_from_first (x ∷ xs) e = absurd (cc)
 pub contains-from_without : (k i : ℕ) (xs : List ℕ) → contains k (without i xs) ≡ true → contains k xs ≡ true
 contains-from_without k i xs h = elim (cases_Bool (eqb k i)) [
   | inl e ↦
-  let gone : contains k (without i xs) ≡ false = ap (λ x. contains x (without i xs)) (eqb-true k i e) ∙ contains-without_same i xs in
-  absurd (both_ways (contains k (without i xs)) gone h)
+      let gone : contains k (without i xs) ≡ false = ap (λ x. contains x (without i xs)) (eqb-true k i e) ∙ contains-without_same i xs in
+      absurd (both_ways (contains k (without i xs)) gone h)
   | inr ne ↦ sym (contains-without_other k i xs ne) ∙ h
 ]

@@ -1,9 +1,9 @@
 -- A walk along a list, from the first index to the next and on.
-use Rattle.std.proofs.Common.{◌≡◌, ℕ, ◌+◌, true, false, ◌||◌, eqb, List, [], ◌∷◌, ◌++◌, length, Option, Some, None, IfSome, refl, sym, ◌∙◌, ap, subst}
-use Rattle.std.proofs.lemmas.Bool.{eq-eqb, or_parts, or_from, or_left, or_right}
+use Rattle.std.proofs.Common.{◌≡◌, ℕ, true, false, eqb, List, [], ◌∷◌, ◌++◌, Some, IfSome, refl, sym, ◌∙◌, ap, subst}
+use Rattle.std.proofs.lemmas.Bool.{eq-eqb, or_parts, or_left, or_right}
 use Rattle.std.proofs.lemmas.List.{append_assoc}
 use Rattle.aio_chain.specs.LinkList.{contains, first_of, next_after, IsEachOnce, rest_at, rest_from}
-use Rattle.aio_chain.proofs.Contained.{Split, split_at, contains-right, once_middle}
+use Rattle.aio_chain.proofs.Contained.{split_at, contains-right, once_middle}
 use Rattle.aio_chain.proofs.Steps.{next_after-split}
 
 pub rest_at-split : (i : ℕ) (xs ys : List ℕ) → contains i xs ≡ false → rest_at i (xs ++ i ∷ ys) ≡ i ∷ ys
@@ -41,9 +41,9 @@ stepped_at i front (x ∷ back) absent once =
     let rest : rest_at x (front ++ i ∷ x ∷ back) ≡ x ∷ back = ap (rest_at x) moved ∙ rest_at-split x (front ++ i ∷ []) back apart in
     record {
       rest =
-        rest_at-split i front (x ∷ back) absent ∙ ap (λ ys. i ∷ ys) (sym rest) ∙ ap (λ o. i ∷ rest_from o (front ++ i ∷ x ∷ back)) (sym next);
+          rest_at-split i front (x ∷ back) absent ∙ ap (λ ys. i ∷ ys) (sym rest) ∙ ap (λ o. i ∷ rest_from o (front ++ i ∷ x ∷ back)) (sym next);
       next_in =
-        subst (λ o. IfSome o (λ next. contains next (front ++ i ∷ x ∷ back) ≡ true)) (sym next) (contains-right x front (i ∷ x ∷ back) (or_right (eqb x i) _ (or_left _ _ (eq-eqb x x refl))));
+          subst (λ o. IfSome o (λ next. contains next (front ++ i ∷ x ∷ back) ≡ true)) (sym next) (contains-right x front (i ∷ x ∷ back) (or_right (eqb x i) _ (or_left _ _ (eq-eqb x x refl))));
     }
 
 pub stepped : (items : List ℕ) (i : ℕ) → IsEachOnce items → contains i items ≡ true → Stepped items i
