@@ -6,6 +6,7 @@ mod bottom_halves;
 mod bytes;
 mod commits;
 mod flags;
+mod handler_calls;
 mod kinds;
 mod laws;
 mod memory;
@@ -13,10 +14,13 @@ mod one_loop;
 mod replies;
 mod requests;
 mod scripts;
+mod timer_calls;
+mod timer_states;
 
 pub use bytes::Bytes;
 pub use commits::{Commit, Why};
 pub use flags::Flags;
+pub use handler_calls::HandlerCall;
 pub use kinds::Kind;
 pub use laws::{
     a_deleted_one_never_runs, a_legal_history_cut_anywhere_is_legal,
@@ -27,11 +31,5 @@ pub use one_loop::OneLoop;
 pub use replies::{Placed, Reply};
 pub use requests::Request;
 pub use scripts::{Script, Step, Steps, Stream, Streams, What};
-
-mod handler_calls;
-mod timer_calls;
-mod timer_states;
-
-pub use handler_calls::HandlerCall;
 pub use timer_calls::TimerCall;
 pub use timer_states::{TimerState, timer_state};
