@@ -1,4 +1,4 @@
+pub mod Counting
 pub mod Joining
 pub mod PutAt
 pub mod Served
-pub mod Sound

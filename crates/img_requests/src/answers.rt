@@ -3,7 +3,7 @@
 pub enum Enter {
     /// Its pieces can be served.
     Begun,
-    /// It waits for others. With one stream this never comes.
+    /// It waits for others. As long as an image has one present request at a time, this never comes.
     Queued,
     /// It reaches past the image's end, and stands in the journal at this place.
     Refused(u32),

@@ -2,6 +2,7 @@ ghost use Rattle.std.specs.Prelude.{◌≡◌, ◌<◌, ◌≤◌, ◌^◌, sum,
 ghost use Rattle.aio_model.specs.Serving.{length_of, end_of};
 
 use crate::calls::serve_piece;
+use crate::ledger::Ledger;
 use crate::present::PIECE;
 use crate::{Enter, Entry, Left, Mark, Piece, Present};
 use aio_model::{Request, Unmade};
@@ -13,21 +14,19 @@ use std::marker::Model;
 pub struct Image<D: Device> {
     device: D,
     size: u64,
-    requests: u32,
-    journal: Vec<Entry>,
+    ledger: Ledger,
     present: Option<Present>,
 }
 
 impl<D: Device> Model for Image<D> {
-    ghost use Rattle.std.specs.Prelude.{◌∷◌, [], vec_len, vec_capacity};
     ghost use Rattle.img_requests.specs.ImageState.{ImageState};
     ghost use Rattle.img_requests.specs.Soundness.{IsSound};
 
     ghost Value = { ImageState D };
 
-    ghost view = { λ i. record { device = i.device; size = i.size; requests = i.requests ∷ []; journal = i.journal.items; present = i.present } };
+    ghost view = { λ i. record { device = i.device; size = i.size; requests = i.ledger.requests; journal = i.ledger.entries; present = i.present } };
 
-    ghost invariant = { λ i. IsSound (D.extent i.device) i.size i.requests (vec_len i.journal) (vec_capacity i.journal) i.journal.items i.present };
+    ghost invariant = { λ i. IsSound (D.extent i.device) i.size i.ledger i.present };
 }
 
 impl<D: Device> Image<D> {
@@ -38,7 +37,7 @@ impl<D: Device> Image<D> {
     ghost use Rattle.img_requests.specs.Pieces.{OnFailed, HasRoom, IsSilent, piece_length};
     ghost use Rattle.img_requests.specs.Presents.{done_of, IsBegun};
 
-    /// An image of the device's first `size` bytes, for so many requests of its one stream.
+    /// An image of the device's first `size` bytes, for so many requests of each stream.
     pub fn build(
         alloc: Global,
         device: D,
@@ -46,18 +45,16 @@ impl<D: Device> Image<D> {
         requests: &[u32],
     ) -> Result<Image<D>, Unmade<D>>
         requires inside { size ≤ D.extent device }
-        requires one { length requests.now ≡ 1 }
+        requires streams { length requests.now ≤ 64 }
         requires few { sum requests.now ≤ 4096 }
         ensures ok { IfOk result (λ image. image ≡ record { device = device; size = size; requests = requests.now; journal = []; present = None }) }
         ensures err { IfErr result (λ unmade. unmade.back ≡ device) }
     {
-        let requests = requests[0];
-        match Vec::with_capacity(alloc, requests as usize) {
-            Ok(journal) => Ok(Image {
+        match Ledger::build(alloc, requests) {
+            Ok(ledger) => Ok(Image {
                 device,
                 size,
-                requests,
-                journal,
+                ledger,
                 present: None,
             }),
             Err(_) => Err(Unmade { back: device }),
@@ -74,13 +71,10 @@ impl<D: Device> Image<D> {
 
         // Where the device tells its bytes, those that the request is about are among them.
         ensures inside { OnBegun result (IfSome (D.bytes self.new.device) (λ told. end_of request.now ≤ length told)) }
-
-        // Every entry is of the one stream.
-        ensures alone { entries_of stream self.old.journal ≡ length self.old.journal }
     {
         let present = Present::begin(stream, request);
         if present.reaches_past(self.size) {
-            return Enter::Refused(Entry::note(&mut self.journal, stream, Mark::Einval));
+            return Enter::Refused(self.ledger.note(stream, Mark::Einval));
         }
         self.present = Some(present);
         Enter::Begun
@@ -117,12 +111,11 @@ impl<D: Device> Image<D> {
           journal = self.old.journal ++ entry_next stream self.old.journal (mark_of self.old.present) ∷ [];
           present = None;
         } }
-        ensures alone { entries_of stream self.old.journal ≡ length self.old.journal }
     {
         let Some(present) = self.present else {
             unreachable!()
         };
-        let place = Entry::note(&mut self.journal, stream, present.mark());
+        let place = self.ledger.note(stream, present.mark());
         self.present = None;
         Left { place, woken: None }
     }
@@ -131,7 +124,7 @@ impl<D: Device> Image<D> {
     pub fn journal(&self) -> &[Entry]
         ensures { result.now ≡ self.now.journal }
     {
-        self.journal.as_slice()
+        self.ledger.entries()
     }
 
     /// The device.
@@ -141,8 +134,7 @@ impl<D: Device> Image<D> {
         let Image {
             device,
             size: _,
-            requests: _,
-            journal: _,
+            ledger: _,
             present: _,
         } = self;
         device

@@ -1,4 +1,4 @@
-ghost use Rattle.std.specs.Prelude.{◌≡◌, ◌<◌, ◌≤◌, ◌∷◌, [], ◌++◌, length, vec_len, vec_capacity};
+ghost use Rattle.std.specs.Prelude.{◌≡◌};
 
 use aio_model::{Bytes, Reply};
 
@@ -38,26 +38,4 @@ pub struct Entry {
     pub stream: u32,
     pub index: u32,
     pub mark: Mark,
-}
-
-impl Entry {
-    ghost use Rattle.img_requests.specs.Journal.{entry_next, entries_of};
-
-    /// Puts the next entry of the stream to the journal's end, and answers its place there.
-    pub(crate) fn note(journal: &mut Vec<Entry>, stream: u32, mark: Mark) -> u32
-        requires room { vec_len journal.old < vec_capacity journal.old }
-        requires few { length journal.old.items < 4096 }
-        requires alone { entries_of stream journal.old.items ≡ length journal.old.items }
-        ensures place { result ≡ length journal.old.items }
-        ensures items { journal.new.items ≡ journal.old.items ++ entry_next stream journal.old.items mark ∷ [] }
-        ensures capacity { vec_capacity journal.new ≡ vec_capacity journal.old }
-    {
-        let place = journal.len() as u32;
-        journal.push_reserved(Entry {
-            stream,
-            index: place,
-            mark,
-        });
-        place
-    }
 }

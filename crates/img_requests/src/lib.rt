@@ -6,6 +6,7 @@ mod answers;
 mod calls;
 mod image;
 mod journal;
+mod ledger;
 mod present;
 
 pub use answers::{Enter, Left, Piece};

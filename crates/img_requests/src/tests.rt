@@ -1,6 +1,6 @@
-ghost use Rattle.std.specs.Prelude.{◌≡◌, ◌+◌, ◌<◌, ◌≤◌, ◌^◌, length, slice_index, IfOk, IfSome, Some, None, []};
+ghost use Rattle.std.specs.Prelude.{◌≡◌, ◌<◌, ◌≤◌, ◌^◌, ◌∷◌, ◌++◌, length, slice_index, IfOk, IfSome, Some, None, []};
 ghost use Rattle.aio_model.specs.Serving.{length_of, end_of};
-ghost use Rattle.img_requests.specs.Journal.{entries_of};
+ghost use Rattle.img_requests.specs.Journal.{entries_of, entry_next};
 ghost use Rattle.img_requests.specs.Pieces.{HasRoom};
 ghost use Rattle.img_requests.specs.Progress.{IsServed};
 ghost use Rattle.img_requests.specs.Presents.{begun_of};
@@ -22,16 +22,21 @@ fn bytes_of(alloc: Global, value: u8, n: usize) -> Result<Vec<u8>, AllocError>
 }
 
 /// Serves the pieces of a request that was begun, and counts them.
-fn serve_pieces<D: Device>(image: &mut Image<D>, request: &Request, buf: &mut [u8]) -> u32
-    requires begun { image.old.present ≡ Some (begun_of 0 request.now) }
+fn serve_pieces<D: Device>(
+    image: &mut Image<D>,
+    stream: u32,
+    request: &Request,
+    buf: &mut [u8],
+) -> u32
+    requires begun { image.old.present ≡ Some (begun_of stream request.now) }
     requires within { end_of request.now ≤ image.old.size }
     requires inside { IfSome (D.bytes image.old.device) (λ told. end_of request.now ≤ length told) }
     requires room { HasRoom request.now buf.old }
-    ensures { IsServed D.bytes 0 request.now image.old image.new buf.new }
+    ensures { IsServed D.bytes stream request.now image.old image.new buf.new }
 {
     let mut pieces: u32 = 1;
     loop {
-        match image.piece(0, request, buf) {
+        match image.piece(stream, request, buf) {
             Piece::More => pieces = pieces.saturating_add(1),
             Piece::Whole | Piece::Failed => return pieces,
         }
@@ -46,22 +51,22 @@ struct Run {
 }
 
 /// Serves a request.
-fn serve<D: Device>(image: &mut Image<D>, request: &Request, buf: &mut [u8]) -> Run
-    requires known { 0 < length image.old.requests }
+fn serve<D: Device>(image: &mut Image<D>, stream: u32, request: &Request, buf: &mut [u8]) -> Run
+    requires known { stream < length image.old.requests }
     requires free { image.old.present ≡ None }
-    requires due { entries_of 0 image.old.journal < slice_index image.old.requests 0 }
+    requires due { entries_of stream image.old.journal < slice_index image.old.requests stream }
     requires small { length_of request.now < 2 ^ 32 }
     requires room { HasRoom request.now buf.old }
     ensures free { image.new.present ≡ None }
     ensures requests { image.new.requests ≡ image.old.requests }
-    ensures more { entries_of 0 image.new.journal ≡ entries_of 0 image.old.journal + 1 }
+    ensures journal { (mark : Mark) × (image.new.journal ≡ image.old.journal ++ entry_next stream image.old.journal mark ∷ []) }
 {
-    match image.enter(0, request) {
+    match image.enter(stream, request) {
         Enter::Refused(place) => Run { pieces: 0, place },
         Enter::Queued => unreachable!(),
         Enter::Begun => {
-            let pieces = serve_pieces(image, request, buf);
-            let left = image.leave(0);
+            let pieces = serve_pieces(image, stream, request, buf);
+            let left = image.leave(stream);
             Run {
                 pieces,
                 place: left.place,
@@ -70,9 +75,9 @@ fn serve<D: Device>(image: &mut Image<D>, request: &Request, buf: &mut [u8]) -> 
     }
 }
 
-fn entry(index: u32, mark: Mark) -> Entry {
+fn entry(stream: u32, index: u32, mark: Mark) -> Entry {
     Entry {
-        stream: 0,
+        stream,
         index,
         mark,
     }
@@ -87,7 +92,7 @@ fn write_read_flush(rt: HostRuntime) -> Result<(), Fail> {
     let mut image = Image::build(alloc, disk, 16, &[3])?;
     let write = Request::Write { at: 2, bytes };
     assert_eq!(rt;
-        serve(&mut image, &write, &mut []),
+        serve(&mut image, 0, &write, &mut []),
         Run {
             pieces: 1,
             place: 0
@@ -95,27 +100,46 @@ fn write_read_flush(rt: HostRuntime) -> Result<(), Fail> {
     );
     let read = Request::Read { at: 0, len: 6 };
     assert_eq!(rt;
-        serve(&mut image, &read, &mut found),
+        serve(&mut image, 0, &read, &mut found),
         Run {
             pieces: 1,
             place: 1
         }
     );
     assert_eq!(rt;
-        serve(&mut image, &Request::Flush, &mut []),
+        serve(&mut image, 0, &Request::Flush, &mut []),
         Run {
             pieces: 1,
             place: 2
         }
     );
     let journal = [
-        entry(0, Mark::Put(2)),
-        entry(1, Mark::Got(6)),
-        entry(2, Mark::Flushed),
+        entry(0, 0, Mark::Put(2)),
+        entry(0, 1, Mark::Got(6)),
+        entry(0, 2, Mark::Flushed),
     ];
     assert_eq!(rt; image.journal(), journal.as_slice());
     assert_eq!(rt; found, [0, 0, 0x68, 0x69, 0, 0]);
     assert_eq!(rt; image.into_device().calls, 3);
+    Ok(())
+}
+
+#[test]
+fn indices_of_streams_count_apart(rt: HostRuntime) -> Result<(), Fail> {
+    let alloc = rt.alloc();
+    let disk = Disk::new(bytes_of(alloc, 0, 16)?, NEVER);
+    let mut image = Image::build(alloc, disk, 16, &[1, 2])?;
+    let past = Request::Zero { at: 16, len: 1 };
+    serve(&mut image, 1, &past, &mut []);
+    serve(&mut image, 0, &Request::Flush, &mut []);
+    serve(&mut image, 1, &Request::Flush, &mut []);
+    let journal = [
+        entry(1, 0, Mark::Einval),
+        entry(0, 0, Mark::Flushed),
+        entry(1, 1, Mark::Flushed),
+    ];
+    assert_eq!(rt; image.journal(), journal.as_slice());
+    assert_eq!(rt; image.into_device().calls, 2);
     Ok(())
 }
 
@@ -134,7 +158,7 @@ fn alone(alloc: Global, disk: Disk, size: u64, request: &Request) -> Result<Outc
     requires room { HasRoom request.now [] }
 {
     let mut image = Image::build(alloc, disk, size, &[1])?;
-    let pieces = serve(&mut image, request, &mut []).pieces;
+    let pieces = serve(&mut image, 0, request, &mut []).pieces;
     let mark = image.journal().first().map(|entry| entry.mark);
     let disk = image.into_device();
     Ok(Outcome { pieces, mark, disk })
