@@ -1,7 +1,9 @@
 pub mod Bounded
 mod Examples
+pub mod Limits
+pub mod LinesRead
+pub mod Words
 pub mod Cuts
-pub mod Forms
 pub mod Pieces
 pub mod Prints
 pub mod Texts

@@ -1,9 +1,12 @@
+pub mod Bounds
+pub mod Forms
 pub mod Grammar
+pub mod Lines
 pub mod Printing
+pub mod Progress
 pub mod Reading
 pub mod Text
 pub use Rattle.aio_model.specs.Asked
 pub use Rattle.aio_model.specs.PrintedText
 pub use Rattle.aio_words.specs.Content
 pub use Rattle.aio_words.specs.Faults
-pub mod Bounds

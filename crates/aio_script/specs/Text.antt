@@ -1,5 +1,5 @@
 -- Text as scripts have it: lines, words, numbers and data.
-use Rattle.std.specs.Prelude.{ℕ, ◌+◌, ◌-◌, ◌*◌, ◌^◌, ◌==◌, ◌&&◌, Bool, true, not, nat_le, nat_eq, List, [], ◌∷◌, length, fold, filter, codes, Option, Some, None, option_and_then, if◌then◌else◌}
+use Rattle.std.specs.Prelude.{ℕ, ◌+◌, ◌-◌, ◌*◌, ◌^◌, ◌==◌, ◌&&◌, Bool, true, nat_le, nat_eq, List, [], ◌∷◌, length, fold, codes, Option, Some, None, if◌then◌else◌}
 use Rattle.std.specs.List.{slice_split, list_all}
 use Rattle.std.specs.Char.{is_ascii_digit}
 use Rattle.std.specs.Result.{result_ok}
@@ -20,10 +20,6 @@ abbrev pub is_skipped : List ℕ → Bool
 is_skipped [] = true
 is_skipped (byte ∷ rest) = byte == 35
 
--- the lines that say something
-abbrev pub significant_lines : List ℕ → List (List ℕ)
-significant_lines text = filter (λ line. not (is_skipped line)) (lines_of text)
-
 -- the words of a line, cut at each space
 abbrev pub words_of : List ℕ → List (List ℕ)
 words_of line = slice_split (λ byte. byte == 32) line
@@ -37,14 +33,6 @@ abbrev pub number_of : List ℕ → Option ℕ
 number_of word =
     if nat_le 1 (length word) && (nat_le (length word) 20 && (list_all is_ascii_digit word && nat_le (value_of word) (2 ^ 64 - 1)))
     then Some (value_of word) else None
-
--- a number, if it is at most the limit
-abbrev pub bounded : ℕ → ℕ → Option ℕ
-bounded limit n = if nat_le n limit then Some n else None
-
--- a number that is at most the limit
-abbrev pub number_within : ℕ → List ℕ → Option ℕ
-number_within limit word = option_and_then (bounded limit) (number_of word)
 
 -- data: pairs of hexadecimal digits, at least one, or a dash for no bytes
 abbrev pub data_of : List ℕ → Option (List ℕ)

@@ -1,9 +1,13 @@
 //! Text to script, and replies to text.
 #![tactic(auto)]
 
+mod form;
+mod forms;
+mod lines;
 mod print;
 mod reader;
 mod refusals;
+mod said;
 #[cfg(test)]
 mod tests;
 mod text;

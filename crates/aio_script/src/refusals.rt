@@ -1,15 +1,22 @@
 //! Why no script was read.
 ghost use Rattle.std.specs.Prelude.{◌≡◌};
-ghost use Rattle.aio_script.specs.declared.refusals.ScriptFail.TheVariants.{NoMemory};
+ghost use Rattle.aio_script.specs.declared.refusals.ScriptFail.TheVariants.{NoMemory, Refused};
 
 use std::alloc::AllocFailed;
 
-/// Why a text is no script.
+/// Why a text is no script: the first line that can't stand where it does, by its number from 1. Lines that say
+/// nothing are counted too. On one line the order is that of the variants.
 #[derive(Clone, Copy, Debug, PartialEq, Eq)]
 pub enum ScriptRefusal {
-    /// It isn't of the form that can be read so far: an image, one loop, one stream, and that stream's reads, writes
-    /// and flushes.
-    Unbuilt,
+    /// It is of no form, or declares a stream once more.
+    BadLine(u32),
+    /// A number or data of it is none.
+    BadNumber(u32),
+    OutOfLimit(u32),
+    /// No line above declares its stream.
+    UnknownStream(u32),
+    /// The text doesn't begin with an `image` line and a `loops` line.
+    NoHeader,
 }
 
 /// Why a text was not read.
@@ -25,5 +32,13 @@ impl<T: Drop> From<AllocFailed<T>> for ScriptFail {
 
     fn from(_failed: AllocFailed<T>) -> ScriptFail {
         ScriptFail::NoMemory
+    }
+}
+
+impl From<ScriptRefusal> for ScriptFail {
+    ghost from_gives = { λ refusal fail. fail ≡ Refused refusal };
+
+    fn from(refusal: ScriptRefusal) -> ScriptFail {
+        ScriptFail::Refused(refusal)
     }
 }

@@ -1,9 +1,10 @@
 //! Words, numbers and data of a line.
-ghost use Rattle.std.specs.Prelude.{◌≡◌, ◌==◌, ◌<◌, ◌≤◌, ◌∷◌, [], length, position, Some, None, MatchOption, IfSome, if◌then◌else◌};
+ghost use Rattle.std.specs.Prelude.{◌≡◌, ◌+◌, ◌==◌, ◌&&◌, ◌<◌, ◌≤◌, ◌∷◌, [], nat_le, length, position, Some, None, MatchOption, IfSome, if◌then◌else◌};
 ghost use Rattle.std.specs.List.{list_all, slice_split};
 ghost use Rattle.std.specs.Char.{is_ascii_digit};
+ghost use Rattle.aio_script.specs.Lines.{are_words, is_word, significant_from, Numbered};
 ghost use Rattle.aio_script.specs.Reading.{AreSeveral};
-ghost use Rattle.aio_script.specs.Text.{is, is_skipped, number_of, number_within, significant_lines, value_of, words_of};
+ghost use Rattle.aio_script.specs.Text.{is, is_skipped, number_of, value_of, words_of};
 
 /// The text up to the first such byte, and what stands behind that byte. Where there is none, the whole text.
 pub(crate) fn cut(text: &[u8], byte: u8) -> (&[u8], Option<&[u8]>)
@@ -42,28 +43,33 @@ pub(crate) fn is(text: &[u8], other: &str) -> bool
     text == other.as_bytes()
 }
 
-/// The first line that says something, and what stands behind it.
-pub(crate) fn next_line(text: &[u8]) -> Option<(&[u8], &[u8])>
+/// The first line that says something, with its number, and what stands behind it. The text's first line has the
+/// given number.
+pub(crate) fn next_line(first: u64, text: &[u8]) -> Option<(u32, &[u8], &[u8])>
+    requires { first + length text.now ≤ 4294967296 }
     ensures lines { MatchOption result
-        (significant_lines text.now ≡ [])
-        (λ cut. significant_lines text.now ≡ cut.0.now ∷ significant_lines cut.1.now) }
-    ensures shorter { IfSome result (λ cut. length cut.1.now < length text.now) }
+        (significant_from first text.now ≡ [])
+        (λ cut. significant_from first text.now ≡ record { number = cut.0; line = cut.1.now } ∷ significant_from (cut.0 + 1) cut.2.now) }
+    ensures within { IfSome result (λ cut. cut.0 + 1 + length cut.2.now ≤ 4294967296) }
+    ensures shorter { IfSome result (λ cut. length cut.2.now < length text.now) }
 {
+    let mut number = first;
     let mut left = text;
     while !left.is_empty() {
-        let (line, behind) = cut_line(left);
+        let (line, behind) = cut_line(number, left);
         if !is_skipped(line) {
-            return Some((line, behind));
+            return Some((number as u32, line, behind));
         }
+        number += 1;
         left = behind;
     }
     None
 }
 
 // The first line, and what stands behind its line feed: nothing, where it has none.
-fn cut_line(text: &[u8]) -> (&[u8], &[u8])
+fn cut_line(number: u64, text: &[u8]) -> (&[u8], &[u8])
     requires { 0 < length text.now }
-    ensures lines { significant_lines text.now ≡ (if is_skipped result.0.now then significant_lines result.1.now else result.0.now ∷ significant_lines result.1.now) }
+    ensures lines { significant_from number text.now ≡ (if is_skipped result.0.now then significant_from (number + 1) result.1.now else record { number = number; line = result.0.now } ∷ significant_from (number + 1) result.1.now) }
     ensures shorter { length result.1.now < length text.now }
 {
     let (line, behind) = cut(text, b'\n');
@@ -107,10 +113,36 @@ fn read_digits(word: &[u8]) -> Option<u128>
     Some(value)
 }
 
-/// The number that a word is, if it is at most the limit.
-pub(crate) fn read_within(word: &[u8], limit: u64) -> Option<u64>
-    ensures { result ≡ number_within limit word.now }
+/// Whether a line is words, with just one space between each two.
+pub(crate) fn are_words(line: &[u8]) -> bool
+    ensures { result ≡ are_words line.now }
 {
-    let value = read_number(word)?;
-    if value <= limit { Some(value) } else { None }
+    let mut left = line;
+    loop {
+        let (word, behind) = cut(left, b' ');
+        if !is_word(word) {
+            return false;
+        }
+        match behind {
+            Some(rest) => left = rest,
+            None => return true,
+        }
+    }
+}
+
+fn is_word(word: &[u8]) -> bool
+    ensures { result ≡ is_word word.now }
+{
+    !word.is_empty() && are_printed(word)
+}
+
+fn are_printed(word: &[u8]) -> bool
+    ensures { result ≡ list_all (λ byte. nat_le 33 byte && nat_le byte 126) word.now }
+{
+    for byte in word {
+        if *byte < 33 || *byte > 126 {
+            return false;
+        }
+    }
+    true
 }

@@ -1,5 +1,5 @@
 use Rattle.std.proofs.lemmas.Option.{MatchOption-at_some}
-use Rattle.aio_script.proofs.Forms.{AreSeveral-cons}
+use Rattle.aio_script.proofs.Words.{AreSeveral-cons}
 use Rattle.aio_script.proofs.text.one_word.Goals as goal
 
 pub returns-in-Some : goal.returns-in-Some
