@@ -1,7 +1,7 @@
-//! Serves a script of reads, writes and flushes on an image of zeros in memory.
+//! Serves a script of reads, writes, zeroings and flushes on an image of zeros in memory.
 #![tactic(auto)]
 
-ghost use Rattle.std.specs.Prelude.{◌≡◌, length, vec_len, IfOk};
+ghost use Rattle.std.specs.Prelude.{◌≡◌, vec_len, IfOk};
 
 use aio_cli::top;
 use aio_words::{MemDevice, NoMemory, OpenGate, StdSink, StdSource, StepClock};
@@ -40,7 +40,7 @@ fn run(rt: &HostRuntime, words: &[String]) -> Result<u8, NoMemory> {
     let alloc = rt.alloc();
     let mut source = StdSource::build(rt.stdin())?;
     let mut sink = StdSink::output(rt.stdout())?;
-    let device = zeros(alloc, DEVICE)?;
+    let device = MemDevice::zeros(alloc, DEVICE)?;
     let clocks = clocks(alloc)?;
     let end = top(
         alloc,
@@ -52,12 +52,6 @@ fn run(rt: &HostRuntime, words: &[String]) -> Result<u8, NoMemory> {
         &OpenGate,
     );
     Ok(end.status())
-}
-
-fn zeros(alloc: Global, len: u32) -> Result<MemDevice, NoMemory>
-    ensures { IfOk result (λ device. length device.bytes ≡ len) }
-{
-    MemDevice::zeros(alloc, len)
 }
 
 fn clocks(alloc: Global) -> Result<Vec<StepClock>, NoMemory>
