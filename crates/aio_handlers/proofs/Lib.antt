@@ -1,0 +1,6 @@
+mod Answered
+mod Bits
+mod Removal
+mod Sought
+mod Standing
+mod Told

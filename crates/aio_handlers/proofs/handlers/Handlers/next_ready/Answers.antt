@@ -1,0 +1,46 @@
+use Rattle.std.proofs.Common.{◌≡◌, ◌<◌, true, refl, sym, ◌∙◌, ap, subst, arith}
+use Rattle.std.proofs.lemmas.Bool.{both_ways}
+use Rattle.std.proofs.lemmas.List.{get_or_read}
+use Rattle.aio_chain.specs.LinkList.{contains}
+use Rattle.aio_chain.proofs.Steps.{contains-from_without}
+use Rattle.aio_chain.proofs.Walks.{contains-first}
+use Rattle.aio_model.specs.HandlerCalls.{others}
+use Rattle.aio_handlers.specs.declared.keys.Slot.{Slot}
+use Rattle.aio_handlers.specs.Kept.{handlers_of}
+use Rattle.aio_handlers.specs.Slots.{no_slot, handlers_at}
+use Rattle.aio_handlers.specs.StandsFor.{StandsFor}
+use Rattle.aio_handlers.proofs.Told.{handlers_at-without}
+use Rattle.aio_handlers.proofs.Answered.{apart_from}
+use Rattle.aio_handlers.proofs.Standing.{stands_given}
+use Rattle.aio_handlers.proofs.handlers.Handlers.next_ready.Goals as goal
+
+pub invariant_of-self : goal.invariant_of-self
+invariant_of-self c = record {
+  sized = c.self.invariant.sized;
+  live_room = c.self.invariant.live_room;
+  waiting_room = c.unlink.ensures.room ∙ c.self.invariant.waiting_room;
+  used_is = c.self.invariant.used_is;
+  used_fits = c.self.invariant.used_fits;
+  waiting_live = λ event h.
+      c.self.invariant.waiting_live event (contains-from_without event c.in_ok-event.event c.self.inside.waiting.items (sym (ap (contains event) c.unlink.ensures.items) ∙ h));
+  ids_below = c.self.invariant.ids_below;
+  ids_apart = c.self.invariant.ids_apart;
+  idle = λ still.
+      let walks : c.self.inside.walking ≡ true = ap (λ v. v.walking) c.self.view_is ∙ c.requires in
+      absurd (both_ways c.self.inside.walking still walks);
+}
+
+pub returns-clause-stands : goal.returns-clause-stands
+returns-clause-stands c = λ calls stands.
+    let slots = c.self.inside.slots.items in
+    let waiting = c.self.inside.waiting.items in
+    let event = c.in_ok-event.event in
+    let here = contains-first waiting event (sym c.in_ok-event.ensures.first) in
+    let low : event < 64 = omega (arith, c.first.ensures.linked.below event here, c.self.invariant.waiting_room) in
+    let apart = apart_from slots c.self.inside.live.items c.self.invariant.ids_apart event (c.self.invariant.waiting_live event here) in
+    let read = get_or_read slots event c.index-slot.result.now (omega (arith, c.self.invariant.sized)) c.index-slot.ensures no_slot in
+    let waits = ap (handlers_at slots) c.unlink.ensures.items
+    ∙ handlers_at-without slots event waiting (λ other h. apart other (c.self.invariant.waiting_live other h))
+    ∙ ap (λ (s : Slot). others s.id (handlers_at slots waiting)) (sym read) in
+    let stood = subst (λ v. StandsFor v calls) (sym c.self.view_is) stands in
+    stands_given (handlers_of c.self.inside) _ calls stood c.index-slot.result.now.id refl refl refl waits refl

@@ -1,0 +1,17 @@
+use Rattle.std.proofs.Common.{◌≡◌, Bool, true, false, cond, Some, None, is_some, refl, sym, ◌∙◌, ap}
+use Rattle.aio_chain.specs.LinkList.{contains}
+use Rattle.aio_model.specs.HandlerCalls.{Handler, on_event}
+use Rattle.aio_handlers.specs.Slots.{handler_at}
+use Rattle.aio_handlers.proofs.Told.{on_event-handlers_at}
+use Rattle.aio_handlers.proofs.handlers.Handlers.watch.Goals as goal
+
+some_is : (b : Bool) (h : Handler) → b ≡ is_some (cond b (Some h) None)
+some_is true h = refl
+some_is false h = refl
+
+pub returns : goal.returns
+returns c = λ event low.
+    let slots = c.self.inside.slots.items in
+    let live = c.self.inside.live.items in
+    c.bits_of.ensures event low ∙ some_is (contains event live) (handler_at slots event) ∙ ap is_some (sym (on_event-handlers_at slots event live))
+    ∙ ap (λ v. is_some (on_event event v.live)) c.self.view_is
