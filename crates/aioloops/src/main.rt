@@ -40,7 +40,7 @@ fn run(rt: &HostRuntime, words: &[String]) -> Result<u8, NoMemory> {
     let alloc = rt.alloc();
     let mut source = StdSource::build(rt.stdin())?;
     let mut sink = StdSink::output(rt.stdout())?;
-    let device = MemDevice::zeros(alloc, DEVICE)?;
+    let device = zeros(alloc, DEVICE)?;
     let clocks = clocks(alloc)?;
     let end = top(
         alloc,
@@ -52,6 +52,10 @@ fn run(rt: &HostRuntime, words: &[String]) -> Result<u8, NoMemory> {
         &OpenGate,
     );
     Ok(end.status())
+}
+
+fn zeros(alloc: Global, len: u32) -> Result<MemDevice, NoMemory> {
+    MemDevice::zeros(alloc, len)
 }
 
 fn clocks(alloc: Global) -> Result<Vec<StepClock>, NoMemory>
