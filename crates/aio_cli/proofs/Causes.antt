@@ -1,8 +1,6 @@
 -- Which answers are left where nothing failed.
-use Rattle.std.proofs.Common.{◌≡◌, inl, inr, ℕ, zero, suc, ◌<◌, ◌≤◌, List, [], ◌++◌, length, Option, Some, None, IfSome, refl, sym, ◌∙◌, ap, subst, arith, length-append}
-use Rattle.std.specs.Prelude.{IsSome}
+use Rattle.std.proofs.Common.{◌≡◌, ℕ, zero, suc, ◌<◌, ◌≤◌, List, ◌++◌, length, Option, Some, None, IfSome, Ok, Err, refl, sym, ◌∙◌, ap, subst, arith, length-append}
 use Rattle.std.proofs.lemmas.Option.{none-some, same_Some}
-use Rattle.std.proofs.lemmas.Bool.{cond-false, lt-leb}
 use Rattle.aio_model.specs.declared.replies.Placed.{Placed}
 use Rattle.aio_model.specs.declared.scripts.Script.{Script}
 use Rattle.aio_model.specs.SerialHistory.{eios_of}
@@ -10,79 +8,119 @@ use Rattle.aio_words.specs.Content.{Takes}
 use Rattle.aio_words.specs.Faults.{HasRisen, HasRisenBy}
 use Rattle.aio_words.proofs.ContentLemmas.{Takes_to_end}
 use Rattle.aio_words.proofs.FaultLemmas.{HasRisen-from_more}
-use Rattle.aio_script.specs.Text.{significant_lines}
-use Rattle.aio_script.specs.Grammar.{is_short, script_of_lines, script_of}
+use Rattle.aio_script.specs.declared.refusals.ScriptRefusal.{ScriptRefusal}
+use Rattle.aio_script.specs.Grammar.{script_said}
 use Rattle.aio_cli.specs.declared.answer.Answer.{Answer}
-use Rattle.aio_cli.specs.declared.answer.Answer.TheVariants.{Done, Errors, Usage, BadScript, ReadFault, WriteFault, NoMemory}
-use Rattle.aio_cli.specs.Answers.{IsRefusal, IsWhole, OnBadScript, OnCut, OnWritten}
-use Rattle.aio_cli.specs.Reading.{Says, SaysNone}
-use Rattle.aio_cli.specs.Run.{Runs}
+use Rattle.aio_cli.specs.declared.answer.Answer.TheVariants.{Done, Errors, Usage, BadScript, TooLong, TooLarge, ReadFault, WriteFault, NoMemory, DeviceFault}
+use Rattle.aio_cli.specs.Answers.{IsLengthRefusal, IsRefusal, IsWhole, OnBadScript, OnDeviceFault, OnRun, OnTooLarge, OnTooLong}
+use Rattle.aio_cli.specs.Reading.{IsText, IsTooLong, Refuses, Says, SaysFitting, SaysImage, SaysSome, longest_script}
 
 -- a fact for the bytes that are told, if they are
 pub told-each : (told : Option (List ℕ)) (P : List ℕ → Type 0) → ((bytes : List ℕ) → told ≡ Some bytes → P bytes) → IfSome told P
 told-each None P each = tt
 told-each (Some bytes) P each = each bytes refl
 
--- a text read to its end is all that there was
-whole-text : (before now : Option (List ℕ)) (bytes text : List ℕ) → before ≡ Some bytes → Takes before now text → IfSome now (λ left. left ≡ []) → bytes ≡ text
-whole-text before now bytes text told taken ended =
-    let P : Option (List ℕ) → Type 0 = λ known. IfSome known (λ all. all ≡ text) in
-    subst P told (Takes_to_end before now text taken ended)
+module _ (before now : Option (List ℕ)) (bytes : List ℕ) (told : before ≡ Some bytes) where
+  -- a text read to its end is all that there was
+  whole-text : (text : List ℕ) → IsText before now text → bytes ≡ text
+  whole-text text read =
+      let P : Option (List ℕ) → Type 0 = λ known. IfSome known (λ all. all ≡ text) in
+      subst P told (Takes_to_end before now text read.taken read.ended)
 
--- a text that is too long says nothing
-script_of-long : (text : List ℕ) → 1048576 < length text → script_of text ≡ None
-script_of-long text long = cond-false (is_short text) (script_of_lines (significant_lines text)) None (lt-leb (length text) 1048576 long)
+  longer : (now : Option (List ℕ)) (text : List ℕ) → Takes before now text → length text ≤ length bytes
+  longer None text taken = absurd (none-some bytes (sym taken ∙ told))
+  longer (Some left) text taken =
+      let same : text ++ left ≡ bytes = same_Some (text ++ left) bytes (sym taken ∙ told) in
+      omega (arith, length-append text left, ap length same)
 
-longer : (before now : Option (List ℕ)) (bytes text : List ℕ) → before ≡ Some bytes → Takes before now text → length text ≤ length bytes
-longer before None bytes text told taken = absurd (none-some bytes (sym taken ∙ told))
-longer before (Some left) bytes text told taken =
-    let same : text ++ left ≡ bytes = same_Some (text ++ left) bytes (sym taken ∙ told) in
-    omega (arith, length-append text left, ap length same)
+  says-whole : (script : Script) → Says before now script → script_said bytes ≡ Ok script
+  says-whole script said = ap script_said (whole-text said.text said.read) ∙ said.says
 
--- a text of which so much was read says nothing, if that part doesn't
-says_none-whole : (before now : Option (List ℕ)) (bytes : List ℕ) → before ≡ Some bytes → SaysNone before now → script_of bytes ≡ None
-says_none-whole before now bytes told none =
-    elim none.read.whole [
-      | inl ended ↦ ap script_of (whole-text before now bytes none.text told none.read.taken ended) ∙ none.says
-      | inr long ↦ script_of-long bytes (omega (arith, longer before now bytes none.text told none.read.taken))
-    ]
+  says-few : (script : Script) → Says before now script → length bytes ≤ longest_script
+  says-few script said = subst (λ text. length text ≤ longest_script) (sym (whole-text said.text said.read)) said.read.few
 
-says-whole : (before now : Option (List ℕ)) (bytes : List ℕ) (script : Script) → before ≡ Some bytes → Says before now script → script_of bytes ≡ Some script
-says-whole before now bytes script told said = ap script_of (whole-text before now bytes said.text told said.taken said.ended) ∙ said.says
+  refuses-whole : (refusal : ScriptRefusal) → Refuses before now refusal → script_said bytes ≡ Err refusal
+  refuses-whole refusal refused = ap script_said (whole-text refused.text refused.read) ∙ refused.says
 
-module _ (before now bytes_before bytes_now : Option (List ℕ)) (served : List Placed) (Writes Cuts : List ℕ → Type 0) (bytes : List ℕ) (told : before ≡ Some bytes) where
-  ran : {W : List ℕ → Type 0} → Runs before now bytes_before bytes_now served W → script_of bytes ≡ None → ⊥
-  ran run none = none-some run.script (sym none ∙ says-whole before now bytes run.script told run.said)
+  refuses-few : (refusal : ScriptRefusal) → Refuses before now refusal → length bytes ≤ longest_script
+  refuses-few refusal refused = subst (λ text. length text ≤ longest_script) (sym (whole-text refused.text refused.read)) refused.read.few
 
-  pub refused-only : (answer : Answer) → (answer ≡ Usage → ⊥) → (answer ≡ ReadFault → ⊥)
-      → OnWritten answer (Runs before now bytes_before bytes_now served Writes)
-      → OnCut answer (Runs before now bytes_before bytes_now served Cuts)
-      → script_of bytes ≡ None → IsRefusal answer
-  refused-only Done usage fault run cut none = absurd (ran run none)
-  refused-only (Errors n) usage fault run cut none = absurd (ran run none)
-  refused-only Usage usage fault run cut none = absurd (usage refl)
-  refused-only (BadScript refusal) usage fault run cut none = tt
-  refused-only ReadFault usage fault run cut none = absurd (fault refl)
-  refused-only WriteFault usage fault run cut none = absurd (ran cut none)
-  refused-only NoMemory usage fault run cut none = tt
+  too_long-longer : IsTooLong before now → longest_script < length bytes
+  too_long-longer long = omega (arith, longer now long.text long.taken, long.long)
 
-no_eio : (n before now : ℕ) → HasRisenBy n before now → (HasRisen before now → ⊥) → n ≡ 0
-no_eio zero before now risen still = refl
-no_eio (suc n) before now risen still = absurd (still (HasRisen-from_more (suc n) before now (omega arith) risen))
+  -- a text that says a script says no refusal
+  not-both : (script : Script) (refusal : ScriptRefusal) → script_said bytes ≡ Ok script → script_said bytes ≡ Err refusal → ⊥
+  not-both script refusal said refused = cc (said, refused)
 
-is_some-none : (o : Option Script) → IsSome o → o ≡ None → ⊥
-is_some-none None some none = cc
-is_some-none (Some script) some none = none-some script (sym none)
+  same-script : (one other : Script) → script_said bytes ≡ Ok one → script_said bytes ≡ Ok other → one ≡ other
+  same-script one other said again = cc (said, again)
 
-pub whole-only : (before now : Option (List ℕ)) (served : List Placed) (bytes : List ℕ) (faults_before faults_now : ℕ) (answer : Answer)
-    → before ≡ Some bytes → (answer ≡ Usage → ⊥) → (answer ≡ ReadFault → ⊥) → (answer ≡ WriteFault → ⊥)
-    → OnBadScript answer (SaysNone before now) → HasRisenBy (eios_of served) faults_before faults_now → (HasRisen faults_before faults_now → ⊥)
-    → IsSome (script_of bytes) → IsWhole answer served
-whole-only before now served bytes f g Done told usage read write bad eios still some = tt
-whole-only before now served bytes f g (Errors n) told usage read write bad eios still some = no_eio (eios_of served) f g eios still
-whole-only before now served bytes f g Usage told usage read write bad eios still some = absurd (usage refl)
-whole-only before now served bytes f g (BadScript refusal) told usage read write bad eios still some =
-    absurd (is_some-none (script_of bytes) some (says_none-whole before now bytes told bad))
-whole-only before now served bytes f g ReadFault told usage read write bad eios still some = absurd (read refl)
-whole-only before now served bytes f g WriteFault told usage read write bad eios still some = absurd (write refl)
-whole-only before now served bytes f g NoMemory told usage read write bad eios still some = tt
+  same-refusal : (one other : ScriptRefusal) → script_said bytes ≡ Err one → script_said bytes ≡ Err other → one ≡ other
+  same-refusal one other said again = cc (said, again)
+
+  module _ (extent size_before size_now : ℕ) where
+    pub long-only : (answer : Answer) → (answer ≡ Usage → ⊥) → (answer ≡ ReadFault → ⊥)
+        → OnBadScript answer (Refuses before now) → OnRun answer (SaysFitting before now extent)
+        → OnTooLarge answer (λ image size. SaysImage before now image × (size ≡ extent) × (size < image))
+        → OnDeviceFault answer (HasRisen size_before size_now × SaysSome before now)
+        → longest_script < length bytes → IsLengthRefusal answer
+    long-only Done usage fault bad ran large size long = absurd (omega (arith, long, says-few ran.script ran.said))
+    long-only (Errors n) usage fault bad ran large size long = absurd (omega (arith, long, says-few ran.script ran.said))
+    long-only Usage usage fault bad ran large size long = absurd (usage refl)
+    long-only (BadScript refusal) usage fault bad ran large size long = absurd (omega (arith, long, refuses-few refusal bad))
+    long-only TooLong usage fault bad ran large size long = tt
+    long-only (TooLarge i d) usage fault bad ran large size long = absurd (omega (arith, long, says-few large.0.script large.0.said))
+    long-only ReadFault usage fault bad ran large size long = absurd (fault refl)
+    long-only WriteFault usage fault bad ran large size long = absurd (omega (arith, long, says-few ran.script ran.said))
+    long-only NoMemory usage fault bad ran large size long = tt
+    long-only DeviceFault usage fault bad ran large size long = absurd (omega (arith, long, says-few size.1.script size.1.said))
+
+    pub refused-only : (answer : Answer) → (answer ≡ Usage → ⊥) → (answer ≡ ReadFault → ⊥)
+        → OnBadScript answer (Refuses before now) → OnTooLong answer (IsTooLong before now) → OnRun answer (SaysFitting before now extent)
+        → OnTooLarge answer (λ image size. SaysImage before now image × (size ≡ extent) × (size < image))
+        → OnDeviceFault answer (HasRisen size_before size_now × SaysSome before now)
+        → length bytes ≤ longest_script → (refusal : ScriptRefusal) → script_said bytes ≡ Err refusal → IsRefusal refusal answer
+    refused-only Done usage fault bad long ran large size few refusal says = absurd (not-both ran.script refusal (says-whole ran.script ran.said) says)
+    refused-only (Errors n) usage fault bad long ran large size few refusal says = absurd (not-both ran.script refusal (says-whole ran.script ran.said) says)
+    refused-only Usage usage fault bad long ran large size few refusal says = absurd (usage refl)
+    refused-only (BadScript told_so) usage fault bad long ran large size few refusal says = same-refusal told_so refusal (refuses-whole told_so bad) says
+    refused-only TooLong usage fault bad long ran large size few refusal says = absurd (omega (arith, few, too_long-longer long))
+    refused-only (TooLarge i d) usage fault bad long ran large size few refusal says = absurd (not-both large.0.script refusal (says-whole large.0.script large.0.said) says)
+    refused-only ReadFault usage fault bad long ran large size few refusal says = absurd (fault refl)
+    refused-only WriteFault usage fault bad long ran large size few refusal says = absurd (not-both ran.script refusal (says-whole ran.script ran.said) says)
+    refused-only NoMemory usage fault bad long ran large size few refusal says = tt
+    refused-only DeviceFault usage fault bad long ran large size few refusal says = absurd (not-both size.1.script refusal (says-whole size.1.script size.1.said) says)
+
+    no_eio : (n before now : ℕ) → HasRisenBy n before now → (HasRisen before now → ⊥) → n ≡ 0
+    no_eio zero before now risen still = refl
+    no_eio (suc n) before now risen still = absurd (still (HasRisen-from_more (suc n) before now (omega arith) risen))
+
+    fits-same : (script : Script) → script_said bytes ≡ Ok script → SaysFitting before now extent → script.image ≤ extent
+    fits-same script says fitting =
+        subst (λ (s : Script). s.image ≤ extent) (same-script fitting.script script (says-whole fitting.script fitting.said) says) fitting.fits
+
+    image-same : (script : Script) (image : ℕ) → script_said bytes ≡ Ok script → SaysImage before now image → image ≡ script.image
+    image-same script image says large =
+        sym large.size ∙ ap (λ (s : Script). s.image) (same-script large.script script (says-whole large.script large.said) says)
+
+    pub whole-only : (served : List Placed) (faults_before faults_now : ℕ) (answer : Answer)
+        → (answer ≡ Usage → ⊥) → (answer ≡ ReadFault → ⊥) → (answer ≡ WriteFault → ⊥)
+        → HasRisenBy (eios_of served) faults_before faults_now → (HasRisen faults_before faults_now → ⊥) → (HasRisen size_before size_now → ⊥)
+        → OnBadScript answer (Refuses before now) → OnTooLong answer (IsTooLong before now) → OnRun answer (SaysFitting before now extent)
+        → OnTooLarge answer (λ image size. SaysImage before now image × (size ≡ extent) × (size < image))
+        → OnDeviceFault answer (HasRisen size_before size_now × SaysSome before now)
+        → length bytes ≤ longest_script → (script : Script) → script_said bytes ≡ Ok script → IsWhole script.image extent answer served
+    whole-only served f g Done usage read write eios still told_size bad long ran large size few script says = fits-same script says ran
+    whole-only served f g (Errors n) usage read write eios still told_size bad long ran large size few script says =
+        (fits-same script says ran, no_eio (eios_of served) f g eios still)
+    whole-only served f g Usage usage read write eios still told_size bad long ran large size few script says = absurd (usage refl)
+    whole-only served f g (BadScript refusal) usage read write eios still told_size bad long ran large size few script says =
+        absurd (not-both script refusal says (refuses-whole refusal bad))
+    whole-only served f g TooLong usage read write eios still told_size bad long ran large size few script says = absurd (omega (arith, few, too_long-longer long))
+    whole-only served f g (TooLarge i d) usage read write eios still told_size bad long ran large size few script says =
+        let image : i ≡ script.image = image-same script i says large.0 in
+        (image, large.1, omega (arith, image, large.1, large.2))
+    whole-only served f g ReadFault usage read write eios still told_size bad long ran large size few script says = absurd (read refl)
+    whole-only served f g WriteFault usage read write eios still told_size bad long ran large size few script says = absurd (write refl)
+    whole-only served f g NoMemory usage read write eios still told_size bad long ran large size few script says = tt
+    whole-only served f g DeviceFault usage read write eios still told_size bad long ran large size few script says = absurd (told_size size.0)

@@ -1,8 +1,8 @@
 -- The loop that serves a script's lines: what holds before each line, and how it goes on.
-use Rattle.std.proofs.Common.{◌≡◌, ℕ, ◌+◌, ◌<◌, ◌≤◌, ◌==◌, ◌&&◌, false, cond, List, [], ◌∷◌, ◌++◌, length, take, drop, get_or, Option, slice_index, refl, sym, ◌∙◌, ap, subst, arith}
+use Rattle.std.proofs.Common.{◌≡◌, ℕ, ◌+◌, ◌<◌, ◌≤◌, true, false, cond, List, [], ◌∷◌, ◌++◌, length, drop, get_or, Option, slice_index, refl, sym, ◌∙◌, ap, subst, arith}
 use Rattle.std.specs.List.{AllByRecursion}
-use Rattle.std.proofs.lemmas.List.{length_push, length-take}
-use Rattle.std.proofs.lemmas.List.Sums.{sum_by-append, sum_by-cons, count_by-le-length}
+use Rattle.std.proofs.lemmas.List.{length_push}
+use Rattle.std.proofs.lemmas.List.Sums.{sum_by-append, sum_by-cons}
 use Rattle.std.proofs.lemmas.List.Elements.{All-from_recursion}
 use Rattle.aio_model.specs.declared.requests.Request.{Request}
 use Rattle.aio_model.specs.declared.replies.Placed.{Placed}
@@ -10,14 +10,16 @@ use Rattle.aio_model.specs.declared.scripts.Step.{Step}
 use Rattle.aio_model.specs.declared.scripts.What.{What}
 use Rattle.aio_model.specs.declared.scripts.What.TheVariants.{Ask, Delay, Move}
 use Rattle.aio_model.specs.Asked.{is_ask}
+use Rattle.aio_model.specs.Serving.{length_of}
 use Rattle.aio_model.specs.SerialHistory.{is_eio, eios_of}
 use Rattle.aio_words.specs.Faults.{HasRisenBy}
-use Rattle.aio_script.specs.Bounds.{IsOfFirst}
 use Rattle.img_requests.specs.declared.journal.Entry.{Entry}
 use Rattle.img_requests.specs.ImageState.{ImageState}
 use Rattle.img_requests.specs.Journal.{entries_of}
 use Rattle.img_requests.specs.Progress.{Replied}
 use Rattle.aio_cli.specs.Buffers.{HasRoomFor, RoomsFor}
+use Rattle.aio_cli.specs.Streams.{AreCounted, IsOneOf, IsSmall}
+use Rattle.aio_cli.proofs.Streams.{requests_of-due}
 use Rattle.aio_cli.proofs.SoFar.{SoFar, SoFar-begin, SoFar-more, SoFar-skip}
 use Rattle.aio_cli.proofs.Rooms.{RoomsFor-next}
 
@@ -33,8 +35,8 @@ pub record Going {D : Type 0} (bytes : D → Option (List ℕ)) (faults size_fau
   pub few : length served ≤ k
 
 -- what holds of the line at k
-pub own_at : (lines : List Step) (k : ℕ) (step : Step) → AllByRecursion IsOfFirst lines → k < length lines → step ≡ get_or lines k step → IsOfFirst step
-own_at lines k step own inside here = subst IsOfFirst (sym here) (All-from_recursion IsOfFirst lines own k step inside)
+pub own_at : (n : ℕ) (lines : List Step) (k : ℕ) (step : Step) → AllByRecursion (IsOneOf n) lines → k < length lines → step ≡ get_or lines k step → IsOneOf n step
+own_at n lines k step own inside here = subst (IsOneOf n) (sym here) (All-from_recursion (IsOneOf n) lines own k step inside)
 
 eios_of-push : (served : List Placed) (placed : Placed) → eios_of (served ++ placed ∷ []) ≡ eios_of served + cond (is_eio placed.reply) 1 0
 eios_of-push served placed =
@@ -66,18 +68,16 @@ module _ {D : Type 0} (bytes : D → Option (List ℕ)) (faults size_faults exte
     room-here = (RoomsFor-next lines k step (bytes_here ∷ buffers) inside here going.rooms).0
 
     -- the stream has a request left
-    pub due-here : AllByRecursion IsOfFirst lines → first.requests ≡ length lines ∷ [] → entries_of step.stream image.journal < slice_index image.requests step.stream
-    due-here own due =
-        let zeroth : step.stream ≡ 0 = (own_at lines k step own inside here).0 in
-        let requests : image.requests ≡ length lines ∷ [] = ap (λ (s : ImageState D). s.requests) going.frame ∙ due in
-        let all : slice_index image.requests step.stream ≡ length lines =
-        ap (slice_index image.requests) zeroth ∙ ap (λ some. slice_index some 0) requests in
-        omega (
-          arith,
-          going.so_far.counted step.stream,
-          count_by-le-length (λ (s : Step). s.stream == step.stream && is_ask s.what) (take k lines),
-          length-take k lines,
-        )
+    pub due-here : AreCounted first.requests lines → is_ask step.what ≡ true → entries_of step.stream image.journal < slice_index image.requests step.stream
+    due-here due asks =
+        let requests : slice_index image.requests step.stream ≡ slice_index first.requests step.stream =
+        ap (λ (s : ImageState D). slice_index s.requests step.stream) going.frame in
+        omega (arith, requests, due step.stream, going.so_far.counted step.stream, requests_of-due lines k step inside here asks)
+
+    pub known-here : AllByRecursion (IsOneOf (length first.requests)) lines → step.stream < length image.requests
+    known-here own =
+        let requests : length image.requests ≡ length first.requests = ap (λ (s : ImageState D). length s.requests) going.frame in
+        omega (arith, requests, (own_at (length first.requests) lines k step own inside here).known)
 
     -- a line that asks
     pub Going-more : (request : Request) (next : ImageState D) (placed : Placed)
@@ -121,6 +121,12 @@ module _ {D : Type 0} (bytes : D → Option (List ℕ)) (faults size_faults exte
       extents = going.extents;
       few = omega (arith, going.few);
     }
+
+pub is_ask-ask : (what : What) (request : Request) → what ≡ Ask request → is_ask what ≡ true
+is_ask-ask what request asks = ap is_ask asks
+
+pub small-ask : (what : What) (request : Request) → what ≡ Ask request → IsSmall what → length_of request ≤ 65536
+small-ask what request asks small = subst IsSmall asks small
 
 pub is_ask-other : (what : What) → ((request : Request) → what ≡ Ask request → ⊥) → is_ask what ≡ false
 is_ask-other (Ask request) other = absurd (other request refl)

@@ -4,4 +4,5 @@ pub mod Printing
 pub mod Rooms
 pub mod Served
 pub mod SoFar
+pub mod Streams
 pub mod Taken

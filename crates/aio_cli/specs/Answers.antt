@@ -1,20 +1,24 @@
 -- What an answer of the program says.
-use Rattle.std.specs.Prelude.{◌≡◌, ℕ, ◌<◌, List, Option}
+use Rattle.std.specs.Prelude.{◌≡◌, ℕ, ◌<◌, ◌≤◌, List, Option}
 use Rattle.aio_model.specs.declared.replies.Placed.{Placed}
 use Rattle.aio_model.specs.SerialHistory.{errors_of, eios_of}
 use Rattle.aio_words.specs.Faults.{HasRisen}
-use Rattle.aio_cli.specs.Reading.{SaysNone}
+use Rattle.aio_script.specs.declared.refusals.ScriptRefusal.{ScriptRefusal}
+use Rattle.aio_cli.specs.Reading.{IsTooLong, Refuses}
 use Rattle.aio_cli.specs.declared.answer.Answer.{Answer}
-use Rattle.aio_cli.specs.declared.answer.Answer.TheVariants.{Done, Errors, Usage, BadScript, ReadFault, WriteFault, NoMemory}
+use Rattle.aio_cli.specs.declared.answer.Answer.TheVariants.{Done, Errors, Usage, BadScript, TooLong, TooLarge, ReadFault, WriteFault, NoMemory, DeviceFault}
 
 abbrev pub status_of : Answer → ℕ
 status_of Done = 0
 status_of (Errors n) = 1
 status_of Usage = 2
 status_of (BadScript refusal) = 3
+status_of TooLong = 4
+status_of (TooLarge image device) = 5
 status_of ReadFault = 6
 status_of WriteFault = 7
 status_of NoMemory = 8
+status_of DeviceFault = 9
 
 -- a fact for answers at which the script was served and all was written
 abbrev pub OnWritten : Answer → Type 0 → Type 0
@@ -34,17 +38,56 @@ OnUnserved (Errors n) P = Unit {0}
 OnUnserved WriteFault P = Unit {0}
 OnUnserved answer P = P
 
+-- a fact for answers that come before the device is asked for anything
+abbrev pub OnUnasked : Answer → Type 0 → Type 0
+OnUnasked Usage P = P
+OnUnasked (BadScript refusal) P = P
+OnUnasked TooLong P = P
+OnUnasked ReadFault P = P
+OnUnasked answer P = Unit {0}
+
 -- a fact for the answer that the text isn't a script
-abbrev pub OnBadScript : Answer → Type 0 → Type 0
-OnBadScript (BadScript refusal) P = P
+abbrev pub OnBadScript : Answer → (ScriptRefusal → Type 0) → Type 0
+OnBadScript (BadScript refusal) P = P refusal
 OnBadScript answer P = Unit {0}
+
+-- a fact for the answer that the text is too long
+abbrev pub OnTooLong : Answer → Type 0 → Type 0
+OnTooLong TooLong P = P
+OnTooLong answer P = Unit {0}
+
+-- a fact for the answer that the image is too large: the image's bytes and the device's
+abbrev pub OnTooLarge : Answer → (ℕ → ℕ → Type 0) → Type 0
+OnTooLarge (TooLarge image device) P = P image device
+OnTooLarge answer P = Unit {0}
+
+-- a fact for the answer that the device didn't tell its length
+abbrev pub OnDeviceFault : Answer → Type 0 → Type 0
+OnDeviceFault DeviceFault P = P
+OnDeviceFault answer P = Unit {0}
 
 -- an answer that can come once a script was read
 abbrev pub IsOfRun : Answer → Type 0
 IsOfRun Usage = ⊥
 IsOfRun (BadScript refusal) = ⊥
+IsOfRun TooLong = ⊥
 IsOfRun ReadFault = ⊥
 IsOfRun answer = Unit {0}
+
+-- an answer that can come once the device is known to hold the image
+abbrev pub IsOfServing : Answer → Type 0
+IsOfServing Done = Unit {0}
+IsOfServing (Errors n) = Unit {0}
+IsOfServing WriteFault = Unit {0}
+IsOfServing NoMemory = Unit {0}
+IsOfServing answer = ⊥
+
+-- a fact for answers at which the script was served
+abbrev pub OnRun : Answer → Type 0 → Type 0
+OnRun Done P = P
+OnRun (Errors n) P = P
+OnRun WriteFault P = P
+OnRun answer P = Unit {0}
 
 -- the answer tells whether replies are errors, and how many
 abbrev pub TellsErrors : Answer → List Placed → Type 0
@@ -52,18 +95,26 @@ TellsErrors Done served = errors_of served ≡ 0
 TellsErrors (Errors n) served = (n ≡ errors_of served) × (0 < n)
 TellsErrors answer served = Unit {0}
 
--- an answer to a text that is no script
-abbrev pub IsRefusal : Answer → Type 0
-IsRefusal (BadScript refusal) = Unit {0}
-IsRefusal NoMemory = Unit {0}
-IsRefusal answer = ⊥
+-- an answer to a text that is refused so
+abbrev pub IsRefusal : ScriptRefusal → Answer → Type 0
+IsRefusal refusal (BadScript told) = told ≡ refusal
+IsRefusal refusal NoMemory = Unit {0}
+IsRefusal refusal answer = ⊥
 
--- an answer to a script where nothing failed: each error is that of a request past the image's end
-abbrev pub IsWhole : Answer → List Placed → Type 0
-IsWhole Done served = Unit {0}
-IsWhole (Errors n) served = eios_of served ≡ 0
-IsWhole NoMemory served = Unit {0}
-IsWhole answer served = ⊥
+-- an answer to a text that is too long
+abbrev pub IsLengthRefusal : Answer → Type 0
+IsLengthRefusal TooLong = Unit {0}
+IsLengthRefusal NoMemory = Unit {0}
+IsLengthRefusal answer = ⊥
+
+-- An answer to a script where nothing failed: each error is that of a request past the image's end, and an image that
+-- is larger than the device is refused.
+abbrev pub IsWhole : ℕ → ℕ → Answer → List Placed → Type 0
+IsWhole image extent Done served = image ≤ extent
+IsWhole image extent (Errors n) served = (image ≤ extent) × (eios_of served ≡ 0)
+IsWhole image extent (TooLarge i d) served = (i ≡ image) × (d ≡ extent) × (extent < image)
+IsWhole image extent NoMemory served = Unit {0}
+IsWhole image extent answer served = ⊥
 
 -- an answer at which the script was served
 abbrev pub IsServed : Answer → Type 0
@@ -75,6 +126,7 @@ IsServed answer = ⊥
 -- why no script was read
 abbrev pub FailsReading : Option (List ℕ) → Option (List ℕ) → ℕ → ℕ → Answer → Type 0
 FailsReading before now faults_before faults_now ReadFault = HasRisen faults_before faults_now
-FailsReading before now faults_before faults_now (BadScript refusal) = SaysNone before now
+FailsReading before now faults_before faults_now (BadScript refusal) = Refuses before now refusal
+FailsReading before now faults_before faults_now TooLong = IsTooLong before now
 FailsReading before now faults_before faults_now NoMemory = Unit {0}
 FailsReading before now faults_before faults_now answer = ⊥

@@ -2,3 +2,4 @@ pub mod Answers
 pub mod Buffers
 pub mod Reading
 pub mod Run
+pub mod Streams

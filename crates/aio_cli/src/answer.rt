@@ -14,12 +14,18 @@ pub enum Answer {
     Usage,
     /// The text isn't a script.
     BadScript(ScriptRefusal),
+    /// The text has more bytes than a script may have.
+    TooLong,
+    /// The script's image has so many bytes, and the device so many, which are fewer.
+    TooLarge(u64, u64),
     /// The text couldn't be read.
     ReadFault,
     /// The script was served, and not all of its replies could be written.
     WriteFault,
     /// Memory ran out before anything was served.
     NoMemory,
+    /// The device didn't tell how many bytes it has.
+    DeviceFault,
 }
 
 /// What a run of the program leaves: how it ended, the device, and the replies in the order of their places. There are
@@ -43,9 +49,12 @@ impl<D> End<D> {
             Answer::Errors(_) => 1,
             Answer::Usage => 2,
             Answer::BadScript(_) => 3,
+            Answer::TooLong => 4,
+            Answer::TooLarge(_, _) => 5,
             Answer::ReadFault => 6,
             Answer::WriteFault => 7,
             Answer::NoMemory => 8,
+            Answer::DeviceFault => 9,
         }
     }
 }

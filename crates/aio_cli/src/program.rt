@@ -1,11 +1,13 @@
-ghost use Rattle.std.specs.Prelude.{◌≡◌, ◌≢◌, ◌↔◌, ◌≤◌, [], List, ℕ, length, vec_len, IfOk, IfErr, IfSome, IsSome, None};
+ghost use Rattle.std.specs.Prelude.{◌≡◌, ◌≢◌, ◌↔◌, ◌≤◌, ◌<◌, [], List, ℕ, length, vec_len, Ok, Err, IfOk, IfErr, IfSome};
+ghost use Rattle.aio_model.specs.declared.scripts.Script.{Script};
+ghost use Rattle.aio_script.specs.declared.refusals.ScriptRefusal.{ScriptRefusal};
 ghost use Rattle.aio_model.specs.SerialHistory.{eios_of};
 ghost use Rattle.aio_words.specs.Content.{with_piece, AppendsFront};
 ghost use Rattle.aio_words.specs.Faults.{HasRisen, HasRisenBy};
 ghost use Rattle.aio_script.specs.Bounds.{IsBounded};
-ghost use Rattle.aio_script.specs.Grammar.{script_of};
-ghost use Rattle.aio_cli.specs.Answers.{FailsReading, IsRefusal, IsWhole, OnBadScript, OnCut, OnUnserved, OnWritten, TellsErrors};
-ghost use Rattle.aio_cli.specs.Reading.{Says, SaysNone, TakesAtMost, most_read};
+ghost use Rattle.aio_script.specs.Grammar.{script_said};
+ghost use Rattle.aio_cli.specs.Answers.{FailsReading, IsLengthRefusal, IsRefusal, IsWhole, OnBadScript, OnCut, OnDeviceFault, OnRun, OnTooLarge, OnTooLong, OnUnasked, OnUnserved, OnWritten, TellsErrors};
+ghost use Rattle.aio_cli.specs.Reading.{IsTooLong, Refuses, Says, SaysFitting, SaysImage, SaysSome, TakesAtMost, longest_script, most_read};
 ghost use Rattle.aio_cli.specs.Run.{Runs};
 
 use crate::read::{ReadFail, read_text};
@@ -15,6 +17,9 @@ use aio_model::Script;
 use aio_script::{ScriptFail, read_script};
 use aio_words::{Clock, Device, Gate, Sink, Source};
 use std::alloc::Global;
+
+/// How many bytes a script may have.
+const LONGEST_SCRIPT: usize = 1_048_576;
 
 /// Reads the script that a source's text says, or tells the answer that stands in its place.
 fn read_all<S: Source>(alloc: Global, source: &mut S) -> Result<Script, Answer>
@@ -30,6 +35,9 @@ fn read_all<S: Source>(alloc: Global, source: &mut S) -> Result<Script, Answer>
         Err(ReadFail::Fault) => return Err(Answer::ReadFault),
         Err(ReadFail::NoMemory) => return Err(Answer::NoMemory),
     };
+    if text.len() > LONGEST_SCRIPT {
+        return Err(Answer::TooLong);
+    }
     match read_script(alloc, text.as_slice()) {
         Ok(script) => Ok(script),
         Err(ScriptFail::Refused(refusal)) => Err(Answer::BadScript(refusal)),
@@ -45,26 +53,30 @@ fn run_words<S: Source, K: Sink, D: Device>(
     sink: &mut K,
     device: D,
 ) -> End<D>
-    requires large { 1048576 ≤ D.extent device }
     ensures written { OnWritten result.answer
         (Runs (S.left source.old) (S.left source.new) (D.bytes device) (D.bytes result.device) result.served.items
         (λ text. K.held sink.new ≡ with_piece text (K.held sink.old))) }
     ensures cut { OnCut result.answer
         (Runs (S.left source.old) (S.left source.new) (D.bytes device) (D.bytes result.device) result.served.items
         (AppendsFront (K.held sink.old) (K.held sink.new))) }
-    ensures unserved { OnUnserved result.answer ((sink.new ≡ sink.old) × (result.device ≡ device) × (result.served.items ≡ [])) }
+    ensures unserved { OnUnserved result.answer ((sink.new ≡ sink.old) × (D.bytes result.device ≡ D.bytes device) × (result.served.items ≡ [])) }
+    ensures unasked { OnUnasked result.answer (result.device ≡ device) }
     ensures errors { TellsErrors result.answer result.served.items }
     ensures eios { HasRisenBy (eios_of result.served.items) (D.faults device) (D.faults result.device) }
     ensures usage { (result.answer ≡ Answer.Usage) ↔ (words.now ≢ []) }
     ensures usage_source { result.answer ≡ Answer.Usage → source.new ≡ source.old }
-    ensures bad_script { OnBadScript result.answer (SaysNone (S.left source.old) (S.left source.new)) }
+    ensures bad_script { OnBadScript result.answer (Refuses (S.left source.old) (S.left source.new)) }
+    ensures too_long { OnTooLong result.answer (IsTooLong (S.left source.old) (S.left source.new)) }
+    ensures device_fault { OnDeviceFault result.answer (HasRisen (D.size_faults device) (D.size_faults result.device) × SaysSome (S.left source.old) (S.left source.new)) }
+    ensures fits { OnRun result.answer (SaysFitting (S.left source.old) (S.left source.new) (D.extent device)) }
+    ensures too_large { OnTooLarge result.answer (λ image size. SaysImage (S.left source.old) (S.left source.new) image × (size ≡ D.extent device) × (size < image)) }
     ensures read_fault { result.answer ≡ Answer.ReadFault → HasRisen (S.faults source.old) (S.faults source.new) }
     ensures write_fault { result.answer ≡ Answer.WriteFault → HasRisen (K.faults sink.old) (K.faults sink.new) }
     ensures taken { TakesAtMost most_read (S.left source.old) (S.left source.new) }
     ensures source_counted { S.faults source.old ≤ S.faults source.new }
     ensures sink_counted { K.faults sink.old ≤ K.faults sink.new }
     ensures device_counted { D.faults device ≤ D.faults result.device }
-    ensures sizes { D.size_faults result.device ≡ D.size_faults device }
+    ensures sizes { D.size_faults device ≤ D.size_faults result.device }
     ensures extent { D.extent result.device ≡ D.extent device }
 {
     if !words.is_empty() {
@@ -79,9 +91,11 @@ fn run_words<S: Source, K: Sink, D: Device>(
 /// Does all that the program does: reads a script from the source, serves its requests on the device, and writes the
 /// replies to the sink.
 ///
-/// The words are those of the command line behind the program's name. The clocks and the gate aren't used yet.
-/// The device comes back at every answer. An answer is looked for in this order: Usage, ReadFault, BadScript,
-/// and once the script was served WriteFault; NoMemory may stand in place of any from the reading to the serving.
+/// The words are those of the command line behind the program's name. The clocks and the gate aren't used yet: a line
+/// that asks for a delay or a move is passed over, and requests are served in the order of their lines.
+/// The device comes back at every answer. An answer is looked for in this order: Usage, then ReadFault or TooLong,
+/// BadScript, DeviceFault, TooLarge, and once the script was served WriteFault; NoMemory may stand in place of any from
+/// the reading to the serving.
 pub fn top<S: Source, K: Sink, D: Device + Send, C: Clock + Send + Drop, G: Gate + Sync>(
     alloc: Global,
     words: &[String],
@@ -92,7 +106,6 @@ pub fn top<S: Source, K: Sink, D: Device + Send, C: Clock + Send + Drop, G: Gate
     gate: &G,
 ) -> End<D>
     requires sixteen { vec_len clocks ≡ 16 }
-    requires large { 1048576 ≤ D.extent device }
 
     // At Done and Errors all of the printed text was written.
     ensures written { OnWritten result.answer
@@ -103,7 +116,8 @@ pub fn top<S: Source, K: Sink, D: Device + Send, C: Clock + Send + Drop, G: Gate
         (Runs (S.left source.old) (S.left source.new) (D.bytes device) (D.bytes result.device) result.served.items
         (AppendsFront (K.held sink.old) (K.held sink.new))) }
     // At every other answer nothing was served and nothing written.
-    ensures unserved { OnUnserved result.answer ((sink.new ≡ sink.old) × (result.device ≡ device) × (result.served.items ≡ [])) }
+    ensures unserved { OnUnserved result.answer ((sink.new ≡ sink.old) × (D.bytes result.device ≡ D.bytes device) × (result.served.items ≡ [])) }
+    ensures unasked { OnUnasked result.answer (result.device ≡ device) }
 
     ensures errors { TellsErrors result.answer result.served.items }
     ensures eios { HasRisenBy (eios_of result.served.items) (D.faults device) (D.faults result.device) }
@@ -111,7 +125,11 @@ pub fn top<S: Source, K: Sink, D: Device + Send, C: Clock + Send + Drop, G: Gate
     // When each answer comes.
     ensures usage { (result.answer ≡ Answer.Usage) ↔ (words.now ≢ []) }
     ensures usage_source { result.answer ≡ Answer.Usage → source.new ≡ source.old }
-    ensures bad_script { OnBadScript result.answer (SaysNone (S.left source.old) (S.left source.new)) }
+    ensures bad_script { OnBadScript result.answer (Refuses (S.left source.old) (S.left source.new)) }
+    ensures too_long { OnTooLong result.answer (IsTooLong (S.left source.old) (S.left source.new)) }
+    ensures device_fault { OnDeviceFault result.answer (HasRisen (D.size_faults device) (D.size_faults result.device) × SaysSome (S.left source.old) (S.left source.new)) }
+    ensures fits { OnRun result.answer (SaysFitting (S.left source.old) (S.left source.new) (D.extent device)) }
+    ensures too_large { OnTooLarge result.answer (λ image size. SaysImage (S.left source.old) (S.left source.new) image × (size ≡ D.extent device) × (size < image)) }
     ensures read_fault { result.answer ≡ Answer.ReadFault → HasRisen (S.faults source.old) (S.faults source.new) }
     ensures write_fault { result.answer ≡ Answer.WriteFault → HasRisen (K.faults sink.old) (K.faults sink.new) }
 
@@ -119,17 +137,23 @@ pub fn top<S: Source, K: Sink, D: Device + Send, C: Clock + Send + Drop, G: Gate
     ensures source_counted { S.faults source.old ≤ S.faults source.new }
     ensures sink_counted { K.faults sink.old ≤ K.faults sink.new }
     ensures device_counted { D.faults device ≤ D.faults result.device }
-    ensures sizes { D.size_faults result.device ≡ D.size_faults device }
+    ensures sizes { D.size_faults device ≤ D.size_faults result.device }
     ensures extent { D.extent result.device ≡ D.extent device }
 
-    // Where no read failed, a text that says no script is answered so.
+    // Where no read failed, a text that is too long or says no script is answered so.
+    ensures long { words.now ≡ [] → (HasRisen (S.faults source.old) (S.faults source.new) → ⊥)
+        → IfSome (S.left source.old) (λ text. longest_script < length text → IsLengthRefusal result.answer) }
     ensures refused { words.now ≡ [] → (HasRisen (S.faults source.old) (S.faults source.new) → ⊥)
-        → IfSome (S.left source.old) (λ text. script_of text ≡ None → IsRefusal result.answer) }
+        → IfSome (S.left source.old) (λ text. length text ≤ longest_script
+        → (refusal : ScriptRefusal) → script_said text ≡ Err refusal → IsRefusal refusal result.answer) }
 
-    // Where nothing failed, a text that says a script is served, and each error is that of a request past the end.
+    // Where nothing failed, a text that says a script is served if the device holds its image, and each error is that
+    // of a request past the end.
     ensures complete { words.now ≡ [] → (HasRisen (S.faults source.old) (S.faults source.new) → ⊥)
         → (HasRisen (K.faults sink.old) (K.faults sink.new) → ⊥) → (HasRisen (D.faults device) (D.faults result.device) → ⊥)
-        → IfSome (S.left source.old) (λ text. IsSome (script_of text) → IsWhole result.answer result.served.items) }
+        → (HasRisen (D.size_faults device) (D.size_faults result.device) → ⊥)
+        → IfSome (S.left source.old) (λ text. length text ≤ longest_script
+        → (script : Script) → script_said text ≡ Ok script → IsWhole script.image (D.extent device) result.answer result.served.items) }
 {
     drop(clocks);
     let _ = gate;

@@ -5,16 +5,16 @@ ghost use Rattle.aio_model.specs.SerialHistory.{asked_name, placed_name, eios_of
 ghost use Rattle.aio_words.specs.Content.{with_piece, AppendsFront};
 ghost use Rattle.aio_words.specs.Faults.{HasRisen, HasRisenBy};
 ghost use Rattle.aio_script.specs.Bounds.{IsBounded};
-ghost use Rattle.aio_cli.specs.Answers.{IsOfRun, IsServed, OnCut, OnUnserved, OnWritten, TellsErrors};
+ghost use Rattle.aio_cli.specs.Answers.{IsOfRun, IsOfServing, IsServed, OnCut, OnDeviceFault, OnRun, OnTooLarge, OnUnserved, OnWritten, TellsErrors};
 ghost use Rattle.aio_cli.specs.Buffers.{RoomsFor};
 ghost use Rattle.aio_cli.specs.Run.{Serves};
 
 use crate::print::{errors_in, print_replies};
-use crate::serve::{prepare_buffers, serve_lines};
+use crate::serve::{count_requests, prepare_buffers, serve_lines};
 use crate::{Answer, End};
 use aio_model::{Placed, Script, Step, Unmade};
 use aio_script::WriteFault;
-use aio_words::{Device, Sink};
+use aio_words::{Device, Failed, Sink};
 use img_requests::Image;
 use std::alloc::{AllocError, Global};
 use std::collections::VecDeque;
@@ -80,7 +80,8 @@ fn serve_script<D: Device>(
         buffers,
         served: mut replies,
     } = room;
-    let mut image = Image::build(alloc, device, script.image, &[lines.len() as u32])?;
+    let requests = count_requests(lines);
+    let mut image = Image::build(alloc, device, script.image, &requests)?;
     serve_lines(&mut image, lines, buffers, &mut replies);
     Ok(Served {
         device: image.into_device(),
@@ -88,8 +89,8 @@ fn serve_script<D: Device>(
     })
 }
 
-/// Serves a script on a device, and prints the replies.
-pub(crate) fn run_script<K: Sink, D: Device>(
+/// Serves a script on a device that is known to hold its image, and prints the replies.
+fn run_fitting<K: Sink, D: Device>(
     alloc: Global,
     script: &Script,
     sink: &mut K,
@@ -97,7 +98,7 @@ pub(crate) fn run_script<K: Sink, D: Device>(
 ) -> End<D>
     requires bounded { IsBounded script.now }
     requires fits { script.now.image ≤ D.extent device }
-    ensures of_run { IsOfRun result.answer }
+    ensures of_run { IsOfServing result.answer }
     ensures written { OnWritten result.answer
         (Serves script.now (D.bytes device) (D.bytes result.device) result.served.items
         × (K.held sink.new ≡ with_piece (printed_text (asked script.now.lines) result.served.items) (K.held sink.old))) }
@@ -121,6 +122,45 @@ pub(crate) fn run_script<K: Sink, D: Device>(
                 answer,
                 device,
                 served: replies,
+            }
+        }
+    }
+}
+
+/// Serves a script on a device, where that is large enough, and prints the replies.
+pub(crate) fn run_script<K: Sink, D: Device>(
+    alloc: Global,
+    script: &Script,
+    sink: &mut K,
+    mut device: D,
+) -> End<D>
+    requires bounded { IsBounded script.now }
+    ensures of_run { IsOfRun result.answer }
+    ensures written { OnWritten result.answer
+        (Serves script.now (D.bytes device) (D.bytes result.device) result.served.items
+        × (K.held sink.new ≡ with_piece (printed_text (asked script.now.lines) result.served.items) (K.held sink.old))) }
+    ensures cut { OnCut result.answer
+        (Serves script.now (D.bytes device) (D.bytes result.device) result.served.items
+        × AppendsFront (K.held sink.old) (K.held sink.new) (printed_text (asked script.now.lines) result.served.items)) }
+    ensures unserved { OnUnserved result.answer ((sink.new ≡ sink.old) × (D.bytes result.device ≡ D.bytes device) × (result.served.items ≡ [])) }
+    ensures errors { TellsErrors result.answer result.served.items }
+    ensures eios { HasRisenBy (eios_of result.served.items) (D.faults device) (D.faults result.device) }
+    ensures device_counted { D.faults device ≤ D.faults result.device }
+    ensures sizes { D.size_faults device ≤ D.size_faults result.device }
+    ensures extent { D.extent result.device ≡ D.extent device }
+    ensures sink_counted { K.faults sink.old ≤ K.faults sink.new }
+    ensures write_fault { OnCut result.answer (HasRisen (K.faults sink.old) (K.faults sink.new)) }
+    ensures device_fault { OnDeviceFault result.answer (HasRisen (D.size_faults device) (D.size_faults result.device)) }
+    ensures too_large { OnTooLarge result.answer (λ image size. (image ≡ script.now.image) × (size ≡ D.extent device) × (size < image)) }
+    ensures fits { OnRun result.answer (script.now.image ≤ D.extent device) }
+{
+    match device.size() {
+        Err(Failed) => unserved(alloc, Answer::DeviceFault, device),
+        Ok(size) => {
+            if script.image > size {
+                unserved(alloc, Answer::TooLarge(script.image, size), device)
+            } else {
+                run_fitting(alloc, script, sink, device)
             }
         }
     }

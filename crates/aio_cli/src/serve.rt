@@ -1,15 +1,15 @@
-ghost use Rattle.std.specs.Prelude.{◌≡◌, ◌+◌, ◌<◌, ◌≤◌, ◌^◌, [], ◌∷◌, ◌++◌, List, ℕ, length, map, slice_index, option_map, None, Some, vec_len, vec_capacity, IfOk, if◌then◌else◌};
+ghost use Rattle.std.specs.Prelude.{◌≡◌, ◌+◌, ◌<◌, ◌≤◌, ◌^◌, [], ◌∷◌, ◌++◌, List, ℕ, length, map, slice_index, sum, option_map, None, Some, vec_len, vec_capacity, IfOk, if◌then◌else◌};
 ghost use Rattle.std.specs.List.{AllByRecursion};
 ghost use Rattle.aio_model.specs.Asked.{asked};
 ghost use Rattle.aio_model.specs.Serving.{length_of};
 ghost use Rattle.aio_model.specs.SerialHistory.{asked_name, placed_name, bytes_left, FitAlong, is_eio, eios_of};
 ghost use Rattle.aio_words.specs.Faults.{HasRisenBy};
-ghost use Rattle.aio_script.specs.Bounds.{IsOfFirst};
 ghost use Rattle.img_requests.specs.Journal.{entries_of, entry_next, mark_of, reply_of};
 ghost use Rattle.img_requests.specs.Pieces.{HasRoom};
 ghost use Rattle.img_requests.specs.Progress.{IsServed, Replied, UnderWay};
 ghost use Rattle.img_requests.specs.declared.journal.Entry.{Entry};
 ghost use Rattle.aio_cli.specs.Buffers.{RoomsFor, HasRoomFor};
+ghost use Rattle.aio_cli.specs.Streams.{AreCounted, IsOneOf, asks_of};
 
 use aio_model::{Bytes, Placed, Request, Step, What};
 use aio_words::Device;
@@ -76,6 +76,26 @@ fn serve_request<D: Device>(
     }
 }
 
+/// How many streams a script may have, whose numbers are below it.
+const STREAMS: usize = 64;
+
+/// How many requests each stream has.
+pub(crate) fn count_requests(lines: &[Step]) -> [u32; STREAMS]
+    requires own { AllByRecursion (IsOneOf 64) lines.now }
+    requires few { asks_of lines.now ≤ 4096 }
+    ensures sized { length result ≡ 64 }
+    ensures counted { AreCounted result lines.now }
+    ensures all { sum result ≡ asks_of lines.now }
+{
+    let mut requests = [0; STREAMS];
+    for line in lines {
+        if let What::Ask(_) = &line.what {
+            requests[line.stream as usize] += 1;
+        }
+    }
+    requests
+}
+
 /// A buffer for each line's read.
 pub(crate) fn prepare_buffers(
     alloc: Global,
@@ -108,8 +128,8 @@ pub(crate) fn serve_lines<D: Device>(
     served: &mut Vec<Placed>,
 )
     requires new { (image.old.present ≡ None) × (image.old.journal ≡ []) }
-    requires due { image.old.requests ≡ length lines.now ∷ [] }
-    requires own { AllByRecursion IsOfFirst lines.now }
+    requires due { AreCounted image.old.requests lines.now }
+    requires own { AllByRecursion (IsOneOf (length image.old.requests)) lines.now }
     requires rooms { RoomsFor lines.now (map (λ buffer. buffer.items) buffers.items) }
     requires none { served.old.items ≡ [] }
     requires places { length lines.now ≤ vec_capacity served.old }

@@ -1,5 +1,5 @@
 //! Whole runs over objects in memory. What is expected was worked out by hand.
-ghost use Rattle.std.specs.Prelude.{◌≡◌, ◌≤◌, length, vec_len, IfOk};
+ghost use Rattle.std.specs.Prelude.{◌≡◌, vec_len, IfOk};
 
 use crate::{Answer, top};
 use aio_script::ScriptRefusal;
@@ -21,10 +21,8 @@ struct Seen {
     device: Vec<u8>,
 }
 
-/// A device of 1 MiB of this byte, which fails at the calls of these numbers.
-fn device(alloc: Global, byte: u8, len: u32, fails: &[u32]) -> Result<MemDevice, Fail>
-    ensures { IfOk result (λ device. length device.bytes ≡ len) }
-{
+/// A device of so many of this byte, which fails at the calls of these numbers; call 0 asks for its length.
+fn device(alloc: Global, byte: u8, len: u32, fails: &[u32]) -> Result<MemDevice, Fail> {
     let bytes = vec![in alloc; byte; len as usize]?;
     Ok(MemDevice::build(alloc, bytes.as_slice(), fails)?)
 }
@@ -40,9 +38,7 @@ fn run(
     mut source: MemSource,
     mut sink: MemSink,
     device: MemDevice,
-) -> Result<Seen, Fail>
-    requires { 1048576 ≤ length device.bytes }
-{
+) -> Result<Seen, Fail> {
     let clocks = clocks(alloc)?;
     let end = top(
         alloc,
@@ -62,9 +58,7 @@ fn run(
 }
 
 /// A run where neither source nor sink fails.
-fn serve(alloc: Global, text: &[u8], device: MemDevice) -> Result<Seen, Fail>
-    requires { 1048576 ≤ length device.bytes }
-{
+fn serve(alloc: Global, text: &[u8], device: MemDevice) -> Result<Seen, Fail> {
     let source = MemSource::build(alloc, text, 4096, &[])?;
     let sink = MemSink::build(alloc, 1 << 20, &[])?;
     run(alloc, source, sink, device)
@@ -158,7 +152,11 @@ fn a_failed_piece_keeps_those_before_it(rt: HostRuntime) -> Result<(), Fail> {
     let lines = format!(in alloc; "0 write 0 {bytes}\n")?;
     let text = script(alloc, lines.as_str())?;
     for k in 0u32..3 {
-        let seen = serve(alloc, text.as_slice(), device(alloc, 0, 1_048_576, &[k])?)?;
+        let seen = serve(
+            alloc,
+            text.as_slice(),
+            device(alloc, 0, 1_048_576, &[k + 1])?,
+        )?;
         let good = 4096 * k;
         let replies = format!(in alloc; "0 0 write eio {good}\nend 1 1\n")?;
         assert_eq!(rt; seen.answer, Answer::Errors(1));
@@ -179,7 +177,7 @@ fn failed_reads_and_flushes(rt: HostRuntime) -> Result<(), Fail> {
     let seen = serve(
         alloc,
         text.as_slice(),
-        device(alloc, 7, 1_048_576, &[0, 2])?,
+        device(alloc, 7, 1_048_576, &[1, 3])?,
     )?;
     let replies = b"0 0 flush eio 0\n1 0 read eio 4096\n2 0 read ok 07\nend 3 2\n";
     assert_eq!(rt; seen.printed.as_slice(), replies.as_slice());
@@ -267,9 +265,75 @@ fn a_text_may_have_1048576_bytes(rt: HostRuntime) -> Result<(), Fail> {
     assert_eq!(rt; seen.answer, Answer::Done);
     text.push(b'x')?;
     let seen = serve(alloc, text.as_slice(), device(alloc, 0, 1_048_576, &[])?)?;
-    assert_eq!(rt; seen.answer, Answer::BadScript(ScriptRefusal::Unbuilt));
-    assert_eq!(rt; seen.status, 3);
+    assert_eq!(rt; seen.answer, Answer::TooLong);
+    assert_eq!(rt; seen.status, 4);
     assert!(rt; seen.printed.is_empty());
+    let comment = vec![in alloc; b'#'; 1_048_576]?;
+    let seen = serve(alloc, comment.as_slice(), device(alloc, 0, 16, &[])?)?;
+    assert_eq!(rt; seen.answer, Answer::BadScript(ScriptRefusal::NoHeader));
+    assert_eq!(rt; seen.status, 3);
+    Ok(())
+}
+
+#[test]
+fn what_is_no_script_is_refused(rt: HostRuntime) -> Result<(), Fail> {
+    let alloc = rt.alloc();
+    let cases: [(&str, ScriptRefusal); 5] = [
+        ("", ScriptRefusal::NoHeader),
+        (
+            "image 16\nloops 1\n0 flush",
+            ScriptRefusal::UnknownStream(3),
+        ),
+        (
+            "image 16\nloops 1\nstream 0 0\n0 wash",
+            ScriptRefusal::BadLine(4),
+        ),
+        ("image 16\nloops 0", ScriptRefusal::OutOfLimit(2)),
+        ("image x\nloops 1", ScriptRefusal::BadNumber(1)),
+    ];
+    for (text, refusal) in cases {
+        let seen = serve(alloc, text.as_bytes(), device(alloc, 0, 1_048_576, &[])?)?;
+        assert_eq!(rt; seen.answer, Answer::BadScript(refusal), "at {text}");
+        assert!(rt; seen.printed.is_empty());
+    }
+    Ok(())
+}
+
+#[test]
+fn an_image_larger_than_the_device_is_refused(rt: HostRuntime) -> Result<(), Fail> {
+    let alloc = rt.alloc();
+    let text = b"image 17\nloops 1";
+    let seen = serve(alloc, text.as_slice(), device(alloc, 0, 16, &[])?)?;
+    assert_eq!(rt; seen.answer, Answer::TooLarge(17, 16));
+    assert_eq!(rt; seen.status, 5);
+    let seen = serve(alloc, text.as_slice(), device(alloc, 0, 16, &[0])?)?;
+    assert_eq!(rt; seen.answer, Answer::DeviceFault);
+    assert_eq!(rt; seen.status, 9);
+    let seen = serve(alloc, text.as_slice(), device(alloc, 0, 17, &[])?)?;
+    assert_eq!(rt; seen.answer, Answer::Done);
+    assert_eq!(rt; seen.printed.as_slice(), b"end 0 0\n".as_slice());
+    Ok(())
+}
+
+#[test]
+fn streams_of_any_number_and_zeroings(rt: HostRuntime) -> Result<(), Fail> {
+    let alloc = rt.alloc();
+    let cases: [(&str, &str); 3] = [
+        ("image 16\nloops 3", "end 0 0\n"),
+        (
+            "image 1048576\nloops 4\nstream 5 2\n5 zero 0 65536\n5 write 510 55aa\n5 move 3\n5 delay 1000\n5 flush\n5 read 508 4",
+            "0 5 zero ok 65536\n1 5 write ok 2\n2 5 flush ok\n3 5 read ok 000055aa\nend 4 0\n",
+        ),
+        (
+            "image 4\nloops 2\nstream 0 0\nstream 63 1\n0 write 0 aa\n63 read 0 1\n0 read 0 1",
+            "0 0 write ok 1\n1 63 read ok aa\n2 0 read ok aa\nend 3 0\n",
+        ),
+    ];
+    for (text, replies) in cases {
+        let seen = serve(alloc, text.as_bytes(), device(alloc, 7, 1_048_576, &[])?)?;
+        assert_eq!(rt; seen.answer, Answer::Done);
+        assert_eq!(rt; seen.printed.as_slice(), replies.as_bytes(), "at {text}");
+    }
     Ok(())
 }
 

@@ -1,5 +1,5 @@
 use Rattle.aio_cli.proofs.Served.{OnWritten-both, OnCut-both}
-use Rattle.aio_cli.proofs.run.run_script.Goals as goal
+use Rattle.aio_cli.proofs.run.run_fitting.Goals as goal
 
 pub returns-in-Ok-clause-written : goal.returns-in-Ok-clause-written
 returns-in-Ok-clause-written g c =
