@@ -15,5 +15,6 @@ pub mod OnceFollows
 pub mod CommitFollows
 pub mod Rounds
 pub mod Frames
+pub mod HandlerLists
 mod HandlerRows
 mod TimerRows

@@ -2,11 +2,7 @@
 use Rattle.std.specs.Prelude.{ℕ, ◌+◌, ◌/◌, ◌%◌, ◌^◌, ◌==◌, Bool, true, false, not, ◌&&◌, if◌then◌else◌, List, [], ◌∷◌, ◌++◌, filter, Option, Some, None, is_some}
 use Rattle.aio_model.specs.declared.handler_calls.HandlerCall.{HandlerCall}
 use Rattle.aio_model.specs.declared.handler_calls.HandlerCall.TheVariants.{Add, Remove, WalkBegin, Give, WalkEnd}
-
-pub record Handler : Type 0 where
-  pub id : ℕ
-  pub event : ℕ
-  pub tag : ℕ
+pub use Rattle.aio_model.specs.declared.handler_calls.Handler.{Handler}
 
 -- the handler with this number
 abbrev pub named : ℕ → List Handler → Option Handler

@@ -16,5 +16,6 @@ pub mod LoopSeats
 pub mod LoopFrame
 pub mod InFlight
 pub mod HandlerCalls
+pub mod HandlerStates
 pub mod TimerCalls
 pub mod TimerStates

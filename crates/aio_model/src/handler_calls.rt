@@ -9,3 +9,11 @@ pub enum HandlerCall {
     Give { id: u32 },
     WalkEnd,
 }
+
+/// An event handler that was added.
+#[derive(Clone, Copy, Debug, PartialEq, Eq)]
+pub struct Handler {
+    pub id: u32,
+    pub event: u32,
+    pub tag: u64,
+}

@@ -7,6 +7,7 @@ mod bytes;
 mod commits;
 mod flags;
 mod handler_calls;
+mod handler_states;
 mod kinds;
 mod laws;
 mod memory;
@@ -20,7 +21,8 @@ mod timer_states;
 pub use bytes::Bytes;
 pub use commits::{Commit, Why};
 pub use flags::Flags;
-pub use handler_calls::HandlerCall;
+pub use handler_calls::{Handler, HandlerCall};
+pub use handler_states::{HandlerState, handler_state};
 pub use kinds::Kind;
 pub use laws::{
     a_deleted_one_never_runs, a_legal_history_cut_anywhere_is_legal,
