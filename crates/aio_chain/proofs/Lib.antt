@@ -2,5 +2,6 @@ mod Calls
 mod Circles
 pub mod Contained
 mod Paths
+mod SlowLists
 pub mod Steps
 pub mod Walks

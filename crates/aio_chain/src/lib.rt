@@ -7,4 +7,6 @@ mod links;
 pub use links::Links;
 
 #[cfg(test)]
+mod slow_lists;
+#[cfg(test)]
 mod tests;
