@@ -2,7 +2,8 @@
 use Rattle.std.proofs.Common.{◌≡◌, ℕ, ◌+◌, Bool, true, false, ◌&&◌, cond, List, [], ◌∷◌, ◌++◌, filter, Option, None, is_some, refl, ◌∙◌, ap}
 use Rattle.aio_model.specs.declared.handler_calls.HandlerCall.{HandlerCall}
 use Rattle.aio_model.specs.declared.handler_calls.HandlerCall.TheVariants.{Add, Remove, WalkBegin, Give}
-use Rattle.aio_model.specs.HandlerCalls.{Handler, named, others, has_event, live, marked, is_walking}
+use Rattle.aio_model.specs.declared.handler_calls.Handler.{Handler}
+use Rattle.aio_model.specs.HandlerCalls.{named, others, has_event, live, marked, is_walking}
 use Rattle.aio_handlers.specs.StandsFor.{HandlerList, StandsFor}
 
 -- how many are marked after a removal

@@ -1,6 +1,6 @@
 -- The handlers of the events that a list names.
 use Rattle.std.specs.Prelude.{ℕ, ◌==◌, if◌then◌else◌, List, [], ◌∷◌, map, Option, Some, None, slice_index_or}
-use Rattle.aio_model.specs.HandlerCalls.{Handler}
+use Rattle.aio_model.specs.declared.handler_calls.Handler.{Handler}
 use Rattle.aio_handlers.specs.declared.keys.Slot.{Slot}
 
 -- what is read past the end

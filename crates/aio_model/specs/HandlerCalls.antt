@@ -2,7 +2,7 @@
 use Rattle.std.specs.Prelude.{ℕ, ◌+◌, ◌/◌, ◌%◌, ◌^◌, ◌==◌, Bool, true, false, not, ◌&&◌, if◌then◌else◌, List, [], ◌∷◌, ◌++◌, filter, Option, Some, None, is_some}
 use Rattle.aio_model.specs.declared.handler_calls.HandlerCall.{HandlerCall}
 use Rattle.aio_model.specs.declared.handler_calls.HandlerCall.TheVariants.{Add, Remove, WalkBegin, Give, WalkEnd}
-pub use Rattle.aio_model.specs.declared.handler_calls.Handler.{Handler}
+use Rattle.aio_model.specs.declared.handler_calls.Handler.{Handler}
 
 -- the handler with this number
 abbrev pub named : ℕ → List Handler → Option Handler

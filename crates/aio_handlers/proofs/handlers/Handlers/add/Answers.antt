@@ -2,7 +2,7 @@ use Rattle.std.proofs.Common.{◌≡◌, ◌<◌, ◌≤◌, ◌+◌, ◌∷◌,
 use Rattle.std.proofs.lemmas.List.{length-map, map_push, get_or_read}
 use Rattle.std.proofs.lemmas.Bool.{both_ways, false_from_ne_true}
 use Rattle.aio_chain.specs.LinkList.{contains}
-use Rattle.aio_model.specs.HandlerCalls.{Handler}
+use Rattle.aio_model.specs.declared.handler_calls.Handler.{Handler}
 use Rattle.aio_handlers.specs.declared.answers.AddRefusal.TheVariants.{Taken, Full, Worn}
 use Rattle.aio_handlers.specs.declared.keys.Slot.{Slot}
 use Rattle.aio_handlers.specs.Answers.{add_answer}
