@@ -167,7 +167,7 @@ fn compared(rt: &impl Abort, alloc: Global, seed: u32) -> Result<u32, Fail> {
 #[test]
 fn answers_as_the_slow_look_up_says(rt: HostRuntime) -> Result<(), Fail> {
     let mut number = 1;
-    for _ in 0..100 {
+    for _ in 0..2000 {
         number = compared(&rt, rt.alloc(), number)?;
     }
     Ok(())
