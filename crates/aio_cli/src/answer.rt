@@ -37,14 +37,14 @@ pub struct End<D> {
     pub served: Vec<Placed>,
 }
 
-impl<D> End<D> {
+impl Answer {
     ghost use Rattle.aio_cli.specs.Answers.{status_of};
 
-    /// The exit status of the program.
+    /// The exit status of a program that ends so.
     pub fn status(&self) -> u8
-        ensures { result ≡ status_of self.now.answer }
+        ensures { result ≡ status_of self.now }
     {
-        match self.answer {
+        match self {
             Answer::Done => 0,
             Answer::Errors(_) => 1,
             Answer::Usage => 2,
@@ -56,5 +56,16 @@ impl<D> End<D> {
             Answer::NoMemory => 8,
             Answer::DeviceFault => 9,
         }
+    }
+}
+
+impl<D> End<D> {
+    ghost use Rattle.aio_cli.specs.Answers.{status_of};
+
+    /// The exit status of the program.
+    pub fn status(&self) -> u8
+        ensures { result ≡ status_of self.now.answer }
+    {
+        self.answer.status()
     }
 }

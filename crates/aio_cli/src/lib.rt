@@ -2,6 +2,7 @@
 #![tactic(auto)]
 
 mod answer;
+mod fault;
 mod print;
 mod program;
 mod read;
@@ -11,4 +12,5 @@ mod serve;
 mod tests;
 
 pub use answer::{Answer, End};
+pub use fault::print_fault;
 pub use program::top;

@@ -51,6 +51,32 @@ pub fn print_end<K: Sink>(sink: &mut K, requests: u32, errors: u32) -> Result<()
     )
 }
 
+/// Prints a text as it is.
+pub fn print_text<K: Sink>(sink: &mut K, text: &[u8]) -> Result<(), WriteFault>
+    ensures ok { OnOk result (K.held sink.new ≡ with_piece text.now (K.held sink.old)) }
+    ensures err { OnErr result (AppendsFront (K.held sink.old) (K.held sink.new) text.now) }
+    ensures counted { K.faults sink.old ≤ K.faults sink.new }
+    ensures cause { OnErr result (HasRisen (K.faults sink.old) (K.faults sink.new)) }
+{
+    print_piece(sink, text)
+}
+
+/// Prints a number in decimal digits, with a text before it and one behind it.
+pub fn print_numbered<K: Sink>(
+    sink: &mut K,
+    before: &[u8],
+    n: u64,
+    behind: &[u8],
+) -> Result<(), WriteFault>
+    ensures ok { OnOk result (K.held sink.new ≡ with_piece (before.now ++ (decimal n ++ behind.now)) (K.held sink.old)) }
+    ensures err { OnErr result (AppendsFront (K.held sink.old) (K.held sink.new) (before.now ++ (decimal n ++ behind.now))) }
+    ensures counted { K.faults sink.old ≤ K.faults sink.new }
+    ensures cause { OnErr result (HasRisen (K.faults sink.old) (K.faults sink.new)) }
+{
+    let mut digits = Buffer::new();
+    print_parts(sink, &[before, digits.format(n).as_bytes(), behind])
+}
+
 // What stands before the outcome, with the space behind it.
 fn print_head<K: Sink>(
     sink: &mut K,

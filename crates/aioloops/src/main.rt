@@ -3,7 +3,7 @@
 
 ghost use Rattle.std.specs.Prelude.{◌≡◌, vec_len, IfOk};
 
-use aio_cli::top;
+use aio_cli::{Answer, print_fault, top};
 use aio_words::{MemDevice, NoMemory, OpenGate, StdSink, StdSource, StepClock};
 use std::alloc::Global;
 use std::io::ErrorKind;
@@ -13,21 +13,20 @@ use std::{env, io};
 /// How many bytes the device has.
 const DEVICE: u32 = 1_048_576;
 
-/// The exit status where the words of the command line can't be read.
-const USAGE: u8 = 2;
-
-/// The exit status where memory runs out before a script is read.
-const NO_MEMORY: u8 = 8;
-
 fn main(rt: HostRuntime) -> ExitCode {
-    let status = match words(&rt) {
-        Ok(words) => run(&rt, words.as_slice()).unwrap_or(NO_MEMORY),
+    let Ok(mut errors) = StdSink::errors(rt.stderr()) else {
+        return ExitCode::from(Answer::NoMemory.status());
+    };
+    let answer = match words(&rt) {
+        Ok(words) => run(&rt, words.as_slice()).unwrap_or(Answer::NoMemory),
         Err(error) => match error.kind() {
-            ErrorKind::OutOfMemory => NO_MEMORY,
-            _ => USAGE,
+            ErrorKind::OutOfMemory => Answer::NoMemory,
+            _ => Answer::Usage,
         },
     };
-    ExitCode::from(status)
+    // The status says it too, so nothing is made of a line that can't be printed.
+    let _ = print_fault(&mut errors, &answer);
+    ExitCode::from(answer.status())
 }
 
 /// The words of the command line behind the program's name.
@@ -35,8 +34,8 @@ fn words(rt: &HostRuntime) -> io::Result<Vec<String>> {
     Ok(env::args(rt)?.skip(1).collect(rt.alloc())?)
 }
 
-/// Runs the program, and answers its exit status.
-fn run(rt: &HostRuntime, words: &[String]) -> Result<u8, NoMemory> {
+/// Runs the program, and tells how that ended.
+fn run(rt: &HostRuntime, words: &[String]) -> Result<Answer, NoMemory> {
     let alloc = rt.alloc();
     let mut source = StdSource::build(rt.stdin())?;
     let mut sink = StdSink::output(rt.stdout())?;
@@ -51,7 +50,7 @@ fn run(rt: &HostRuntime, words: &[String]) -> Result<u8, NoMemory> {
         clocks,
         &OpenGate,
     );
-    Ok(end.status())
+    Ok(end.answer)
 }
 
 fn zeros(alloc: Global, len: u32) -> Result<MemDevice, NoMemory> {
