@@ -24,7 +24,7 @@ use Rattle.aio_script.proofs.Limits.{Fits, said_at-fits}
 use Rattle.aio_script.proofs.LinesRead.{counts_of-line}
 
 -- what went well
-followed : {A B : Type 0} (a : Result A ScriptRefusal) (f : A → Result B ScriptRefusal) (d : B) → (a >>= f) ≡ Ok d
+pub followed : {A B : Type 0} (a : Result A ScriptRefusal) (f : A → Result B ScriptRefusal) (d : B) → (a >>= f) ≡ Ok d
     → (x : A) × (a ≡ Ok x) × (f x ≡ Ok d)
 followed (Ok x) f d e = (x, refl, e)
 followed (Err x) f d e = cc e
@@ -38,7 +38,7 @@ record AreGood (loops : ℕ) (streams : List Stream) (steps : List Step) : Type 
 
 -- ---- one more at the end
 
-all_one_more : {X : Type 0} (P : X → Type 0) (xs : List X) (x : X) → AllByRecursion P xs → P x → AllByRecursion P (xs ++ x ∷ [])
+pub all_one_more : {X : Type 0} (P : X → Type 0) (xs : List X) (x : X) → AllByRecursion P xs → P x → AllByRecursion P (xs ++ x ∷ [])
 all_one_more P [] x all last = (last, tt)
 all_one_more P (y ∷ ys) x all last = (all.0, all_one_more P ys x all.1 last)
 

@@ -1,6 +1,7 @@
 pub mod Bounded
 mod Examples
 pub mod Limits
+pub mod LoopBounded
 pub mod LinesRead
 pub mod Words
 pub mod Cuts

@@ -67,7 +67,7 @@ HasRead-whole image loops whole left streams steps read end =
     ∙ ap (λ (ss : List Stream). Ok (record { image = image; loops = loops; streams = ss; lines = steps_in read.above })) (sym read.same_streams)
     ∙ ap (λ (ss : List Step). Ok (record { image = image; loops = loops; streams = streams; lines = ss })) (sym read.same_steps)
 
-count_by-one : {X : Type 0} (p : X → Bool) (xs : List X) (x : X) → count_by p (xs ++ x ∷ []) ≡ count_by p xs + (if p x then 1 else 0)
+pub count_by-one : {X : Type 0} (p : X → Bool) (xs : List X) (x : X) → count_by p (xs ++ x ∷ []) ≡ count_by p xs + (if p x then 1 else 0)
 count_by-one p xs x = fold_push _ 0 xs x
 
 counts_of-at : (requests pauses moved : ℕ) (counts : Counts)

@@ -99,7 +99,7 @@ fn print_outcome<K: Sink>(sink: &mut K, reply: &Reply) -> Result<(), WriteFault>
     }
 }
 
-fn print_counted<K: Sink>(sink: &mut K, word: &[u8], n: u32) -> Result<(), WriteFault>
+pub(crate) fn print_counted<K: Sink>(sink: &mut K, word: &[u8], n: u32) -> Result<(), WriteFault>
     ensures { Prints (word.now ++ (decimal n ++ codes "\n")) (K.held sink.old) (K.held sink.new) (K.faults sink.old) (K.faults sink.new) result }
 {
     let mut digits = Buffer::new();
@@ -150,7 +150,7 @@ fn write_digits(bytes: &[u8], digits: &mut [u8])
     prove!(written.is_ok());
 }
 
-fn print_parts<K: Sink>(sink: &mut K, parts: &[&[u8]]) -> Result<(), WriteFault>
+pub(crate) fn print_parts<K: Sink>(sink: &mut K, parts: &[&[u8]]) -> Result<(), WriteFault>
     ensures { Prints (flat_map (λ part. part.now) parts.now) (K.held sink.old) (K.held sink.new) (K.faults sink.old) (K.faults sink.new) result }
 {
     for part in parts {
