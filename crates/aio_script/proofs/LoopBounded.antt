@@ -1,6 +1,5 @@
 -- Each loop script that the grammar gives is within the limits.
 use Rattle.std.proofs.Common.{◌≡◌, ℕ, ◌+◌, ◌<◌, ◌≤◌, ◌==◌, ◌&&◌, Bool, true, false, inl, inr, nat_le, nat_lt, if◌then◌else◌, List, [], ◌∷◌, ◌++◌, length, length-append, codes, refl, ap, ◌∙◌, subst, arith, Result, Ok, Err, IfOk}
-use Rattle.std.specs.List.{AllByRecursion}
 use Rattle.std.proofs.lemmas.Bool.{cases_Bool, leb-true, ltb-true, and_parts, eqb-true}
 use Rattle.aio_model.specs.declared.loop_scripts.Act.{Act}
 use Rattle.aio_model.specs.declared.loop_scripts.ActKind.{ActKind}

@@ -1,5 +1,5 @@
 -- What holds of each loop script.
-use Rattle.std.specs.Prelude.{ℕ, ◌<◌, ◌≤◌, List, length}
+use Rattle.std.specs.Prelude.{ℕ, ◌<◌, ◌≤◌, length}
 use Rattle.std.specs.List.{AllByRecursion}
 use Rattle.aio_model.specs.declared.loop_scripts.Act.{Act}
 use Rattle.aio_model.specs.declared.loop_scripts.ActKind.{ActKind}

@@ -2,7 +2,8 @@
 ghost use Rattle.std.specs.Prelude.{◌≡◌, ◌++◌, ◌≤◌, codes, decimal, OnOk, OnErr, if◌then◌else◌};
 ghost use Rattle.std.specs.List.{flat_map};
 ghost use Rattle.aio_model.specs.LoopLines.{behind_space, call_text, commit_text, flag_text, flags_text, HasLine, HasNoDeadline, IsCall, list_text, more_text, progress_text, reply_text};
-ghost use Rattle.aio_model.specs.declared.loop_replies.LoopReply.TheVariants.{Flagged, Ran};
+ghost use Rattle.aio_model.specs.declared.loop_replies.LoopReply.TheVariants.{Committed, Flagged, Ran};
+ghost use Rattle.aio_model.specs.declared.commits.Commit.TheVariants.{Awake, Sleep};
 ghost use Rattle.aio_words.specs.Content.{with_piece, AppendsFront};
 ghost use Rattle.aio_words.specs.Faults.{HasRisen};
 ghost use Rattle.aio_script.specs.Printing.{Prints};
@@ -29,7 +30,7 @@ pub fn print_reply<K: Sink>(sink: &mut K, answer: &LoopReply) -> Result<(), Writ
             print_ran(sink, called, *more, *progress, *cut)
         }
         LoopReply::Committed(commit) => print_commit(sink, *commit),
-        LoopReply::WasSet(event) => print_counted(sink, b"set ", *event),
+        LoopReply::WasSet(event) => print_counted(sink, b"set ", u64::from(*event)),
         LoopReply::Cleared(event, was) => {
             print_told(
                 sink,
@@ -92,26 +93,33 @@ fn verb_and_handle(command: Command) -> (&'static [u8], u32)
 
 fn print_commit<K: Sink>(sink: &mut K, commit: Commit) -> Result<(), WriteFault>
     requires { HasNoDeadline commit }
-    ensures { Prints (codes "commit " ++ (commit_text commit ++ codes "\n")) (K.held sink.old) (K.held sink.new) (K.faults sink.old) (K.faults sink.new) result }
+    ensures { Prints (reply_text (Committed commit)) (K.held sink.old) (K.held sink.new) (K.faults sink.old) (K.faults sink.new) result }
 {
     match commit {
-        Commit::Awake(Why::Urgent(bh)) => print_counted(sink, b"commit awake urgent ", bh),
-        Commit::Awake(Why::Event(event)) => print_counted(sink, b"commit awake event ", event),
-        Commit::Awake(Why::Notified) => print_parts(sink, &[b"commit awake notified\n"]),
-        Commit::Awake(Why::Deadline) => unreachable!(),
-        Commit::Sleep(None) => print_parts(sink, &[b"commit sleep forever\n"]),
-        Commit::Sleep(Some(ns)) => print_sleep(sink, ns),
+        Commit::Awake(why) => print_awake(sink, why),
+        Commit::Sleep(left) => print_sleep(sink, left),
     }
 }
 
-fn print_sleep<K: Sink>(sink: &mut K, ns: u64) -> Result<(), WriteFault>
-    ensures { Prints (codes "commit sleep " ++ (decimal ns ++ codes "\n")) (K.held sink.old) (K.held sink.new) (K.faults sink.old) (K.faults sink.new) result }
+fn print_awake<K: Sink>(sink: &mut K, why: Why) -> Result<(), WriteFault>
+    requires { HasNoDeadline (Awake why) }
+    ensures { Prints (reply_text (Committed (Awake why))) (K.held sink.old) (K.held sink.new) (K.faults sink.old) (K.faults sink.new) result }
 {
-    let mut digits = Buffer::new();
-    print_parts(
-        sink,
-        &[b"commit sleep ", digits.format(ns).as_bytes(), b"\n"],
-    )
+    match why {
+        Why::Urgent(bh) => print_counted(sink, b"commit awake urgent ", u64::from(bh)),
+        Why::Event(event) => print_counted(sink, b"commit awake event ", u64::from(event)),
+        Why::Notified => print_parts(sink, &[b"commit awake notified\n"]),
+        Why::Deadline => unreachable!(),
+    }
+}
+
+fn print_sleep<K: Sink>(sink: &mut K, left: Option<u64>) -> Result<(), WriteFault>
+    ensures { Prints (reply_text (Committed (Sleep left))) (K.held sink.old) (K.held sink.new) (K.faults sink.old) (K.faults sink.new) result }
+{
+    match left {
+        None => print_parts(sink, &[b"commit sleep forever\n"]),
+        Some(ns) => print_counted(sink, b"commit sleep ", ns),
+    }
 }
 
 fn print_ran<K: Sink>(
@@ -124,7 +132,7 @@ fn print_ran<K: Sink>(
     ensures { Prints (reply_text (Ran called.now more progress cut)) (K.held sink.old) (K.held sink.new) (K.faults sink.old) (K.faults sink.new) result }
 {
     print_parts(sink, &[b"poll ran"])?;
-    print_list(sink, called.as_slice())?;
+    print_list(sink, called)?;
     print_more(sink, more)?;
     print_end_of_poll(sink, progress, cut)
 }
@@ -145,13 +153,14 @@ fn print_end_of_poll<K: Sink>(sink: &mut K, progress: bool, cut: u64) -> Result<
     )
 }
 
-fn print_list<K: Sink>(sink: &mut K, called: &[Called]) -> Result<(), WriteFault>
+fn print_list<K: Sink>(sink: &mut K, called: &RanList) -> Result<(), WriteFault>
     ensures { Prints (list_text called.now) (K.held sink.old) (K.held sink.new) (K.faults sink.old) (K.faults sink.new) result }
 {
-    if called.is_empty() {
+    let members = called.as_slice();
+    if members.is_empty() {
         print_parts(sink, &[b" -"])
     } else {
-        print_each(sink, called)
+        print_each(sink, members)
     }
 }
 
