@@ -1,5 +1,6 @@
 pub mod Bounded
 mod Examples
+mod LoopExamples
 pub mod Limits
 pub mod LoopBounded
 pub mod LoopTexts

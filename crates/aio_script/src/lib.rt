@@ -9,6 +9,8 @@ mod loop_forms;
 mod loop_lines;
 mod loop_print;
 mod loop_reader;
+#[cfg(test)]
+mod loop_tests;
 mod print;
 mod reader;
 mod refusals;
