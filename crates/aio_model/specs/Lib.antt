@@ -14,6 +14,7 @@ pub mod LoopSteps
 pub mod LoopInside
 pub mod LoopSeats
 pub mod LoopFrame
+pub mod LoopLines
 pub mod InFlight
 pub mod HandlerCalls
 pub mod HandlerStates

@@ -10,8 +10,11 @@ mod handler_calls;
 mod handler_states;
 mod kinds;
 mod laws;
+mod loop_replies;
+mod loop_scripts;
 mod memory;
 mod one_loop;
+mod ran_lists;
 mod replies;
 mod requests;
 mod scripts;
@@ -28,8 +31,11 @@ pub use laws::{
     a_deleted_one_never_runs, a_legal_history_cut_anywhere_is_legal,
     an_enqueue_between_two_dequeues, pending_is_announced_once,
 };
+pub use loop_replies::LoopReply;
+pub use loop_scripts::{Act, ActKind, Acts, Command, Commands, LoopScript};
 pub use memory::{NoMemory, Unmade};
 pub use one_loop::OneLoop;
+pub use ran_lists::{Called, RanList};
 pub use replies::{Placed, Reply};
 pub use requests::Request;
 pub use scripts::{Script, Step, Steps, Stream, Streams, What};
