@@ -1,0 +1,5 @@
+pub mod Words
+pub mod Known
+pub mod Rule
+pub mod Standing
+pub mod Plays
