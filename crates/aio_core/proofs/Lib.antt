@@ -1,3 +1,9 @@
 pub mod Entries
 pub mod Seats
 pub mod Histories
+pub mod Masks
+pub mod Flags
+pub mod Lists
+pub mod Enqueuing
+pub mod Opened
+pub mod Told

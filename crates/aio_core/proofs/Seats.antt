@@ -7,7 +7,9 @@ use Rattle.aio_model.specs.LoopHistory.{Sizes, Entry, History}
 use Rattle.aio_model.specs.LoopLists.{seat_of}
 use Rattle.aio_model.specs.LoopSeats.{owns, own_entries, IsSeenOf}
 use Rattle.aio_model.specs.InFlight.{is_at_rest}
+use Rattle.aio_model.specs.LoopLegal.{IsLegal}
 use Rattle.aio_core.specs.Known.{Known, numbers_of}
+use Rattle.aio_core.specs.Standing.{Makes}
 use Rattle.aio_core.specs.Rule.{everyone, EachView, AreApart, IsSeat, SeatsStand}
 use Rattle.aio_core.proofs.Entries.{own-here, own-other, own_of_seen, owned_below, owns_everyone}
 
@@ -90,4 +92,15 @@ seats_keep sizes h views id v w stand at same seen mine numbered =
         (λ other u ne atu old. old);
       apart = apart_set views id v w stand.apart at same.numbers_are;
       all_owned = stand.all_owned;
+    }
+
+-- the entry that a seat has just made, behind all that it had not seen
+pub makes_of : (sizes : Sizes) (h : History) (e : Entry) (v w : Known) → IsSeat sizes h v → w.seen ≡ e ∷ h → w.mine ≡ e ∷ v.mine → IsLegal sizes (e ∷ h) → Makes e v w
+makes_of sizes h e v w is seen mine legal =
+    record {
+      others = is.seen_of.rest;
+      not_own = is.seen_of.none_missed;
+      seen = seen ∙ ap (λ (l : History). e ∷ l) is.seen_of.longer;
+      mine = mine;
+      legal = subst (IsLegal v.sizes) (sym seen) (subst (λ z. IsLegal z (e ∷ h)) (sym is.sizes_are) legal);
     }

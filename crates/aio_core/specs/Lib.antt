@@ -3,3 +3,4 @@ pub mod Known
 pub mod Rule
 pub mod Standing
 pub mod Plays
+pub mod Calls

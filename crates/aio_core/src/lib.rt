@@ -2,6 +2,15 @@
 //! one history.
 #![tactic(auto)]
 
+mod enqueue;
+mod plays;
+mod seat;
+mod sizes;
+mod table;
+mod tokens;
 mod view;
+mod words;
 
-pub use view::View;
+pub use seat::Seat;
+pub use table::LoopTable;
+pub use tokens::Announced;
