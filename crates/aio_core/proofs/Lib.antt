@@ -5,5 +5,11 @@ pub mod Masks
 pub mod Flags
 pub mod Lists
 pub mod Enqueuing
+pub mod Keeping
+pub mod Aiming
+pub mod Pushing
+pub mod Canceling
+pub mod Slices
+pub mod Taking
 pub mod Opened
 pub mod Told

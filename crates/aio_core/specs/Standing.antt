@@ -98,7 +98,7 @@ with_slice slices word = if word == 0 then slices else slices ++ word ∷ []
 pub record Takes (found : ℕ) (before after : Known) : Type 0 where
   pub makes : Makes Take before after
   pub below : found ≤ index_count before.sizes
-  pub left : is_empty after.stage.slices ≡ is_empty (out_of after.seen)
+  pub left : before.stage.hand ≡ None → is_empty after.stage.slices ≡ is_empty (out_of after.seen)
   pub rest : after ≡ record before { seen = after.seen; mine = after.mine; did = done TakeSwap head_at found ∷ before.did; stage = record before.stage { slices = with_slice before.stage.slices found } }
 
 -- what is left of the slices once the first one's first is at hand
