@@ -11,5 +11,9 @@ pub mod Pushing
 pub mod Canceling
 pub mod Slices
 pub mod Taking
+pub mod Lifting
+pub mod Dequeuing
+pub mod Splitting
+pub mod Opening
 pub mod Opened
 pub mod Told

@@ -3,4 +3,5 @@ pub mod Known
 pub mod Rule
 pub mod Standing
 pub mod Plays
+pub mod Splitting
 pub mod Calls
