@@ -23,7 +23,7 @@ use Rattle.aio_core.proofs.Histories.{pending_below, announced_alone, owed_still
 use Rattle.aio_core.proofs.Masks.{dequeued_flags, dequeued_word}
 use Rattle.aio_core.proofs.Flags.{word_alive, flags_of-dequeue, flags_of-dequeue_other, flags_change, flags_again, word_same}
 use Rattle.aio_core.proofs.Lists.{each_all, owes_kept, no_other_home, lists_after}
-use Rattle.aio_core.proofs.Slices.{chains_empty}
+use Rattle.aio_core.proofs.Sliced.{chains_empty}
 use Rattle.aio_core.proofs.Enqueuing.{next_beside_flags, head_beside_flags}
 
 abbrev pub after_dequeue : Known → History → ℕ → Known

@@ -9,7 +9,7 @@ pub mod Keeping
 pub mod Aiming
 pub mod Pushing
 pub mod Canceling
-pub mod Slices
+pub mod Sliced
 pub mod Taking
 pub mod Lifting
 pub mod Dequeuing
@@ -17,3 +17,4 @@ pub mod Splitting
 pub mod Opening
 pub mod Opened
 pub mod Told
+pub mod Within

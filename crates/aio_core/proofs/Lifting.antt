@@ -13,7 +13,7 @@ use Rattle.aio_core.specs.Standing.{done, without_first, Lifts}
 use Rattle.aio_core.specs.Plays.{next_loaded}
 use Rattle.aio_core.proofs.Histories.{out_below}
 use Rattle.aio_core.proofs.Keeping.{load_stands}
-use Rattle.aio_core.proofs.Slices.{out_lifted, none_empty-lifted, lifted_word_below}
+use Rattle.aio_core.proofs.Sliced.{out_lifted, none_empty-lifted, lifted_word_below}
 
 abbrev pub after_lift : Known → ℕ → ℕ → List ℕ → Known
 after_lift v i found more =

@@ -1,11 +1,13 @@
 -- What is known of a table and of a seat inside a call, and what a seat has to meet when the call gives it back.
-use Rattle.std.proofs.Common.{◌≡◌, ℕ, ◌+◌, ◌*◌, ◌<◌, ◌≤◌, List, [], ◌∷◌, refl, sym, ap, ◌∙◌, subst, arith}
+use Rattle.std.proofs.Common.{◌≡◌, ℕ, ◌+◌, ◌*◌, ◌<◌, ◌≤◌, true, List, [], ◌∷◌, refl, sym, ap, ◌∙◌, subst, arith}
 use Rattle.atomic_table.specs.Table.{Me}
 use Rattle.atomic_table.specs.Seated.{TableId}
 use Rattle.aio_model.specs.LoopHistory.{Sizes}
 use Rattle.aio_core.specs.Words.{flags_at, next_at, index_count, word_count}
-use Rattle.aio_core.specs.Known.{Known}
+use Rattle.aio_model.specs.LoopSeats.{owns, home}
+use Rattle.aio_core.specs.Known.{Known, numbers_of}
 use Rattle.aio_core.specs.Calls.{TableState, SeatState, IsSeatOf}
+use Rattle.aio_core.proofs.Entries.{owns_first}
 
 abbrev pub seat_state : TableId → Known → SeatState
 seat_state table known = record { table = table; known = known }
@@ -48,3 +50,15 @@ flags_within words word bh sizes counts is below = omega arith
 
 pub next_within : (words word bh : ℕ) (sizes : Sizes) → words ≡ word_count sizes → word ≡ next_at bh → bh < index_count sizes → word < words
 next_within words word bh sizes counts is below = omega arith
+
+pub head_within : (words : ℕ) (sizes : Sizes) → words ≡ word_count sizes → 0 < words
+head_within words sizes counts = omega arith
+
+-- the home owns its number
+pub home_owned : (v : Known) → v.first ≡ 64 → v.count ≡ 1 → owns (numbers_of v) home ≡ true
+home_owned v first count =
+    subst (λ k. owns (numbers_of v) k ≡ true) first (owns_first (numbers_of v) (omega arith))
+
+pub home_opened : (table : TableId) (known : Known) (s : SeatState) → seat_state table known ≡ s → (s.known.first ≡ 64) × (s.known.count ≡ 1) → owns (numbers_of known) home ≡ true
+home_opened table known s is number =
+    home_owned known (ap (λ (x : SeatState). x.known.first) is ∙ number.0) (ap (λ (x : SeatState). x.known.count) is ∙ number.1)

@@ -7,6 +7,7 @@ use Rattle.aio_model.specs.LoopHistory.{Sizes}
 use Rattle.aio_model.specs.InFlight.{AtRest}
 use Rattle.aio_core.specs.Words.{head_at, flags_at, index_count, word_count, flags_word, next_in}
 use Rattle.aio_core.specs.Known.{Known, first_known}
+use Rattle.aio_core.specs.Opening.{AreFirst}
 use Rattle.aio_core.specs.Rule.{EachView, AreApart, IsSeat, Owes, HasOut, Stands, Kept}
 
 each_alone : (P : Known → Type 0) (v : Known) → P v → EachView P (v ∷ [])
@@ -18,11 +19,12 @@ apart_alone v zero zero u x e f ne n own = absurd (ne refl)
 apart_alone v zero (suc j) u x e f ne n own = absurd (some-ne-none x (sym f))
 apart_alone v (suc i) j u x e f ne n own = absurd (some-ne-none u (sym e))
 
--- the words of a new table
-pub record AreFirst (sizes : Sizes) (words : List ℕ) : Type 0 where
+-- the flags of the lots below this one are set
+pub record WordsSoFar (sizes : Sizes) (lot : ℕ) (words : List ℕ) : Type 0 where
   pub long : length words ≡ word_count sizes
   pub head : slice_index words head_at ≡ 0
-  pub flags : (i : ℕ) → i < index_count sizes → slice_index words (flags_at i) ≡ flags_word sizes i []
+  pub before : (i : ℕ) → i < lot → i < index_count sizes → slice_index words (flags_at i) ≡ flags_word sizes i []
+  pub behind : (i : ℕ) → lot ≤ i → i < index_count sizes → slice_index words (flags_at i) ≡ 0
 
 pub opening_stands : (sizes : Sizes) (words : List ℕ) → AreFirst sizes words → Stands sizes [] words (first_known sizes ∷ [])
 opening_stands sizes words first =

@@ -88,3 +88,11 @@ module _ {S : Type 0} (sizes : Sizes) (slots id i head : ℕ) (me : Me S Known) 
 pub head_compare_allowed : {S : Type 0} (sizes : Sizes) (slots id i head : ℕ) (me : Me S Known) → 0 < me.0.count → me.0.phase ≡ Linked i head → Allows (Kept {S = S} sizes) slots id me head_at (λ n. either (eqb n head) (i + 1) n) (head_compared (step slots head_at head (i + 1) none) me)
 head_compare_allowed sizes slots id i head me numbered phase s kept long at fits =
     compared sizes slots id i head me numbered phase s kept at (eqb (slice_index s.words head_at) head) refl
+
+-- either way the seat is of its table and has its numbers
+pub compared_keeps : (i found head : ℕ) (v w : Known) → MatchBool (eqb found head) (Pushes i found v w) (Misses i found v w) → (w.sizes ≡ v.sizes) × (w.first ≡ v.first) × (w.count ≡ v.count)
+compared_keeps i found head v w = by (eqb found head)
+  where
+    by : (b : Bool) → MatchBool b (Pushes i found v w) (Misses i found v w) → (w.sizes ≡ v.sizes) × (w.first ≡ v.first) × (w.count ≡ v.count)
+    by true h = (ap (λ (k : Known). k.sizes) h.rest, ap (λ (k : Known). k.first) h.rest, ap (λ (k : Known). k.count) h.rest)
+    by false h = (ap (λ (k : Known). k.sizes) h.rest, ap (λ (k : Known). k.first) h.rest, ap (λ (k : Known). k.count) h.rest)

@@ -18,7 +18,7 @@ use Rattle.aio_core.proofs.Seats.{seats_make, makes_of}
 use Rattle.aio_core.proofs.Histories.{stack_below, owed_still}
 use Rattle.aio_core.proofs.Flags.{read_here, read_else, flags_apart}
 use Rattle.aio_core.proofs.Lists.{each_all, owes_kept, is_out_kept, no_other_home, lists_after}
-use Rattle.aio_core.proofs.Slices.{chain_word_below, chains_empty, out_taken, none_empty-taken}
+use Rattle.aio_core.proofs.Sliced.{chain_word_below, chains_empty, out_taken, none_empty-taken}
 
 abbrev pub after_take : Known → History → ℕ → Known
 after_take v h found =

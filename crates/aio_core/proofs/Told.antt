@@ -8,8 +8,8 @@ use Rattle.aio_model.specs.LoopHistory.{Asked}
 use Rattle.aio_model.specs.LoopFlags.{is_once}
 use Rattle.aio_model.proofs.FlagsWords.{flags_in-word_of}
 use Rattle.aio_core.specs.Known.{Known}
-use Rattle.aio_core.specs.Standing.{asked_by, mask_of, Enqueues}
-use Rattle.aio_core.specs.Plays.{Enqueued}
+use Rattle.aio_core.specs.Standing.{asked_by, mask_of, Enqueues, Dequeues}
+use Rattle.aio_core.specs.Plays.{Enqueued, Dequeued}
 use Rattle.aio_core.proofs.Masks.{asked_with-mask_of, word_of-below}
 
 pub asked_is_of_handle : (kind : asking.Kind) → is_once (asked_by kind) ≡ false
@@ -25,3 +25,10 @@ enqueues_told i found asked f v w told is =
 
 pub found_below : (i mask found : ℕ) (v w : Known) → Enqueued i mask found v w → found < 32
 found_below i mask found v w told = subst (λ n. n < 32) (sym told.found_is) (word_of-below told.flags)
+
+pub dequeues_told : (i found : ℕ) (f : Flags) (v w : Known) → Dequeued i found v w → f ≡ flags_in found → Dequeues i f v w
+dequeues_told i found f v w told is =
+    subst (λ g. Dequeues i g v w) (sym (flags_in-word_of told.flags) ∙ ap flags_in (sym told.found_is) ∙ sym is) told.dequeues
+
+pub dequeued_below : (i found : ℕ) (v w : Known) → Dequeued i found v w → found < 32
+dequeued_below i found v w told = subst (λ n. n < 32) (sym told.found_is) (word_of-below told.flags)

@@ -5,3 +5,5 @@ pub mod Standing
 pub mod Plays
 pub mod Splitting
 pub mod Calls
+pub mod HomeState
+pub mod Opening

@@ -2,15 +2,22 @@
 //! one history.
 #![tactic(auto)]
 
+mod built;
+mod cancel;
 mod enqueue;
+mod home;
+mod job;
 mod plays;
 mod seat;
 mod sizes;
+mod slices;
 mod table;
 mod tokens;
 mod view;
 mod words;
 
+pub use home::Home;
+pub use job::Job;
 pub use seat::Seat;
 pub use table::LoopTable;
-pub use tokens::Announced;
+pub use tokens::{Aimed, Announced, InHand};

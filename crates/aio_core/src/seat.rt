@@ -1,17 +1,19 @@
 ghost use Rattle.std.specs.Prelude.{◌≡◌};
 
+use crate::job::Job;
 use crate::view::View;
 use std::marker::Model;
 
 /// A seat of a loop's table, with which a thread steps. It owns some of the numbers 0 to 63, the first of which is its own;
 /// the home's owns 64. Contracts see its table and what it knows.
-pub struct Seat<J> {
+#[derive(Drop)]
+pub struct Seat<J: Job> {
     pub(crate) inner: atomic_table::Seat<Option<J>, View>,
     first: u32,
     count: u32,
 }
 
-impl<J> Model for Seat<J> {
+impl<J: Job> Model for Seat<J> {
     ghost use Rattle.std.specs.Prelude.{◌≡◌, ◌<◌, ◌≤◌, ◌+◌, []};
     ghost use Rattle.aio_core.specs.Calls.{SeatState};
 
@@ -22,7 +24,7 @@ impl<J> Model for Seat<J> {
     ghost invariant = { λ s. (s.inner.me.1 ≡ []) × (s.first ≡ s.inner.me.0.first) × (s.count ≡ s.inner.me.0.count) × (0 < s.count) × (s.first + s.count ≤ 65) };
 }
 
-impl<J> Seat<J> {
+impl<J: Job> Seat<J> {
     /// The seat's own number.
     pub fn first(&self) -> u32
         ensures { result ≡ self.now.known.first }

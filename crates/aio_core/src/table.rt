@@ -1,5 +1,6 @@
 ghost use Rattle.std.specs.Prelude.{◌≡◌};
 
+use crate::job::Job;
 use crate::plays::LoopRule;
 use crate::sizes::Counts;
 use crate::view::View;
@@ -8,12 +9,13 @@ use std::alloc::Global;
 use std::marker::Model;
 
 /// The table that the threads of a loop share. Contracts see which table it is, and its sizes.
-pub struct LoopTable<J> {
+#[derive(Drop)]
+pub struct LoopTable<J: Job> {
     pub(crate) table: Table<Option<J>, View, Counts, LoopRule, Global>,
-    counts: Counts,
+    pub(crate) counts: Counts,
 }
 
-impl<J> Model for LoopTable<J> {
+impl<J: Job> Model for LoopTable<J> {
     ghost use Rattle.std.specs.Prelude.{◌≡◌, ◌≤◌, ◌+◌};
     ghost use Rattle.aio_core.specs.Words.{word_count};
     ghost use Rattle.aio_core.specs.Calls.{TableState};

@@ -5,6 +5,9 @@ ghost use Rattle.aio_core.specs.Words.{flags_at, next_at};
 /// The first of the list of what was pushed.
 pub const HEAD: usize = 0;
 
+/// The flags of a lot without a life.
+pub const FREE: u64 = 32;
+
 /// The flags of an index.
 pub fn flags_word(bh: u32) -> usize
     ensures { result ≡ flags_at bh }
