@@ -1,16 +1,16 @@
 -- The load of the head, and its store as what follows the index, keep the rule.
-use Rattle.std.proofs.Common.{◌≡◌, ◌≢◌, ℕ, ◌+◌, ◌*◌, ◌<◌, ◌≤◌, Bool, true, false, List, [], ◌∷◌, ◌++◌, length, set, slice_index, refl, sym, ap, ◌∙◌, subst, arith}
+use Rattle.std.proofs.Common.{◌≡◌, ◌≢◌, ℕ, ◌<◌, List, ◌∷◌, set, slice_index, refl, sym, ap, ◌∙◌, subst, arith}
 use mathlib.Core.Option.{some, none}
 use lib.ListN.{get_elem?, length-set}
-use Rattle.atomic_table.specs.Table.{State, Me, keeps, step, Allows}
+use Rattle.atomic_table.specs.Table.{Me, keeps, step, Allows}
 use Rattle.aio_model.specs.LoopHistory.{Sizes, History}
 use Rattle.aio_model.specs.LoopLists.{stack_of, out_of}
-use Rattle.aio_model.specs.InFlight.{Phase, AtRest, LotClaimed, Announced, HeadLoaded, Linked, ToStore, ToLoad, ToSet, is_at_rest}
+use Rattle.aio_model.specs.InFlight.{Phase, AtRest, LotClaimed, Announced, HeadLoaded, Linked, ToStore, ToLoad, ToSet}
 use Rattle.aio_chain.specs.Chains.{IsChain}
-use Rattle.aio_chain.proofs.Chains.{Each, each_of, chain_kept}
-use Rattle.aio_core.specs.Words.{head_at, flags_at, next_at, index_count, word_count, next_in}
-use Rattle.aio_core.specs.Known.{HeadLoad, NextStore, Known, numbers_of}
-use Rattle.aio_core.specs.Rule.{IsOwed, Owes, HasOut, Stands, Kept}
+use Rattle.aio_chain.proofs.Chains.{each_of, chain_kept}
+use Rattle.aio_core.specs.Words.{head_at, next_at, index_count, next_in}
+use Rattle.aio_core.specs.Known.{HeadLoad, NextStore, Known}
+use Rattle.aio_core.specs.Rule.{IsOwed, Owes, Stands, Kept}
 use Rattle.aio_core.specs.Standing.{done, index_in}
 use Rattle.aio_core.specs.Plays.{HeadIsLoaded, NextIsStored, head_loaded, next_stored}
 use Rattle.aio_core.proofs.Seats.{seats_keep}
@@ -77,11 +77,11 @@ module _ (sizes : Sizes) (h : History) (words : List ℕ) (views : List Known) (
         seats = seats_keep sizes h views id v w stand.seats at (record { sizes_are = refl; numbers_are = refl }) refl refl numbered;
         flags = flags_apart sizes h h words (next_at i) head stand.flags (λ j q. omega arith) (λ j. refl);
         lists = lists_after sizes h h words words' views id w stand.lists
-          (subst (λ k. IsChain (next_in words') k (stack_of h)) (sym top) (chain_kept (next_in words) (next_in words') (slice_index words head_at) (stack_of h) stand.lists.stack on_stack))
-          (owed, here)
-          (λ beside u ne atu. owes_kept sizes words words' h h u.first u.phase (λ j busy theirs. (theirs, else_same j (owed_apart sizes h views id beside v u i j stand.seats at atu ne owed numbered theirs ((stand.seats.each beside u atu).active busy)))))
-          (has_out_kept words words' h h v refl in_out (stand.lists.out id v at))
-          (λ beside u ne atu. has_out_kept words words' h h u refl in_out);
+            (subst (λ k. IsChain (next_in words') k (stack_of h)) (sym top) (chain_kept (next_in words) (next_in words') (slice_index words head_at) (stack_of h) stand.lists.stack on_stack))
+            (owed, here)
+            (λ beside u ne atu. owes_kept sizes words words' h h u.first u.phase (λ j busy theirs. (theirs, else_same j (owed_apart sizes h views id beside v u i j stand.seats at atu ne owed numbered theirs ((stand.seats.each beside u atu).active busy)))))
+            (has_out_kept words words' h h v refl in_out (stand.lists.out id v at))
+            (λ beside u ne atu. has_out_kept words words' h h u refl in_out);
       }
 
 pub next_store_allowed : {S : Type 0} (sizes : Sizes) (slots id i head : ℕ) (me : Me S Known) → 0 < me.0.count → me.0.phase ≡ HeadLoaded i head → Allows (Kept {S = S} sizes) slots id me (next_at i) (λ _. head) (λ _. next_stored (step slots (next_at i) head 0 none) me head)

@@ -1,16 +1,15 @@
 -- The cancel keeps the rule.
-use Rattle.std.proofs.Common.{◌≡◌, ◌≢◌, ℕ, ◌+◌, ◌*◌, ◌<◌, ◌≤◌, Bool, true, false, List, [], ◌∷◌, ◌++◌, length, set, slice_index, bit_and, refl, sym, ap, ◌∙◌, subst, arith}
+use Rattle.std.proofs.Common.{◌≡◌, ℕ, ◌<◌, List, ◌∷◌, set, slice_index, bit_and, refl, sym, ap, ◌∙◌, subst, arith}
 use mathlib.Core.Option.{some, none}
 use lib.ListN.{get_elem?, length-set}
-use Rattle.atomic_table.specs.Table.{State, Me, keeps, step, Allows}
-use Rattle.aio_model.specs.declared.flags.Flags.{Flags}
+use Rattle.atomic_table.specs.Table.{Me, keeps, step, Allows}
 use Rattle.aio_model.specs.FlagsWord.{word_of}
 use Rattle.aio_model.specs.LoopHistory.{Sizes, Cancel, History}
 use Rattle.aio_model.specs.LoopFlags.{flags_of}
 use Rattle.aio_model.specs.LoopLists.{stack_of, out_of}
 use Rattle.aio_chain.specs.Chains.{IsChain}
 use Rattle.aio_chain.proofs.Chains.{chain_kept}
-use Rattle.aio_core.specs.Words.{head_at, flags_at, index_count, word_count, flags_word, next_in}
+use Rattle.aio_core.specs.Words.{head_at, flags_at, index_count, flags_word, next_in}
 use Rattle.aio_core.specs.Known.{CancelFetchAnd, Known, numbers_of}
 use Rattle.aio_core.specs.Rule.{Stands, Kept}
 use Rattle.aio_core.specs.Standing.{done, Cancels}
@@ -45,11 +44,11 @@ module _ (sizes : Sizes) (h : History) (words : List ℕ) (views : List Known) (
         seats = seats_make sizes h views id entry v w stand.seats at (record { sizes_are = refl; numbers_are = refl }) (owns_first (numbers_of v) numbered) refl refl numbered;
         flags = flags_change sizes h (entry ∷ h) words i x stand.flags stand.long below new_word (λ j ne. word_same sizes j h (entry ∷ h) refl (flags_of-cancel_other j i v.first (flags_of i h) h ne));
         lists = lists_after sizes h (entry ∷ h) words words' views id w stand.lists
-          (subst (λ k. IsChain (next_in words') k (stack_of h)) (sym (head_beside_flags words i x)) (chain_kept (next_in words) (next_in words') (slice_index words head_at) (stack_of h) stand.lists.stack (each_all _ (stack_of h) same_next)))
-          (owes_kept sizes words words' h (entry ∷ h) v.first v.phase (λ j busy owed. (owed_still sizes h entry v.first j owed refl refl, same_next j)) (stand.lists.owed id v at))
-          (λ beside u ne atu. owes_kept sizes words words' h (entry ∷ h) u.first u.phase (λ j busy owed. (owed_still sizes h entry u.first j owed refl refl, same_next j)))
-          (has_out_kept words words' h (entry ∷ h) v refl (each_all _ (out_of h) same_next) (stand.lists.out id v at))
-          (λ beside u ne atu. has_out_kept words words' h (entry ∷ h) u refl (each_all _ (out_of h) same_next));
+            (subst (λ k. IsChain (next_in words') k (stack_of h)) (sym (head_beside_flags words i x)) (chain_kept (next_in words) (next_in words') (slice_index words head_at) (stack_of h) stand.lists.stack (each_all _ (stack_of h) same_next)))
+            (owes_kept sizes words words' h (entry ∷ h) v.first v.phase (λ j busy owed. (owed_still sizes h entry v.first j owed refl refl, same_next j)) (stand.lists.owed id v at))
+            (λ beside u ne atu. owes_kept sizes words words' h (entry ∷ h) u.first u.phase (λ j busy owed. (owed_still sizes h entry u.first j owed refl refl, same_next j)))
+            (has_out_kept words words' h (entry ∷ h) v refl (each_all _ (out_of h) same_next) (stand.lists.out id v at))
+            (λ beside u ne atu. has_out_kept words words' h (entry ∷ h) u refl (each_all _ (out_of h) same_next));
       }
 
 pub cancel_allowed : {S : Type 0} (sizes : Sizes) (slots id i : ℕ) (me : Me S Known) → 0 < me.0.count → i < sizes.handles → Allows (Kept {S = S} sizes) slots id me (flags_at i) (λ n. bit_and n 18446744073709551613) (canceled (step slots (flags_at i) 18446744073709551613 0 none) me)

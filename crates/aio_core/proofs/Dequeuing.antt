@@ -1,21 +1,20 @@
 -- The dequeue of the index at hand keeps the rule.
-use Rattle.std.proofs.Common.{◌≡◌, ◌≢◌, ℕ, ◌+◌, ◌*◌, ◌<◌, ◌≤◌, Bool, true, false, eqb, Option, Some, None, List, [], ◌∷◌, ◌++◌, length, set, slice_index, bit_and, refl, sym, ap, ◌∙◌, subst, arith}
-use Rattle.std.proofs.lemmas.Bool.{eq-eqb, ne_eqb}
+use Rattle.std.proofs.Common.{◌≡◌, ◌≢◌, ℕ, ◌<◌, Bool, true, false, eqb, Some, None, List, ◌∷◌, ◌++◌, set, slice_index, bit_and, refl, sym, ap, ◌∙◌, subst}
+use Rattle.std.proofs.lemmas.Bool.{ne_eqb}
 use mathlib.Core.Option.{some, none}
 use lib.ListN.{get_elem?, length-set}
-use Rattle.atomic_table.specs.Table.{State, Me, keeps, step, Allows}
-use Rattle.aio_model.specs.declared.flags.Flags.{Flags}
+use Rattle.atomic_table.specs.Table.{Me, keeps, step, Allows}
 use Rattle.aio_model.specs.FlagsWord.{word_of}
 use Rattle.aio_model.specs.LoopHistory.{Sizes, Entry, Dequeue, History}
 use Rattle.aio_model.specs.LoopFlags.{has_life, is_pending, flags_of, are_due, ends_round}
-use Rattle.aio_model.specs.LoopLists.{is_announced, head_of, stack_of, out_of}
+use Rattle.aio_model.specs.LoopLists.{head_of, stack_of, out_of}
 use Rattle.aio_model.specs.LoopSeats.{owns, home}
 use Rattle.aio_model.proofs.AnnouncedOnce.{fits, head_is_pending, out_of-dequeue}
 use Rattle.aio_chain.specs.Chains.{IsChain, AreChains}
 use Rattle.aio_chain.proofs.Chains.{Each, chain_kept, chains_kept}
-use Rattle.aio_core.specs.Words.{head_at, flags_at, index_count, word_count, flags_word, next_in}
-use Rattle.aio_core.specs.Known.{DequeueFetchAnd, Stage, Known, numbers_of}
-use Rattle.aio_core.specs.Rule.{IsOwed, IsOut, NoneEmpty, HasOut, Stands, Kept}
+use Rattle.aio_core.specs.Words.{head_at, flags_at, flags_word, next_in}
+use Rattle.aio_core.specs.Known.{DequeueFetchAnd, Known, numbers_of}
+use Rattle.aio_core.specs.Rule.{IsOwed, IsOut, NoneEmpty, Stands, Kept}
 use Rattle.aio_core.specs.Standing.{done, is_empty, Makes, Dequeues}
 use Rattle.aio_core.specs.Plays.{Dequeued, dequeued}
 use Rattle.aio_core.proofs.Seats.{seats_make, makes_of}
@@ -72,19 +71,21 @@ module _ (sizes : Sizes) (h : History) (words : List ℕ) (views : List Known) (
       let new_word : flags_word sizes i (entry ∷ h) ≡ x = word_alive sizes i (entry ∷ h) alive ∙ ap word_of (flags_of-dequeue i ran h) ∙ sym is in
       let rest_is : held.0 ≡ out_of (entry ∷ h) = same_tail i held.0 (out_of (entry ∷ h)) (sym held.1 ∙ out_of-dequeue h i ran first) in
       let left : AreChains (next_in words') v.stage.slices (out_of (entry ∷ h)) = subst (AreChains (next_in words') v.stage.slices) rest_is (chains_kept (next_in words) (next_in words') v.stage.slices held.0 held.2 (each_all _ held.0 same_next)) in
-      let apart : (j n : ℕ) → IsOwed sizes h n j → j ≢ i = λ j n owed. (subst (Each (λ k. j ≢ k)) held.1 (announced_alone sizes h j stand.legal owed.announced).1).0 in
-      (record {
-        long = length-set words (flags_at i) x ∙ stand.long;
-        legal = ((first, refl), stand.legal);
-        seats = seats_make sizes h views id entry v w stand.seats at (record { sizes_are = refl; numbers_are = refl }) is_home refl refl numbered;
-        flags = flags_change sizes h (entry ∷ h) words i x stand.flags stand.long below new_word (λ j ne. word_same sizes j h (entry ∷ h) refl (flags_of-dequeue_other j i ran h ne));
-        lists = lists_after sizes h (entry ∷ h) words words' views id w stand.lists
-          (subst (λ k. IsChain (next_in words') k (stack_of h)) (sym (head_beside_flags words i x)) (chain_kept (next_in words) (next_in words') (slice_index words head_at) (stack_of h) stand.lists.stack (each_all _ (stack_of h) same_next)))
-          (owes_kept sizes words words' h (entry ∷ h) v.first v.phase (λ j busy owed. (owed_still sizes h entry v.first j owed (goes_on j i ran (apart j v.first owed)) refl, same_next j)) (stand.lists.owed id v at))
-          (λ beside u ne atu. owes_kept sizes words words' h (entry ∷ h) u.first u.phase (λ j busy owed. (owed_still sizes h entry u.first j owed (goes_on j i ran (apart j u.first owed)) refl, same_next j)))
-          (λ own. (left, held.3))
-          (λ beside u ne atu old. no_other_home sizes h (entry ∷ h) views id beside v u words' stand.seats at atu ne is_home);
-      }, chains_empty (next_in words') v.stage.slices (out_of (entry ∷ h)) left held.3)
+      let apart : (j n : ℕ) → IsOwed sizes h n j → j ≢ i = λ j n owed. (subst (Each (λ k. j ≢ k)) held.1 (announced_alone sizes h j stand.legal owed.announced).1).0 in (
+        record {
+          long = length-set words (flags_at i) x ∙ stand.long;
+          legal = ((first, refl), stand.legal);
+          seats = seats_make sizes h views id entry v w stand.seats at (record { sizes_are = refl; numbers_are = refl }) is_home refl refl numbered;
+          flags = flags_change sizes h (entry ∷ h) words i x stand.flags stand.long below new_word (λ j ne. word_same sizes j h (entry ∷ h) refl (flags_of-dequeue_other j i ran h ne));
+          lists = lists_after sizes h (entry ∷ h) words words' views id w stand.lists
+              (subst (λ k. IsChain (next_in words') k (stack_of h)) (sym (head_beside_flags words i x)) (chain_kept (next_in words) (next_in words') (slice_index words head_at) (stack_of h) stand.lists.stack (each_all _ (stack_of h) same_next)))
+              (owes_kept sizes words words' h (entry ∷ h) v.first v.phase (λ j busy owed. (owed_still sizes h entry v.first j owed (goes_on j i ran (apart j v.first owed)) refl, same_next j)) (stand.lists.owed id v at))
+              (λ beside u ne atu. owes_kept sizes words words' h (entry ∷ h) u.first u.phase (λ j busy owed. (owed_still sizes h entry u.first j owed (goes_on j i ran (apart j u.first owed)) refl, same_next j)))
+              (λ own. (left, held.3))
+              (λ beside u ne atu old. no_other_home sizes h (entry ∷ h) views id beside v u words' stand.seats at atu ne is_home);
+        },
+        chains_empty (next_in words') v.stage.slices (out_of (entry ∷ h)) left held.3,
+      )
 
 pub dequeue_allowed : {S : Type 0} (sizes : Sizes) (slots id i : ℕ) (me : Me S Known) → 0 < me.0.count → owns (numbers_of me.0) home ≡ true → me.0.stage.hand ≡ Some i → Allows (Kept {S = S} sizes) slots id me (flags_at i) (λ n. bit_and n 18446744073709551596) (dequeued (step slots (flags_at i) 18446744073709551596 0 none) me)
 dequeue_allowed sizes slots id i me numbered is_home hand s kept long at fits_word =

@@ -1,22 +1,21 @@
 -- The enqueue keeps the rule.
-use Rattle.std.proofs.Common.{◌≡◌, ◌≢◌, ℕ, ◌+◌, ◌*◌, ◌<◌, ◌≤◌, Bool, true, false, cond, eqb, Option, Some, None, List, [], ◌∷◌, ◌++◌, length, set, slice_index, bit_or, refl, sym, ap, ◌∙◌, subst, ⊎_elim, arith}
-use Rattle.std.proofs.lemmas.Bool.{cases_Bool, eq-eqb, ne_eqb}
+use Rattle.std.proofs.Common.{◌≡◌, ℕ, ◌<◌, Bool, true, false, cond, eqb, List, ◌∷◌, length, set, slice_index, bit_or, refl, sym, ap, ◌∙◌, subst, arith}
+use Rattle.std.proofs.lemmas.Bool.{eq-eqb}
 use mathlib.Core.Option.{some, none}
 use lib.ListN.{get_elem?, length-set}
-use Rattle.atomic_table.specs.Table.{State, Me, keeps, step, Allows}
-use Rattle.aio_model.specs.declared.flags.Flags.{Flags}
+use Rattle.atomic_table.specs.Table.{Me, keeps, step, Allows}
 use Rattle.aio_model.specs.FlagsWord.{word_of}
 use Rattle.aio_model.specs.LoopHistory.{Sizes, Asked, Enqueue, History}
 use Rattle.aio_model.specs.LoopFlags.{is_pending, flags_of, is_once}
-use Rattle.aio_model.specs.LoopLists.{is_announced, announcer_of, or_else, stack_of, out_of}
+use Rattle.aio_model.specs.LoopLists.{stack_of, out_of}
 use Rattle.aio_model.specs.LoopLegal.{IsLegal}
-use Rattle.aio_model.specs.InFlight.{Phase, AtRest, Announced, is_at_rest}
+use Rattle.aio_model.specs.InFlight.{AtRest, Announced}
 use Rattle.aio_chain.specs.Chains.{IsChain}
-use Rattle.aio_chain.proofs.Chains.{Each, chain_kept}
+use Rattle.aio_chain.proofs.Chains.{chain_kept}
 use Rattle.aio_core.specs.Words.{head_at, flags_at, next_at, index_count, word_count, flags_word, next_in}
 use Rattle.aio_core.specs.Known.{EnqueueFetchOr, Known, numbers_of}
 use Rattle.aio_core.specs.Rule.{IsOwed, Owes, Stands, Kept}
-use Rattle.aio_core.specs.Standing.{mask_of, asked_with, done, Makes, after_enqueue, Enqueues}
+use Rattle.aio_core.specs.Standing.{mask_of, done, after_enqueue, Enqueues}
 use Rattle.aio_core.specs.Plays.{Enqueued, enqueued}
 use Rattle.aio_core.proofs.Entries.{owns_first}
 use Rattle.aio_core.proofs.Seats.{seats_make, makes_of}
@@ -73,11 +72,11 @@ module _ (sizes : Sizes) (h : History) (words : List ℕ) (views : List Known) (
         seats = seats_make sizes h views id entry v w stand.seats at (record { sizes_are = refl; numbers_are = refl }) (owns_first (numbers_of v) numbered) refl refl numbered;
         flags = flags_change sizes h (entry ∷ h) words i x stand.flags stand.long below new_word (λ j ne. word_same sizes j h (entry ∷ h) refl (flags_of-enqueue_other j i v.first asked (flags_of i h) h ne));
         lists = lists_after sizes h (entry ∷ h) words words' views id w stand.lists
-          (subst (λ k. IsChain (next_in words') k (stack_of h)) (sym (head_beside_flags words i x)) (chain_kept (next_in words) (next_in words') (slice_index words head_at) (stack_of h) stand.lists.stack (each_all _ (stack_of h) same_next)))
-          (owed_after sizes h i v.first asked stand.legal below words' (is_pending i h) refl)
-          (λ beside u ne atu. owes_kept sizes words words' h (entry ∷ h) u.first u.phase (λ j busy owed. (owed_still sizes h entry u.first j owed refl refl, same_next j)))
-          (has_out_kept words words' h (entry ∷ h) v refl (each_all _ (out_of h) same_next) (stand.lists.out id v at))
-          (λ beside u ne atu. has_out_kept words words' h (entry ∷ h) u refl (each_all _ (out_of h) same_next));
+            (subst (λ k. IsChain (next_in words') k (stack_of h)) (sym (head_beside_flags words i x)) (chain_kept (next_in words) (next_in words') (slice_index words head_at) (stack_of h) stand.lists.stack (each_all _ (stack_of h) same_next)))
+            (owed_after sizes h i v.first asked stand.legal below words' (is_pending i h) refl)
+            (λ beside u ne atu. owes_kept sizes words words' h (entry ∷ h) u.first u.phase (λ j busy owed. (owed_still sizes h entry u.first j owed refl refl, same_next j)))
+            (has_out_kept words words' h (entry ∷ h) v refl (each_all _ (out_of h) same_next) (stand.lists.out id v at))
+            (λ beside u ne atu. has_out_kept words words' h (entry ∷ h) u refl (each_all _ (out_of h) same_next));
       }
 
 pub enqueue_allowed : {S : Type 0} (sizes : Sizes) (slots id i : ℕ) (me : Me S Known) (asked : Asked) → 0 < me.0.count → is_once asked ≡ false → i < sizes.handles → Allows (Kept {S = S} sizes) slots id me (flags_at i) (λ n. bit_or n (mask_of asked)) (enqueued (step slots (flags_at i) (mask_of asked) 0 none) me)

@@ -1,5 +1,5 @@
 -- Own entries of a history, and the numbers that a seat owns.
-use Rattle.std.proofs.Common.{◌≡◌, ℕ, ◌+◌, ◌<◌, ◌≤◌, Bool, true, false, cond, List, [], ◌∷◌, ◌++◌, refl, sym, ap, ◌∙◌, arith}
+use Rattle.std.proofs.Common.{◌≡◌, ℕ, ◌+◌, ◌<◌, Bool, true, false, cond, [], ◌∷◌, ◌++◌, refl, sym, ap, ◌∙◌, arith}
 use Rattle.std.proofs.lemmas.Bool.{cond-true, cond-false, and_parts, and_from, not_from_false, lt-ltb, le-ltb, ltb-true}
 use Rattle.aio_model.specs.LoopHistory.{Entry, History}
 use Rattle.aio_model.specs.LoopLists.{seat_of}

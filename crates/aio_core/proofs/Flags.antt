@@ -1,9 +1,9 @@
 -- The rule's part on flags: what keeps it when a word changes.
-use Rattle.std.proofs.Common.{◌≡◌, ◌≢◌, ℕ, ◌+◌, ◌*◌, ◌<◌, ◌≤◌, Bool, true, false, cond, ◌||◌, eqb, ltb, List, [], ◌∷◌, length, set, get_or, get_or-set_same, get_or-set_other, slice_index, inl, inr, refl, sym, ap, ◌∙◌, subst, ⊎_elim, arith}
-use Rattle.std.proofs.lemmas.Bool.{cond-true, cond-false, cases_eq, lt-ltb, eq-eqb, ne_eqb}
+use Rattle.std.proofs.Common.{◌≡◌, ◌≢◌, ℕ, ◌<◌, Bool, true, false, cond, eqb, ltb, List, ◌∷◌, length, set, get_or-set_same, get_or-set_other, slice_index, refl, sym, ap, ◌∙◌, subst, ⊎_elim, arith}
+use Rattle.std.proofs.lemmas.Bool.{cond-true, cases_eq, lt-ltb, eq-eqb, ne_eqb}
 use Rattle.aio_model.specs.declared.flags.Flags.{Flags}
 use Rattle.aio_model.specs.FlagsWord.{word_of}
-use Rattle.aio_model.specs.LoopHistory.{Sizes, Asked, ToCall, ToCallIdle, ToDelete, ToCallOnce, Entry, Enqueue, Put, Cancel, Take, Dequeue, History}
+use Rattle.aio_model.specs.LoopHistory.{Sizes, Asked, ToCall, ToCallIdle, ToDelete, ToCallOnce, Enqueue, Cancel, Dequeue, History}
 use Rattle.aio_model.specs.LoopFlags.{has_life, flags_of, is_once}
 use Rattle.aio_model.specs.LoopLegal.{MayAsk}
 use Rattle.aio_core.specs.Words.{flags_at, index_count, word_count, flags_word, free_word}

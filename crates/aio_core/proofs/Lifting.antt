@@ -1,14 +1,13 @@
 -- The load of what follows the first of the first slice keeps the rule.
-use Rattle.std.proofs.Common.{◌≡◌, ◌≢◌, ℕ, ◌+◌, ◌<◌, ◌≤◌, true, Option, Some, None, List, [], ◌∷◌, ◌++◌, set, slice_index, refl, sym, ap, ◌∙◌, subst, arith}
-use mathlib.Core.Option.{some, none}
-use lib.ListN.{get_elem?}
-use Rattle.atomic_table.specs.Table.{State, Me, keeps, step, Allows}
-use Rattle.aio_model.specs.LoopHistory.{Sizes, History}
+use Rattle.std.proofs.Common.{◌≡◌, ℕ, ◌+◌, ◌<◌, ◌≤◌, true, Some, None, List, ◌∷◌, refl, sym, ◌∙◌, subst, arith}
+use mathlib.Core.Option.{none}
+use Rattle.atomic_table.specs.Table.{Me, keeps, step, Allows}
+use Rattle.aio_model.specs.LoopHistory.{Sizes}
 use Rattle.aio_model.specs.LoopLists.{out_of}
 use Rattle.aio_model.specs.LoopSeats.{owns, home}
 use Rattle.aio_core.specs.Words.{next_at, index_count, next_in}
-use Rattle.aio_core.specs.Known.{NextLoad, Stage, Known, numbers_of}
-use Rattle.aio_core.specs.Rule.{IsOut, NoneEmpty, HasOut, Stands, Kept}
+use Rattle.aio_core.specs.Known.{NextLoad, Known, numbers_of}
+use Rattle.aio_core.specs.Rule.{IsOut, NoneEmpty, HasOut, Kept}
 use Rattle.aio_core.specs.Standing.{done, without_first, Lifts}
 use Rattle.aio_core.specs.Plays.{next_loaded}
 use Rattle.aio_core.proofs.Histories.{out_below}

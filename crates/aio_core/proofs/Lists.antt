@@ -1,16 +1,16 @@
 -- The rule's part on lists: what keeps it when a word, an entry or a view changes.
-use Rattle.std.proofs.Common.{◌≡◌, ◌≢◌, ℕ, ◌+◌, ◌*◌, ◌<◌, ◌≤◌, Bool, true, false, Option, Some, None, List, [], ◌∷◌, ◌++◌, length, set, slice_index, refl, sym, ap, ◌∙◌, subst, arith}
+use Rattle.std.proofs.Common.{◌≡◌, ◌≢◌, ℕ, ◌<◌, true, false, Option, Some, None, List, [], ◌∷◌, set, slice_index, refl, sym, ap, ◌∙◌, subst}
 use mathlib.Core.Option.{some}
 use lib.ListN.{get_elem?}
 use Rattle.aio_model.specs.LoopHistory.{Sizes, History}
 use Rattle.aio_model.specs.LoopLists.{announcer_of, stack_of, out_of}
 use Rattle.aio_model.specs.LoopSeats.{owns, home}
 use Rattle.aio_model.specs.InFlight.{Phase, AtRest, LotClaimed, Announced, HeadLoaded, Linked, ToStore, ToLoad, ToSet, is_at_rest}
-use Rattle.aio_chain.specs.Chains.{IsChain, AreChains}
-use Rattle.aio_chain.proofs.Chains.{Each, chain_kept, chains_kept}
-use Rattle.aio_core.specs.Words.{head_at, next_at, index_count, next_in}
+use Rattle.aio_chain.specs.Chains.{IsChain}
+use Rattle.aio_chain.proofs.Chains.{Each, chains_kept}
+use Rattle.aio_core.specs.Words.{head_at, next_in}
 use Rattle.aio_core.specs.Known.{Known, numbers_of}
-use Rattle.aio_core.specs.Rule.{EachView, SeatsStand, IsOwed, Owes, IsOut, NoneEmpty, HasOut, ListsStand}
+use Rattle.aio_core.specs.Rule.{SeatsStand, IsOwed, Owes, IsOut, HasOut, ListsStand}
 use Rattle.aio_core.proofs.Entries.{owns_first}
 use Rattle.aio_core.proofs.Seats.{each_set}
 

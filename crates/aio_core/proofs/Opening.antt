@@ -1,11 +1,9 @@
 -- A new table meets the rule, over a history with no entry.
-use Rattle.std.proofs.Common.{◌≡◌, ◌≢◌, ℕ, zero, suc, ◌+◌, ◌<◌, ◌≤◌, true, false, List, [], ◌∷◌, length, slice_index, refl, sym, subst, arith}
-use mathlib.Core.Option.{some, some-injective, some-ne-none}
-use lib.ListN.{get_elem?}
-use Rattle.atomic_table.specs.Table.{State, opening}
+use Rattle.std.proofs.Common.{◌≡◌, ℕ, zero, suc, ◌<◌, ◌≤◌, List, [], ◌∷◌, length, slice_index, refl, sym, subst, arith}
+use mathlib.Core.Option.{some-injective, some-ne-none}
+use Rattle.atomic_table.specs.Table.{opening}
 use Rattle.aio_model.specs.LoopHistory.{Sizes}
-use Rattle.aio_model.specs.InFlight.{AtRest}
-use Rattle.aio_core.specs.Words.{head_at, flags_at, index_count, word_count, flags_word, next_in}
+use Rattle.aio_core.specs.Words.{head_at, flags_at, index_count, word_count, flags_word}
 use Rattle.aio_core.specs.Known.{Known, first_known}
 use Rattle.aio_core.specs.Opening.{AreFirst}
 use Rattle.aio_core.specs.Rule.{EachView, AreApart, IsSeat, Owes, HasOut, Stands, Kept}

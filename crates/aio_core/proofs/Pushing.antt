@@ -1,5 +1,5 @@
 -- The compare of the head keeps the rule, whether it pushes the index or finds another head.
-use Rattle.std.proofs.Common.{◌≡◌, ◌≢◌, ℕ, ◌+◌, ◌*◌, ◌<◌, ◌≤◌, Bool, true, false, eqb, MatchBool, List, [], ◌∷◌, ◌++◌, length, set, slice_index, refl, sym, ap, ◌∙◌, subst, arith}
+use Rattle.std.proofs.Common.{◌≡◌, ℕ, ◌+◌, ◌<◌, Bool, true, false, eqb, MatchBool, List, ◌∷◌, set, slice_index, refl, sym, ap, ◌∙◌, subst, arith}
 use Rattle.std.proofs.lemmas.Bool.{eqb-true, ne_eqb}
 use mathlib.Core.Option.{some, none}
 use lib.ListN.{get_elem?, length-set}
@@ -7,14 +7,13 @@ use prog.Atomic.{either}
 use Rattle.atomic_table.specs.Table.{State, Me, Act, keeps, step, Valid, carried_after, stepped, Allows}
 use Rattle.aio_model.specs.LoopHistory.{Sizes, Put, History}
 use Rattle.aio_model.specs.LoopLists.{stack_of, out_of}
-use Rattle.aio_model.specs.LoopSeats.{owns}
-use Rattle.aio_model.specs.InFlight.{Phase, AtRest, Announced, Linked, is_at_rest}
+use Rattle.aio_model.specs.InFlight.{AtRest, Announced, Linked}
 use Rattle.aio_chain.specs.Chains.{IsChain}
 use Rattle.aio_chain.proofs.Chains.{chain_kept, pushed}
-use Rattle.aio_core.specs.Words.{head_at, flags_at, next_at, index_count, word_count, next_in}
+use Rattle.aio_core.specs.Words.{head_at, next_at, next_in}
 use Rattle.aio_core.specs.Known.{HeadCompare, Known, numbers_of}
-use Rattle.aio_core.specs.Rule.{IsOwed, Owes, HasOut, Stands, Kept}
-use Rattle.aio_core.specs.Standing.{done, index_in, Makes, Pushes, Misses}
+use Rattle.aio_core.specs.Rule.{IsOwed, Owes, Stands, Kept}
+use Rattle.aio_core.specs.Standing.{done, index_in, Pushes, Misses}
 use Rattle.aio_core.specs.Plays.{head_compared}
 use Rattle.aio_core.proofs.Entries.{owns_first}
 use Rattle.aio_core.proofs.Seats.{seats_make, makes_of}
@@ -48,11 +47,11 @@ module _ (sizes : Sizes) (h : History) (words : List ℕ) (views : List Known) (
         seats = seats_make sizes h views id entry v w stand.seats at (record { sizes_are = refl; numbers_are = refl }) (owns_first (numbers_of v) numbered) refl refl numbered;
         flags = flags_apart sizes h (entry ∷ h) words head_at (i + 1) stand.flags (λ j q. omega arith) (λ j. refl);
         lists = lists_after sizes h (entry ∷ h) words words' views id w stand.lists
-          (subst (λ k. IsChain (next_in words') k (i ∷ stack_of h)) (sym top) (pushed (next_in words') (slice_index words head_at) i (stack_of h) below_it (same_next i ∙ linked)))
-          tt
-          (λ beside u ne atu. owes_kept sizes words words' h (entry ∷ h) u.first u.phase (λ j busy theirs. (owed_still sizes h entry u.first j theirs refl (ne_eqb j i (λ q. owed_apart sizes h views id beside v u i j stand.seats at atu ne owed numbered theirs ((stand.seats.each beside u atu).active busy) (sym q))), same_next j)))
-          (has_out_kept words words' h (entry ∷ h) v refl (each_all _ (out_of h) same_next) (stand.lists.out id v at))
-          (λ beside u ne atu. has_out_kept words words' h (entry ∷ h) u refl (each_all _ (out_of h) same_next));
+            (subst (λ k. IsChain (next_in words') k (i ∷ stack_of h)) (sym top) (pushed (next_in words') (slice_index words head_at) i (stack_of h) below_it (same_next i ∙ linked)))
+            tt
+            (λ beside u ne atu. owes_kept sizes words words' h (entry ∷ h) u.first u.phase (λ j busy theirs. (owed_still sizes h entry u.first j theirs refl (ne_eqb j i (λ q. owed_apart sizes h views id beside v u i j stand.seats at atu ne owed numbered theirs ((stand.seats.each beside u atu).active busy) (sym q))), same_next j)))
+            (has_out_kept words words' h (entry ∷ h) v refl (each_all _ (out_of h) same_next) (stand.lists.out id v at))
+            (λ beside u ne atu. has_out_kept words words' h (entry ∷ h) u refl (each_all _ (out_of h) same_next));
       }
 
 module _ {S : Type 0} (sizes : Sizes) (slots id i head : ℕ) (me : Me S Known) (numbered : 0 < me.0.count) (phase : me.0.phase ≡ Linked i head) (s : State S Known) (kept : Kept {S = S} sizes s) (at : get_elem? s.views id ≡ some me.0) where

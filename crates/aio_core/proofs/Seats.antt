@@ -1,12 +1,11 @@
 -- The rule's part on seats: what keeps it when one view changes.
-use Rattle.std.proofs.Common.{◌≡◌, ◌≢◌, ℕ, ◌+◌, ◌<◌, ◌≤◌, Bool, true, false, List, [], ◌∷◌, ◌++◌, set, inl, inr, refl, sym, ap, ◌∙◌, subst, ⊎_elim, arith}
+use Rattle.std.proofs.Common.{◌≡◌, ◌≢◌, ℕ, ◌<◌, true, false, List, [], ◌∷◌, ◌++◌, set, refl, sym, ap, ◌∙◌, subst, ⊎_elim, arith}
 use mathlib.Core.Option.{some}
 use lib.ListN.{get_elem?}
 use Rattle.atomic_table.proofs.Lists.{at_set}
 use Rattle.aio_model.specs.LoopHistory.{Sizes, Entry, History}
 use Rattle.aio_model.specs.LoopLists.{seat_of}
-use Rattle.aio_model.specs.LoopSeats.{owns, own_entries, IsSeenOf}
-use Rattle.aio_model.specs.InFlight.{is_at_rest}
+use Rattle.aio_model.specs.LoopSeats.{owns, own_entries}
 use Rattle.aio_model.specs.LoopLegal.{IsLegal}
 use Rattle.aio_core.specs.Known.{Known, numbers_of}
 use Rattle.aio_core.specs.Standing.{Makes}
@@ -78,18 +77,18 @@ seats_keep sizes h views id v w stand at same seen mine numbered =
     let all : own_entries (numbers_of w) w.seen ≡ own_entries (numbers_of v) v.seen = ap (λ n. own_entries n w.seen) same.numbers_are ∙ ap (own_entries (numbers_of v)) seen in
     record {
       each = each_set (IsSeat sizes h) (IsSeat sizes h) views id w stand.each
-        (record {
-          sizes_are = same.sizes_are ∙ is.sizes_are;
-          seen_of = record {
-            rest = is.seen_of.rest;
-            longer = is.seen_of.longer ∙ ap (λ (l : History). is.seen_of.rest ++ l) (sym seen);
-            none_missed = ap (λ n. own_entries n is.seen_of.rest) same.numbers_are ∙ is.seen_of.none_missed;
-            mine_is = mine ∙ is.seen_of.mine_is ∙ sym all;
-          };
-          below = omega arith;
-          active = λ _. omega arith;
-        })
-        (λ other u ne atu old. old);
+          (record {
+            sizes_are = same.sizes_are ∙ is.sizes_are;
+            seen_of = record {
+              rest = is.seen_of.rest;
+              longer = is.seen_of.longer ∙ ap (λ (l : History). is.seen_of.rest ++ l) (sym seen);
+              none_missed = ap (λ n. own_entries n is.seen_of.rest) same.numbers_are ∙ is.seen_of.none_missed;
+              mine_is = mine ∙ is.seen_of.mine_is ∙ sym all;
+            };
+            below = omega arith;
+            active = λ _. omega arith;
+          })
+          (λ other u ne atu old. old);
       apart = apart_set views id v w stand.apart at same.numbers_are;
       all_owned = stand.all_owned;
     }

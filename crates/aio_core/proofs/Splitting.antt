@@ -1,18 +1,16 @@
 -- A seat that is split keeps the rule.
-use Rattle.std.proofs.Common.{◌≡◌, ◌≢◌, ℕ, zero, suc, ◌+◌, ◌-◌, ◌<◌, ◌≤◌, Bool, true, false, not, ◌&&◌, cond, ltb, List, [], ◌∷◌, ◌++◌, length, set, inl, inr, refl, sym, ap, ◌∙◌, subst, ⊎_elim, ◌⊎◌, arith, length-set}
-use Rattle.std.proofs.lemmas.Bool.{and_parts, and_from, not_from_false, not_from_true, not-true, lt-ltb, le-ltb, ltb-true, ltb-false, false_from_ne_true, false≢true}
-use mathlib.Core.Option.{some, none, some-injective, some-ne-none}
+use Rattle.std.proofs.Common.{◌≡◌, ◌≢◌, ℕ, zero, suc, ◌+◌, ◌-◌, ◌<◌, ◌≤◌, Bool, true, false, not, cond, ltb, List, [], ◌∷◌, ◌++◌, length, set, inl, inr, refl, sym, ◌∙◌, subst, ⊎_elim, ◌⊎◌, arith, length-set}
+use Rattle.std.proofs.lemmas.Bool.{and_parts, and_from, not_from_false, not-true, lt-ltb, le-ltb, ltb-true, ltb-false, false_from_ne_true}
+use mathlib.Core.Option.{some, some-injective, some-ne-none}
 use lib.ListN.{get_elem?}
-use Rattle.atomic_table.specs.Table.{State, Splits}
-use Rattle.atomic_table.proofs.Lists.{at_set, set_here}
+use Rattle.atomic_table.specs.Table.{Splits}
+use Rattle.atomic_table.proofs.Lists.{at_set}
 use Rattle.aio_model.specs.LoopHistory.{Sizes, Entry, History}
 use Rattle.aio_model.specs.LoopLists.{seat_of}
 use Rattle.aio_model.specs.LoopSeats.{Numbers, owns, own_entries, home}
-use Rattle.aio_model.specs.InFlight.{AtRest}
 use Rattle.aio_core.specs.Known.{Known, numbers_of}
-use Rattle.aio_core.specs.Rule.{everyone, EachView, AreApart, IsSeat, SeatsStand, Owes, HasOut, ListsStand, Stands, Kept}
+use Rattle.aio_core.specs.Rule.{EachView, AreApart, IsSeat, Owes, HasOut, Stands, Kept}
 use Rattle.aio_core.specs.Splitting.{front_numbers, back_numbers, front_known, back_known}
-use Rattle.aio_core.proofs.Entries.{own-append}
 
 -- Numbers.
 

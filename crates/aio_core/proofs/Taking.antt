@@ -1,16 +1,16 @@
 -- The swap by which home takes the list keeps the rule.
-use Rattle.std.proofs.Common.{◌≡◌, ◌≢◌, ℕ, ◌+◌, ◌*◌, ◌<◌, ◌≤◌, Bool, true, false, Option, Some, None, List, [], ◌∷◌, ◌++◌, length, set, slice_index, refl, sym, ap, ◌∙◌, subst, arith}
+use Rattle.std.proofs.Common.{◌≡◌, ℕ, ◌<◌, ◌≤◌, true, Option, None, List, ◌∷◌, set, slice_index, refl, sym, ◌∙◌, subst, arith}
 use mathlib.Core.Option.{some, none}
 use lib.ListN.{get_elem?, length-set}
-use Rattle.atomic_table.specs.Table.{State, Me, keeps, step, Allows}
+use Rattle.atomic_table.specs.Table.{Me, keeps, step, Allows}
 use Rattle.aio_model.specs.LoopHistory.{Sizes, Take, History}
 use Rattle.aio_model.specs.LoopLists.{stack_of, out_of}
 use Rattle.aio_model.specs.LoopSeats.{owns, home}
 use Rattle.aio_model.proofs.AnnouncedOnce.{out_of-take}
 use Rattle.aio_chain.specs.Chains.{IsChain}
 use Rattle.aio_chain.proofs.Chains.{chain_kept}
-use Rattle.aio_core.specs.Words.{head_at, flags_at, next_at, index_count, word_count, next_in}
-use Rattle.aio_core.specs.Known.{TakeSwap, Stage, Known, numbers_of}
+use Rattle.aio_core.specs.Words.{head_at, next_at, index_count, next_in}
+use Rattle.aio_core.specs.Known.{TakeSwap, Known, numbers_of}
 use Rattle.aio_core.specs.Rule.{IsOut, NoneEmpty, HasOut, Stands, Kept}
 use Rattle.aio_core.specs.Standing.{done, is_empty, with_slice, Takes}
 use Rattle.aio_core.specs.Plays.{taken}
@@ -52,11 +52,11 @@ module _ (sizes : Sizes) (h : History) (words : List ℕ) (views : List Known) (
         seats = seats_make sizes h views id Take v w stand.seats at (record { sizes_are = refl; numbers_are = refl }) is_home refl refl numbered;
         flags = flags_apart sizes h (Take ∷ h) words head_at 0 stand.flags (λ j q. omega arith) (λ j. refl);
         lists = lists_after sizes h (Take ∷ h) words words_taken views id w stand.lists
-          (read_here words head_at 0 (omega arith))
-          (owes_kept sizes words words_taken h (Take ∷ h) v.first v.phase (λ j busy owed. (owed_still sizes h Take v.first j owed refl refl, next_as_before j)) (stand.lists.owed id v at))
-          (λ beside u ne atu. owes_kept sizes words words_taken h (Take ∷ h) u.first u.phase (λ j busy owed. (owed_still sizes h Take u.first j owed refl refl, next_as_before j)))
-          (has_out_taken stand at)
-          (λ beside u ne atu old. no_other_home sizes h (Take ∷ h) views id beside v u words_taken stand.seats at atu ne is_home);
+            (read_here words head_at 0 (omega arith))
+            (owes_kept sizes words words_taken h (Take ∷ h) v.first v.phase (λ j busy owed. (owed_still sizes h Take v.first j owed refl refl, next_as_before j)) (stand.lists.owed id v at))
+            (λ beside u ne atu. owes_kept sizes words words_taken h (Take ∷ h) u.first u.phase (λ j busy owed. (owed_still sizes h Take u.first j owed refl refl, next_as_before j)))
+            (has_out_taken stand at)
+            (λ beside u ne atu old. no_other_home sizes h (Take ∷ h) views id beside v u words_taken stand.seats at atu ne is_home);
       }
 
 -- with nothing at hand, nothing is out exactly where there is no slice

@@ -1,5 +1,5 @@
 -- What contracts see of a table and of a seat.
-use Rattle.std.specs.Prelude.{◌≡◌, ◌≢◌, ℕ, ◌+◌, nat_lt, if◌then◌else◌, Option, Some, None, List, [], ◌∷◌}
+use Rattle.std.specs.Prelude.{◌≡◌, ◌≢◌, ℕ, ◌+◌, None, List, [], ◌∷◌}
 use Rattle.atomic_table.specs.Seated.{TableId}
 use Rattle.aio_model.specs.LoopHistory.{Sizes}
 use Rattle.aio_model.specs.InFlight.{AtRest}
@@ -47,8 +47,3 @@ first_seat sizes =
 abbrev pub first_home : Sizes → Known
 first_home sizes =
     record { sizes = sizes; seen = []; mine = []; did = []; first = 64; count = 1; phase = AtRest; stage = empty_stage; sleep = Running; told = None }
-
--- the number that is too large for a table, if there is one
-abbrev pub excess_of : Sizes → Option ℕ
-excess_of sizes =
-    if nat_lt 4096 (sizes.handles + sizes.lots) then Some (sizes.handles + sizes.lots) else if nat_lt 64 sizes.events then Some sizes.events else None

@@ -7,3 +7,4 @@ pub mod Splitting
 pub mod Calls
 pub mod HomeState
 pub mod Opening
+pub mod Refusals

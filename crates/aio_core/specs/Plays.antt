@@ -4,7 +4,7 @@ use Rattle.std.specs.Prelude.{◌≡◌, ℕ, ◌+◌, ◌<◌, ◌==◌, Some, 
 use Rattle.atomic_table.specs.Table.{Me, Step}
 use Rattle.aio_model.specs.declared.flags.Flags.{Flags}
 use Rattle.aio_model.specs.FlagsWord.{word_of}
-use Rattle.aio_model.specs.InFlight.{Phase, Announced, HeadLoaded, Linked}
+use Rattle.aio_model.specs.InFlight.{Announced, HeadLoaded, Linked}
 use Rattle.aio_core.specs.Words.{head_at, flags_at, next_at, index_count}
 use Rattle.aio_core.specs.Known.{HeadLoad, NextStore, Known}
 use Rattle.aio_core.specs.Standing.{done, asked_with, Enqueues, Pushes, Misses, Cancels, Takes, Lifts, Dequeues}

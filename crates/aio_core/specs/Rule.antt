@@ -11,7 +11,7 @@ use Rattle.aio_model.specs.LoopSeats.{Numbers, owns, own_entries, home, IsSeenOf
 use Rattle.aio_model.specs.InFlight.{Phase, AtRest, LotClaimed, Announced, HeadLoaded, Linked, ToStore, ToLoad, ToSet, is_at_rest}
 use Rattle.aio_chain.specs.Chains.{IsChain, AreChains}
 use Rattle.aio_core.specs.Words.{head_at, flags_at, index_count, word_count, flags_word, next_in}
-use Rattle.aio_core.specs.Known.{Stage, Known, numbers_of}
+use Rattle.aio_core.specs.Known.{Known, numbers_of}
 
 -- all numbers: those of seats, and the home's
 abbrev pub everyone : Numbers

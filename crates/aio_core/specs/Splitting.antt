@@ -1,5 +1,5 @@
 -- How what a seat knows is cut in two.
-use Rattle.std.specs.Prelude.{ℕ, ◌+◌, ◌-◌, ◌/◌, [], None}
+use Rattle.std.specs.Prelude.{ℕ, ◌+◌, ◌-◌, [], None}
 use Rattle.aio_model.specs.LoopSeats.{Numbers, own_entries}
 use Rattle.aio_model.specs.InFlight.{AtRest}
 use Rattle.aio_core.specs.Known.{Known, numbers_of}

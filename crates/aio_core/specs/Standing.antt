@@ -4,14 +4,14 @@ use Rattle.aio_model.specs.declared.flags.Flags.{Flags}
 use Rattle.aio_model.specs.declared.kinds.Kind as asking
 use Rattle.aio_model.specs.declared.kinds.Kind.TheVariants.{Sched, Idle, Del}
 use Rattle.aio_model.specs.FlagsWord.{word_of}
-use Rattle.aio_model.specs.LoopHistory.{Sizes, Asked, ToCall, ToCallIdle, ToDelete, ToCallOnce, Entry, Enqueue, Put, Cancel, Take, Dequeue, History}
+use Rattle.aio_model.specs.LoopHistory.{Asked, ToCall, ToCallIdle, ToDelete, ToCallOnce, Entry, Enqueue, Put, Cancel, Take, Dequeue, History}
 use Rattle.aio_model.specs.LoopFlags.{flags_of, are_due}
 use Rattle.aio_model.specs.LoopLists.{out_of}
 use Rattle.aio_model.specs.LoopLegal.{IsLegal}
 use Rattle.aio_model.specs.LoopSeats.{own_entries}
 use Rattle.aio_model.specs.InFlight.{Phase, AtRest, LotClaimed, Announced, HeadLoaded, Linked, ToStore, ToLoad, ToSet}
 use Rattle.aio_core.specs.Words.{head_at, flags_at, next_at, index_count}
-use Rattle.aio_core.specs.Known.{Kind, EnqueueFetchOr, HeadLoad, NextStore, HeadCompare, TakeSwap, NextLoad, DequeueFetchAnd, CancelFetchAnd, Done, Stage, Known, numbers_of}
+use Rattle.aio_core.specs.Known.{Kind, EnqueueFetchOr, HeadLoad, NextStore, HeadCompare, TakeSwap, NextLoad, DequeueFetchAnd, CancelFetchAnd, Done, Known, numbers_of}
 
 -- what a call of this kind asks
 abbrev pub asked_by : asking.Kind → Asked

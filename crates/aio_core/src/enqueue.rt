@@ -68,22 +68,14 @@ impl<J: Job> LoopTable<J> {
         ensures seat { IsSeatOf self.now seat.new }
         ensures step { MatchBool (result == head) (Pushes bh result seat.old.known seat.new.known) (Misses bh result seat.old.known seat.new.known) }
     {
-        self.table.shared.compare_exchange::<CompareHead>(
-            &mut seat.inner,
-            HEAD,
-            head,
-            u64::from(bh) + 1,
-        )
+        self.table
+            .shared
+            .compare_exchange::<CompareHead>(&mut seat.inner, HEAD, head, u64::from(bh) + 1)
     }
 
     /// Sets the flags of an enqueue, one atomic step, and answers those that it found. Where the handle was not pending,
     /// the seat has announced it and is to push it. Any thread, with a seat of its own.
-    pub fn announce(
-        &self,
-        seat: &mut Seat<J>,
-        bh: u32,
-        kind: Kind,
-    ) -> (Flags, Option<Announced>)
+    pub fn announce(&self, seat: &mut Seat<J>, bh: u32, kind: Kind) -> (Flags, Option<Announced>)
         requires seat { IsSeatOf self.now seat.old }
         requires rest { seat.old.known.phase ≡ AtRest }
         requires handle { bh < self.now.sizes.handles }

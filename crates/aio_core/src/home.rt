@@ -5,7 +5,7 @@ ghost use Rattle.aio_core.specs.Known.{Known};
 ghost use Rattle.aio_core.specs.Words.{index_count};
 ghost use Rattle.aio_core.specs.Standing.{Takes, Lifts, Dequeues};
 ghost use Rattle.aio_core.specs.Plays.{Dequeued};
-ghost use Rattle.aio_core.specs.Calls.{IsSeatOf, HasTaken, HasLifted};
+ghost use Rattle.aio_core.specs.Calls.{IsSeatOf, HasTaken, HasLifted, first_home};
 ghost use Rattle.aio_core.specs.HomeState.{are_within, is_within};
 
 use crate::job::Job;
@@ -26,6 +26,18 @@ pub struct Home<J: Job> {
     ghost same_slices: { slices ≡ seat.known.stage.slices },
     ghost slices_within: { are_within seat.known.sizes slices ≡ true },
     ghost hand_within: { is_within seat.known.sizes seat.known.stage.hand ≡ true },
+}
+
+impl<J: Job> Home<J> {
+    pub(crate) fn of(seat: Seat<J>) -> Home<J>
+        requires { seat.known ≡ first_home seat.known.sizes }
+        ensures { result.seat ≡ seat }
+    {
+        Home {
+            seat,
+            slices: Slices::none(),
+        }
+    }
 }
 
 impl<J: Job> LoopTable<J> {

@@ -8,6 +8,7 @@ mod enqueue;
 mod home;
 mod job;
 mod plays;
+mod refusal;
 mod seat;
 mod sizes;
 mod slices;
@@ -16,8 +17,10 @@ mod tokens;
 mod view;
 mod words;
 
+pub use built::Built;
 pub use home::Home;
 pub use job::Job;
+pub use refusal::BuildRefusal;
 pub use seat::Seat;
 pub use table::LoopTable;
 pub use tokens::{Aimed, Announced, InHand};

@@ -1,4 +1,4 @@
-ghost use Rattle.std.specs.Prelude.{◌≡◌};
+ghost use Rattle.std.specs.Prelude.{◌≡◌, ◌<◌, ◌≤◌, ◌+◌, []};
 
 use crate::job::Job;
 use crate::view::View;
@@ -25,6 +25,19 @@ impl<J: Job> Model for Seat<J> {
 }
 
 impl<J: Job> Seat<J> {
+    pub(crate) fn of(inner: atomic_table::Seat<Option<J>, View>, first: u32, count: u32) -> Seat<J>
+        requires slots { inner.me.1 ≡ [] }
+        requires numbers { (inner.me.0.first ≡ first) × (inner.me.0.count ≡ count) }
+        requires some { (0 < count) × (first + count ≤ 65) }
+        ensures { (result.table ≡ inner.table_id) × (result.known ≡ inner.me.0) }
+    {
+        Seat {
+            inner,
+            first,
+            count,
+        }
+    }
+
     /// The seat's own number.
     pub fn first(&self) -> u32
         ensures { result ≡ self.now.known.first }

@@ -1,4 +1,5 @@
-ghost use Rattle.std.specs.Prelude.{◌≡◌};
+ghost use Rattle.std.specs.Prelude.{◌≡◌, ◌≤◌, ◌+◌};
+ghost use Rattle.aio_core.specs.Words.{word_count};
 
 use crate::job::Job;
 use crate::plays::LoopRule;
@@ -25,4 +26,18 @@ impl<J: Job> Model for LoopTable<J> {
     ghost view = { λ t. record { table = t.table.shared.table_id; sizes = t.table.shared.key } };
 
     ghost invariant = { λ t. (t.counts ≡ t.table.shared.key) × (t.table.shared.table_id.words ≡ word_count t.table.shared.key) × (t.table.shared.table_id.slots ≡ t.table.shared.key.lots) × (t.table.shared.key.handles + t.table.shared.key.lots ≤ 4096) × (t.table.shared.key.events ≤ 64) };
+}
+
+impl<J: Job> LoopTable<J> {
+    pub(crate) fn of(
+        table: Table<Option<J>, View, Counts, LoopRule, Global>,
+        counts: Counts,
+    ) -> LoopTable<J>
+        requires key { table.shared.key ≡ counts }
+        requires counts { (table.shared.table_id.words ≡ word_count counts) × (table.shared.table_id.slots ≡ counts.lots) }
+        requires few { (counts.handles + counts.lots ≤ 4096) × (counts.events ≤ 64) }
+        ensures { (result.table ≡ table.shared.table_id) × (result.sizes ≡ counts) }
+    {
+        LoopTable { table, counts }
+    }
 }

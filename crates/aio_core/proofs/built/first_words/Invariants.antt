@@ -1,4 +1,3 @@
-use Rattle.std.proofs.Common.{◌≡◌, ◌≤◌, ◌<◌, ℕ, ◌+◌, ◌*◌, length, slice_index}
 use Rattle.aio_core.proofs.Opening.{WordsSoFar}
 use Rattle.aio_core.proofs.built.first_words.Given as goal
 

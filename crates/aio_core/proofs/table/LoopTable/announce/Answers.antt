@@ -1,6 +1,5 @@
-use Rattle.std.proofs.Common.{◌≡◌}
 use Rattle.aio_core.specs.Standing.{asked_by}
-use Rattle.aio_core.proofs.Told.{enqueues_told, found_below}
+use Rattle.aio_core.proofs.Told.{enqueues_told}
 use Rattle.aio_core.proofs.table.LoopTable.announce.Goals as goal
 
 pub returns-clause-step : goal.returns-clause-step

@@ -1,7 +1,5 @@
-use Rattle.std.proofs.Common.{◌≡◌, ◌<◌, ◌+◌, eqb, MatchBool, sym, ap, ◌∙◌, subst, arith}
+use Rattle.std.proofs.Common.{◌≡◌, sym, subst}
 use Rattle.aio_model.specs.InFlight.{Linked}
-use Rattle.aio_core.specs.Known.{Known}
-use Rattle.aio_core.specs.Standing.{Pushes, Misses}
 use Rattle.aio_core.proofs.Pushing.{head_compare_allowed, compared_keeps}
 use Rattle.aio_core.proofs.Opened.{same_table, seat_still, held_still, held_numbers, head_within}
 use Rattle.aio_core.proofs.table.LoopTable.compare_head.Goals as goal
@@ -11,10 +9,11 @@ compare_exchange-requires g c =
     let s = c.seat.inside.inner in
     let t = c.self.inside.table.shared in
     let bh = c.args.bh in
-    let phase : s.me.0.phase ≡ Linked bh c.args.head = subst (λ z. z.known.phase ≡ Linked bh c.args.head) (sym c.seat.view_is) c.requires.phase in
-    (same_table s.table_id t.table_id s.me.0 t.key c.args.seat.now c.args.self.now c.seat.view_is c.self.view_is c.requires.seat,
-     head_within t.table_id.words t.key c.self.invariant.1,
-     rw c.from.ensures (head_compare_allowed t.key t.table_id.slots s.id bh c.args.head s.me (held_numbers s.me _ _ c.seat.invariant) phase))
+    let phase : s.me.0.phase ≡ Linked bh c.args.head = subst (λ z. z.known.phase ≡ Linked bh c.args.head) (sym c.seat.view_is) c.requires.phase in (
+      same_table s.table_id t.table_id s.me.0 t.key c.args.seat.now c.args.self.now c.seat.view_is c.self.view_is c.requires.seat,
+      head_within t.table_id.words t.key c.self.invariant.1,
+      rw c.from.ensures (head_compare_allowed t.key t.table_id.slots s.id bh c.args.head s.me (held_numbers s.me _ _ c.seat.invariant) phase),
+    )
 
 pub invariant_of-seat : goal.invariant_of-seat
 invariant_of-seat g c =

@@ -1,4 +1,3 @@
-use Rattle.std.proofs.Common.{◌≡◌, subst}
 use Rattle.aio_core.proofs.Told.{dequeues_told}
 use Rattle.aio_core.proofs.table.LoopTable.dequeue.Goals as goal
 

@@ -1,4 +1,4 @@
-use Rattle.std.proofs.Common.{◌≡◌, ap, ◌∙◌}
+use Rattle.std.proofs.Common.{ap, ◌∙◌}
 use Rattle.aio_core.specs.Known.{Known}
 use Rattle.aio_core.proofs.Within.{taken_within, taken_same, taken_hand}
 use Rattle.aio_core.proofs.table.LoopTable.take.Goals as goal
