@@ -75,7 +75,7 @@ module _ (sizes : Sizes) (h : History) (words : List ℕ) (views : List Known) (
         record {
           long = length-set words (flags_at i) x ∙ stand.long;
           legal = ((first, refl), stand.legal);
-          seats = seats_make sizes h views id entry v w stand.seats at (record { sizes_are = refl; numbers_are = refl }) is_home refl refl numbered;
+          seats = seats_make sizes h views id entry v w stand.seats at (record { sizes_are = refl; numbers_are = refl; told_is = refl }) is_home refl refl numbered;
           flags = flags_change sizes h (entry ∷ h) words i x stand.flags stand.long below new_word (λ j ne. word_same sizes j h (entry ∷ h) refl (flags_of-dequeue_other j i ran h ne));
           lists = lists_after sizes h (entry ∷ h) words words' views id w stand.lists
               (subst (λ k. IsChain (next_in words') k (stack_of h)) (sym (head_beside_flags words i x)) (chain_kept (next_in words) (next_in words') (slice_index words head_at) (stack_of h) stand.lists.stack (each_all _ (stack_of h) same_next)))
@@ -100,7 +100,7 @@ dequeue_allowed sizes slots id i me numbered is_home hand s kept long at fits_wo
     let now = dequeue_stands sizes h s.words s.views id v i stand at numbered is_home hand (bit_and (slice_index s.words (flags_at i)) 18446744073709551596) word in
     let w = after_dequeue v h i in
     let is = stand.seats.each id v at in
-    let makes : Makes (Dequeue i (are_due flags)) v w = makes_of sizes h (Dequeue i (are_due flags)) v w is refl refl now.0.legal in
+    let makes : Makes (Dequeue i (are_due flags)) v w = makes_of sizes h (Dequeue i (are_due flags)) v w is numbered refl refl now.0.legal in
     let dequeues : Dequeues i flags v w = record { makes = makes; were = ap (flags_of i) (same_older (Dequeue i (are_due flags)) h (makes.others ++ v.seen) makes.seen); left = now.1; rest = refl } in
     let told : Dequeued i (slice_index s.words (flags_at i)) v w = record { flags = flags; found_is = found; dequeues = dequeues } in
     (w, keeps, tt, (Dequeue i (are_due flags) ∷ h, now.0), (refl, λ j eq. let index : i ≡ j = same_index i j (sym hand ∙ eq) in subst (λ k. Dequeued k (slice_index s.words (flags_at i)) v w) index told))

@@ -69,7 +69,7 @@ module _ (sizes : Sizes) (h : History) (words : List ℕ) (views : List Known) (
       record {
         long = long;
         legal = ((alive, refl, may_ask_handle sizes i v.first asked h once handle), stand.legal);
-        seats = seats_make sizes h views id entry v w stand.seats at (record { sizes_are = refl; numbers_are = refl }) (owns_first (numbers_of v) numbered) refl refl numbered;
+        seats = seats_make sizes h views id entry v w stand.seats at (record { sizes_are = refl; numbers_are = refl; told_is = refl }) (owns_first (numbers_of v) numbered) refl refl numbered;
         flags = flags_change sizes h (entry ∷ h) words i x stand.flags stand.long below new_word (λ j ne. word_same sizes j h (entry ∷ h) refl (flags_of-enqueue_other j i v.first asked (flags_of i h) h ne));
         lists = lists_after sizes h (entry ∷ h) words words' views id w stand.lists
             (subst (λ k. IsChain (next_in words') k (stack_of h)) (sym (head_beside_flags words i x)) (chain_kept (next_in words) (next_in words') (slice_index words head_at) (stack_of h) stand.lists.stack (each_all _ (stack_of h) same_next)))
@@ -89,6 +89,6 @@ enqueue_allowed sizes slots id i me asked numbered once handle s kept long at fi
     let word : bit_or (slice_index s.words (flags_at i)) (mask_of asked) ≡ word_of (enqueued_flags asked flags) = ap (λ n. bit_or n (mask_of asked)) found ∙ enqueued_word asked flags in
     let now = enqueue_stands sizes h s.words s.views id me.0 i asked stand at numbered once handle (bit_or (slice_index s.words (flags_at i)) (mask_of asked)) word in
     let w = after_enqueuing me.0 h i asked in
-    let enqueues : Enqueues i asked flags me.0 w = record { makes = makes_of sizes h (Enqueue i asked me.0.first flags) me.0 w (stand.seats.each id me.0 at) refl refl now.legal; rest = refl } in
+    let enqueues : Enqueues i asked flags me.0 w = record { makes = makes_of sizes h (Enqueue i asked me.0.first flags) me.0 w (stand.seats.each id me.0 at) numbered refl refl now.legal; rest = refl } in
     let told : Enqueued i (mask_of asked) (slice_index s.words (flags_at i)) me.0 w = record { flags = flags; found_is = found; enqueues = subst (λ a. Enqueues i a flags me.0 w) (sym (asked_with-mask_of asked)) enqueues } in
     (w, keeps, tt, (Enqueue i asked me.0.first flags ∷ h, now), (refl, λ j same. let is_i : i ≡ j = omega arith in subst (λ k. Enqueued k (mask_of asked) (slice_index s.words (flags_at i)) me.0 w) is_i told))

@@ -27,7 +27,7 @@ pub record WordsSoFar (sizes : Sizes) (lot : ℕ) (words : List ℕ) : Type 0 wh
 pub opening_stands : (sizes : Sizes) (words : List ℕ) → AreFirst sizes words → Stands sizes [] words (first_known sizes ∷ [])
 opening_stands sizes words first =
     let v = first_known sizes in
-    let is : IsSeat sizes [] v = record { sizes_are = refl; seen_of = record { rest = []; longer = refl; none_missed = refl; mine_is = refl }; below = omega arith; active = λ q. absurd cc } in
+    let is : IsSeat sizes [] v = record { sizes_are = λ _. refl; seen_of = record { rest = []; longer = refl; none_missed = refl; mine_is = refl }; below = omega arith; active = λ q. absurd cc; told_of = tt } in
     record {
       long = first.long;
       legal = tt;
