@@ -107,6 +107,7 @@ seats_keep sizes h views id v w stand at same seen mine numbered =
 pub makes_of : (sizes : Sizes) (h : History) (e : Entry) (v w : Known) → IsSeat sizes h v → 0 < v.count → w.seen ≡ e ∷ h → w.mine ≡ e ∷ v.mine → IsLegal sizes (e ∷ h) → Makes e v w
 makes_of sizes h e v w is numbered seen mine legal =
     record {
+      numbered = numbered;
       others = is.seen_of.rest;
       not_own = is.seen_of.none_missed;
       seen = seen ∙ ap (λ (l : History). e ∷ l) is.seen_of.longer;

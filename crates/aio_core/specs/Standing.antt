@@ -35,6 +35,7 @@ done kind word found = record { kind = kind; word = word; found = found }
 
 -- The entry was made, behind some of others: it stands in the one history, which is legal, and what was seen goes on with it.
 pub record Makes (entry : Entry) (before after : Known) : Type 0 where
+  pub numbered : 0 < before.count
   pub others : History
   pub not_own : own_entries (numbers_of before) others ≡ []
   pub seen : after.seen ≡ entry ∷ (others ++ before.seen)

@@ -1,0 +1,3 @@
+pub mod Standing
+pub mod Trying
+pub mod Scheduled

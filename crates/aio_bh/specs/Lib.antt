@@ -1,0 +1,2 @@
+pub mod Enqueuing
+pub mod Puts
