@@ -14,7 +14,7 @@ use aio_model::{Flags, Kind};
 use std::sync::Wait;
 
 /// One more try to push an index that the seat has announced. Err gives the debt back, where another head was found.
-pub fn push_owed<J: Job>(
+pub fn try_to_push<J: Job>(
     table: &LoopTable<J>,
     seat: &mut Seat<J>,
     owed: Announced,
@@ -39,7 +39,7 @@ fn push<J: Job, R: Wait>(rt: &R, table: &LoopTable<J>, seat: &mut Seat<J>, owed:
 {
     let mut owed = owed;
     for _ in rt.forever() {
-        match push_owed(table, seat, owed) {
+        match try_to_push(table, seat, owed) {
             Ok(()) => return,
             Err(again) => owed = again,
         }
@@ -82,7 +82,7 @@ pub fn try_schedule_as<J: Job>(table: &LoopTable<J>, seat: &mut Seat<J>, bh: u32
     let Some(owed) = owed else {
         return Put::Done(flags);
     };
-    match push_owed(table, seat, owed) {
+    match try_to_push(table, seat, owed) {
         Ok(()) => Put::Done(flags),
         Err(owed) => Put::Owed(flags, owed),
     }

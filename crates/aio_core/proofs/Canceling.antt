@@ -1,11 +1,11 @@
 -- The cancel keeps the rule.
-use Rattle.std.proofs.Common.{◌≡◌, ℕ, ◌<◌, List, ◌∷◌, set, slice_index, bit_and, refl, sym, ap, ◌∙◌, subst, arith}
+use Rattle.std.proofs.Common.{◌≡◌, ℕ, ◌<◌, true, List, ◌∷◌, set, slice_index, bit_and, refl, sym, ap, ◌∙◌, subst, arith}
 use mathlib.Core.Option.{some, none}
 use lib.ListN.{get_elem?, length-set}
 use Rattle.atomic_table.specs.Table.{Me, keeps, step, Allows}
 use Rattle.aio_model.specs.FlagsWord.{word_of}
 use Rattle.aio_model.specs.LoopHistory.{Sizes, Cancel, History}
-use Rattle.aio_model.specs.LoopFlags.{flags_of}
+use Rattle.aio_model.specs.LoopFlags.{has_life, flags_of}
 use Rattle.aio_model.specs.LoopLists.{stack_of, out_of}
 use Rattle.aio_chain.specs.Chains.{IsChain}
 use Rattle.aio_chain.proofs.Chains.{chain_kept}
@@ -37,7 +37,7 @@ module _ (sizes : Sizes) (h : History) (words : List ℕ) (views : List Known) (
       let alive = handle_lives sizes i h handle in
       let words' = set words (flags_at i) x in
       let same_next : (j : ℕ) → next_in words' j ≡ next_in words j = next_beside_flags words i x in
-      let new_word : flags_word sizes i (entry ∷ h) ≡ x = word_alive sizes i (entry ∷ h) alive ∙ ap word_of (flags_of-cancel i v.first (flags_of i h) h) ∙ sym is in
+      let new_word : (flags_word sizes i (entry ∷ h) ≡ x) × (has_life sizes i h ≡ true) = (word_alive sizes i (entry ∷ h) alive ∙ ap word_of (flags_of-cancel i v.first (flags_of i h) h) ∙ sym is, alive) in
       record {
         long = length-set words (flags_at i) x ∙ stand.long;
         legal = ((handle, refl), stand.legal);

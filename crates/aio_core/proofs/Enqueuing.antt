@@ -6,7 +6,7 @@ use lib.ListN.{get_elem?, length-set}
 use Rattle.atomic_table.specs.Table.{Me, keeps, step, Allows}
 use Rattle.aio_model.specs.FlagsWord.{word_of}
 use Rattle.aio_model.specs.LoopHistory.{Sizes, Asked, Enqueue, History}
-use Rattle.aio_model.specs.LoopFlags.{is_pending, flags_of, is_once}
+use Rattle.aio_model.specs.LoopFlags.{has_life, is_pending, flags_of, is_once}
 use Rattle.aio_model.specs.LoopLists.{stack_of, out_of}
 use Rattle.aio_model.specs.LoopLegal.{IsLegal}
 use Rattle.aio_model.specs.InFlight.{AtRest, Announced}
@@ -65,7 +65,7 @@ module _ (sizes : Sizes) (h : History) (words : List ℕ) (views : List Known) (
       let words' = set words (flags_at i) x in
       let same_next : (j : ℕ) → next_in words' j ≡ next_in words j = next_beside_flags words i x in
       let long : length words' ≡ word_count sizes = length-set words (flags_at i) x ∙ stand.long in
-      let new_word : flags_word sizes i (entry ∷ h) ≡ x = word_alive sizes i (entry ∷ h) alive ∙ ap word_of (flags_of-enqueue i v.first asked (flags_of i h) h) ∙ sym is in
+      let new_word : (flags_word sizes i (entry ∷ h) ≡ x) × (has_life sizes i h ≡ true) = (word_alive sizes i (entry ∷ h) alive ∙ ap word_of (flags_of-enqueue i v.first asked (flags_of i h) h) ∙ sym is, alive) in
       record {
         long = long;
         legal = ((alive, refl, may_ask_handle sizes i v.first asked h once handle), stand.legal);

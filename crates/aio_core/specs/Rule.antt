@@ -5,12 +5,13 @@ use mathlib.Core.Option.{some}
 use lib.ListN.{get_elem?}
 use Rattle.atomic_table.specs.Table.{State}
 use Rattle.aio_model.specs.LoopHistory.{Sizes, History}
+use Rattle.aio_model.specs.LoopFlags.{is_lot}
 use Rattle.aio_model.specs.LoopLists.{is_announced, announcer_of, stack_of, out_of}
 use Rattle.aio_model.specs.LoopLegal.{IsLegal}
 use Rattle.aio_model.specs.LoopSeats.{Numbers, owns, own_entries, home, IsSeenOf}
 use Rattle.aio_model.specs.InFlight.{Phase, AtRest, LotClaimed, Announced, HeadLoaded, Linked, ToStore, ToLoad, ToSet, is_at_rest}
 use Rattle.aio_chain.specs.Chains.{IsChain, AreChains}
-use Rattle.aio_core.specs.Words.{head_at, flags_at, index_count, word_count, flags_word, next_in}
+use Rattle.aio_core.specs.Words.{head_at, flags_at, index_count, word_count, flags_word, free_word, next_in}
 use Rattle.aio_core.specs.Known.{Told, Known, numbers_of}
 
 -- all numbers: those of seats, and the home's
@@ -55,6 +56,8 @@ pub record SeatsStand (sizes : Sizes) (history : History) (views : List Known) :
 
 pub record FlagsStand (sizes : Sizes) (history : History) (words : List ℕ) : Type 0 where
   pub each : (i : ℕ) → i < index_count sizes → slice_index words (flags_at i) ≡ flags_word sizes i history
+  -- no life of a lot is begun yet
+  pub no_lots : (i : ℕ) → is_lot sizes i ≡ true → flags_word sizes i history ≡ free_word
 
 -- Lists.
 

@@ -17,7 +17,7 @@ pub returns-in-Ok-clause-put : goal.returns-in-Ok-clause-put
 returns-in-Ok-clause-put g c =
     let v = c.args.seat.now.known in
     let a = c.announce-owed.new.seat.known in
-    let w = c.push_owed.new.seat.known in
+    let w = c.try_to_push.new.seat.known in
     let flags = c.announce-owed.result.0 in
     let owed = rw c.in-Some.is at c.announce-owed.ensures.owed in
     let run = pushed_at_once c.args.bh (asked_by c.args.kind) flags v a c.announce-owed.ensures.step c.in-Some.owed w owed c.in-Ok.ensures.step in
@@ -27,7 +27,7 @@ pub returns-in-Err-clause-put : goal.returns-in-Err-clause-put
 returns-in-Err-clause-put g c =
     let v = c.args.seat.now.known in
     let a = c.announce-owed.new.seat.known in
-    let w = c.push_owed.new.seat.known in
+    let w = c.try_to_push.new.seat.known in
     let flags = c.announce-owed.result.0 in
     let owed = rw c.in-Some.is at c.announce-owed.ensures.owed in
     let run = pushed_later c.args.bh (asked_by c.args.kind) flags v a c.announce-owed.ensures.step c.in-Some.owed w owed c.in-Err.ensures.step.1 in
