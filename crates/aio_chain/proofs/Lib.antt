@@ -1,3 +1,4 @@
+pub mod Chains
 mod Calls
 mod Circles
 pub mod Contained

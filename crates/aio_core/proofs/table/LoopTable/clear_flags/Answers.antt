@@ -1,0 +1,33 @@
+use Rattle.std.proofs.Common.{◌≡◌, ◌<◌, Some, sym, ap, subst}
+use Rattle.aio_core.specs.Words.{index_count}
+use Rattle.aio_core.specs.Known.{Known}
+use Rattle.aio_core.proofs.Dequeuing.{dequeue_allowed}
+use Rattle.aio_core.proofs.Opened.{same_table, seat_still, held_still, held_numbers, flags_within, home_opened}
+use Rattle.aio_core.proofs.table.LoopTable.clear_flags.Goals as goal
+
+pub fetch_and-requires : goal.fetch_and-requires
+fetch_and-requires g c =
+    let s = c.seat.inside.inner in
+    let t = c.self.inside.table.shared in
+    let bh = c.args.bh in
+    let below : bh < index_count t.key = subst (λ z. bh < index_count z.sizes) (sym c.self.view_is) c.requires.below in
+    let hand : s.me.0.stage.hand ≡ Some bh = subst (λ z. z.known.stage.hand ≡ Some bh) (sym c.seat.view_is) c.requires.hand in (
+      same_table s.table_id t.table_id s.me.0 t.key c.args.seat.now c.args.self.now c.seat.view_is c.self.view_is c.requires.seat,
+      flags_within t.table_id.words c.flags_word.result bh t.key c.self.invariant.1 c.flags_word.ensures below,
+      rw c.flags_word.ensures (dequeue_allowed t.key t.table_id.slots s.id bh s.me (held_numbers s.me _ _ c.seat.invariant) (home_opened s.table_id s.me.0 c.args.seat.now c.seat.view_is c.requires.number) hand),
+    )
+
+pub invariant_of-seat : goal.invariant_of-seat
+invariant_of-seat g c =
+    let s = c.seat.inside.inner in
+    let hand : s.me.0.stage.hand ≡ Some c.args.bh = subst (λ z. z.known.stage.hand ≡ Some c.args.bh) (sym c.seat.view_is) c.requires.hand in
+    let told = c.fetch_and.ensures.2 in
+    let step = (told.1 c.args.bh hand).dequeues.rest in
+    held_still s.me c.fetch_and.new.seat.me _ _ c.seat.invariant told.0 (ap (λ (k : Known). k.first) step) (ap (λ (k : Known). k.count) step)
+
+pub returns-clause-seat : goal.returns-clause-seat
+returns-clause-seat g c =
+    let s = c.seat.inside.inner in
+    let hand : s.me.0.stage.hand ≡ Some c.args.bh = subst (λ z. z.known.stage.hand ≡ Some c.args.bh) (sym c.seat.view_is) c.requires.hand in
+    let step = (c.fetch_and.ensures.2.1 c.args.bh hand).dequeues.rest in
+    seat_still s.table_id c.fetch_and.new.seat.table_id s.me.0 c.fetch_and.new.seat.me.0 c.args.seat.now c.args.self.now c.seat.view_is c.requires.seat c.fetch_and.ensures.0 (ap (λ (k : Known). k.sizes) step)

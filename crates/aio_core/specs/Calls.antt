@@ -1,0 +1,49 @@
+-- What contracts see of a table and of a seat.
+use Rattle.std.specs.Prelude.{◌≡◌, ◌≢◌, ℕ, ◌+◌, None, List, [], ◌∷◌}
+use Rattle.atomic_table.specs.Seated.{TableId}
+use Rattle.aio_model.specs.LoopHistory.{Sizes}
+use Rattle.aio_model.specs.InFlight.{AtRest}
+use Rattle.aio_core.specs.Known.{Known, Running, empty_stage}
+use Rattle.aio_core.specs.Standing.{Misses, Takes, Lifts}
+
+-- which table it is, and how many handles, lots and events it has
+pub record TableState : Type 0 where
+  pub table : TableId
+  pub sizes : Sizes
+
+-- the table of a seat, and what it knows
+pub record SeatState : Type 0 where
+  pub table : TableId
+  pub known : Known
+
+-- the seat is of the table
+pub record IsSeatOf (table : TableState) (seat : SeatState) : Type 0 where
+  pub tables : seat.table ≡ table.table
+  pub sizes : seat.known.sizes ≡ table.sizes
+
+-- the head was another than the one that was loaded
+pub record IsMissed (i head : ℕ) (before after : Known) : Type 0 where
+  pub found : ℕ
+  pub other : found ≢ head
+  pub misses : Misses i found before after
+
+-- the list was taken
+pub record HasTaken (before after : Known) : Type 0 where
+  pub found : ℕ
+  pub takes : Takes found before after
+
+-- the first of the first slice is at hand
+pub record HasLifted (i : ℕ) (before after : Known) : Type 0 where
+  pub found : ℕ
+  pub more : List ℕ
+  pub first : before.stage.slices ≡ (i + 1) ∷ more
+  pub lifts : Lifts i found more before after
+
+-- what the seat and the home of a new table know
+abbrev pub first_seat : Sizes → Known
+first_seat sizes =
+    record { sizes = sizes; seen = []; mine = []; did = []; first = 0; count = 64; phase = AtRest; stage = empty_stage; sleep = Running; told = None }
+
+abbrev pub first_home : Sizes → Known
+first_home sizes =
+    record { sizes = sizes; seen = []; mine = []; did = []; first = 64; count = 1; phase = AtRest; stage = empty_stage; sleep = Running; told = None }

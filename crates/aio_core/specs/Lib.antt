@@ -1,0 +1,11 @@
+pub mod Words
+pub mod Known
+pub mod Rule
+pub mod Standing
+pub mod Plays
+pub mod Splitting
+pub mod Joining
+pub mod Calls
+pub mod HomeState
+pub mod Opening
+pub mod Refusals

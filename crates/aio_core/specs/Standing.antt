@@ -1,0 +1,120 @@
+-- What one step, or one call, makes of what a seat knows.
+use Rattle.std.specs.Prelude.{◌≡◌, ℕ, ◌≤◌, ◌<◌, Bool, true, false, ◌==◌, if◌then◌else◌, None, Some, List, [], ◌∷◌, ◌++◌}
+use Rattle.aio_model.specs.declared.flags.Flags.{Flags}
+use Rattle.aio_model.specs.declared.kinds.Kind as asking
+use Rattle.aio_model.specs.declared.kinds.Kind.TheVariants.{Sched, Idle, Del}
+use Rattle.aio_model.specs.FlagsWord.{word_of}
+use Rattle.aio_model.specs.LoopHistory.{Asked, ToCall, ToCallIdle, ToDelete, ToCallOnce, Entry, Enqueue, Put, Cancel, Take, Dequeue, History}
+use Rattle.aio_model.specs.LoopFlags.{flags_of, are_due}
+use Rattle.aio_model.specs.LoopLists.{out_of}
+use Rattle.aio_model.specs.LoopLegal.{IsLegal}
+use Rattle.aio_model.specs.LoopSeats.{own_entries}
+use Rattle.aio_model.specs.InFlight.{Phase, AtRest, LotClaimed, Announced, HeadLoaded, Linked, ToStore, ToLoad, ToSet}
+use Rattle.aio_core.specs.Words.{head_at, flags_at, next_at, index_count}
+use Rattle.aio_core.specs.Known.{Kind, EnqueueFetchOr, HeadLoad, NextStore, HeadCompare, TakeSwap, NextLoad, DequeueFetchAnd, CancelFetchAnd, Done, Known, numbers_of}
+
+-- what a call of this kind asks
+abbrev pub asked_by : asking.Kind → Asked
+asked_by Sched = ToCall
+asked_by Idle = ToCallIdle
+asked_by Del = ToDelete
+
+-- the bits that an enqueue sets
+abbrev pub mask_of : Asked → ℕ
+mask_of ToCall = 3
+mask_of ToCallIdle = 19
+mask_of ToDelete = 5
+mask_of ToCallOnce = 11
+
+abbrev pub asked_with : ℕ → Asked
+asked_with mask =
+    if mask == 3 then ToCall else if mask == 19 then ToCallIdle else if mask == 5 then ToDelete else ToCallOnce
+
+abbrev pub done : Kind → ℕ → ℕ → Done
+done kind word found = record { kind = kind; word = word; found = found }
+
+-- The entry was made, behind some of others: it stands in the one history, which is legal, and what was seen goes on with it.
+pub record Makes (entry : Entry) (before after : Known) : Type 0 where
+  pub numbered : 0 < before.count
+  pub others : History
+  pub not_own : own_entries (numbers_of before) others ≡ []
+  pub seen : after.seen ≡ entry ∷ (others ++ before.seen)
+  pub mine : after.mine ≡ entry ∷ before.mine
+  pub legal : IsLegal before.sizes after.seen
+
+-- Phases, after a step.
+
+-- the index that is to be pushed
+abbrev pub index_in : Phase → ℕ
+index_in AtRest = 0
+index_in (LotClaimed i) = i
+index_in (Announced i) = i
+index_in (HeadLoaded i found) = i
+index_in (Linked i found) = i
+index_in (ToStore reason) = 0
+index_in (ToLoad reason) = 0
+index_in (ToSet reason) = 0
+
+-- an enqueue that found the index pending has nothing to push
+abbrev pub after_enqueue : ℕ → Flags → Phase
+after_enqueue i flags = if flags.pending then AtRest else Announced i
+
+-- Steps of any seat.
+
+-- the index was asked this, and had these flags
+pub record Enqueues (i : ℕ) (asked : Asked) (flags : Flags) (before after : Known) : Type 0 where
+  pub makes : Makes (Enqueue i asked before.first flags) before after
+  pub rest : after ≡ record before { seen = after.seen; mine = after.mine; did = done EnqueueFetchOr (flags_at i) (word_of flags) ∷ before.did; phase = after_enqueue i flags }
+
+-- the head was loaded, and stored as what follows the index
+pub record Aims (i found : ℕ) (before after : Known) : Type 0 where
+  pub below : i < index_count before.sizes
+  pub rest : after ≡ record before { did = done NextStore (next_at i) found ∷ done HeadLoad head_at found ∷ before.did; phase = Linked i found }
+
+-- the head was the one that was loaded, and the index was pushed
+pub record Pushes (i found : ℕ) (before after : Known) : Type 0 where
+  pub makes : Makes (Put i before.first) before after
+  pub rest : after ≡ record before { seen = after.seen; mine = after.mine; did = done HeadCompare head_at found ∷ before.did; phase = AtRest }
+
+-- the head was another, and the index is still to be pushed
+pub record Misses (i found : ℕ) (before after : Known) : Type 0 where
+  pub rest : after ≡ record before { did = done HeadCompare head_at found ∷ before.did; phase = Announced i }
+
+-- the index was canceled, and had these flags
+pub record Cancels (i : ℕ) (flags : Flags) (before after : Known) : Type 0 where
+  pub makes : Makes (Cancel i before.first flags) before after
+  pub rest : after ≡ record before { seen = after.seen; mine = after.mine; did = done CancelFetchAnd (flags_at i) (word_of flags) ∷ before.did }
+
+-- Steps of the home.
+
+abbrev pub is_empty : List ℕ → Bool
+is_empty [] = true
+is_empty (i ∷ rest) = false
+
+-- an empty list makes no slice
+abbrev pub with_slice : List ℕ → ℕ → List ℕ
+with_slice slices word = if word == 0 then slices else slices ++ word ∷ []
+
+-- the list was taken, and is the last slice
+pub record Takes (found : ℕ) (before after : Known) : Type 0 where
+  pub makes : Makes Take before after
+  pub below : found ≤ index_count before.sizes
+  pub left : before.stage.hand ≡ None → is_empty after.stage.slices ≡ is_empty (out_of after.seen)
+  pub rest : after ≡ record before { seen = after.seen; mine = after.mine; did = done TakeSwap head_at found ∷ before.did; stage = record before.stage { slices = with_slice before.stage.slices found } }
+
+-- what is left of the slices once the first one's first is at hand
+abbrev pub without_first : ℕ → List ℕ → List ℕ
+without_first next slices = if next == 0 then slices else next ∷ slices
+
+-- the first of the first slice is at hand, and what follows it was loaded
+pub record Lifts (i found : ℕ) (more : List ℕ) (before after : Known) : Type 0 where
+  pub below : found ≤ index_count before.sizes
+  pub rest : after ≡ record before { did = done NextLoad (next_at i) found ∷ before.did; stage = record { slices = without_first found more; hand = Some i } }
+
+-- the index at hand was dequeued, and had these flags; it is a handle, since no life of a lot is begun yet
+pub record Dequeues (i : ℕ) (flags : Flags) (before after : Known) : Type 0 where
+  pub makes : Makes (Dequeue i (are_due flags)) before after
+  pub handle : i < before.sizes.handles
+  pub were : flags ≡ flags_of i (makes.others ++ before.seen)
+  pub left : is_empty after.stage.slices ≡ is_empty (out_of after.seen)
+  pub rest : after ≡ record before { seen = after.seen; mine = after.mine; did = done DequeueFetchAnd (flags_at i) (word_of flags) ∷ before.did; stage = record before.stage { hand = None } }

@@ -1,0 +1,125 @@
+//! The steps of the home thread: it takes the list whole, and dequeues what it took, after aio_bh_poll and aio_bh_dequeue of
+//! QEMU's util/async.c.
+ghost use Rattle.std.specs.Prelude.{◌≡◌, ◌≢◌, ◌<◌, ◌≤◌, ◌+◌, [], ◌∷◌, length, drop, slice_index, None, Some, IfSome, MatchOption, true};
+ghost use Rattle.aio_core.specs.Known.{Known};
+ghost use Rattle.aio_core.specs.Words.{index_count};
+ghost use Rattle.aio_core.specs.Standing.{Takes, Lifts, Dequeues};
+ghost use Rattle.aio_core.specs.Plays.{Dequeued};
+ghost use Rattle.aio_core.specs.Calls.{IsSeatOf, HasTaken, HasLifted, first_home};
+ghost use Rattle.aio_core.specs.HomeState.{are_within, is_within};
+
+use crate::job::Job;
+use crate::plays::{Dequeue, LoadNext, Take};
+use crate::seat::Seat;
+use crate::slices::Slices;
+use crate::table::LoopTable;
+use crate::tokens::InHand;
+use crate::words::{HEAD, flags_word, next_word};
+use aio_model::Flags;
+
+/// The home's seat, with what it has taken from the list. Whoever has it is the home thread.
+#[derive(Drop)]
+pub struct Home<J: Job> {
+    pub seat: Seat<J>,
+    slices: Slices,
+    ghost number: { (seat.known.first ≡ 64) × (seat.known.count ≡ 1) },
+    ghost same_slices: { slices ≡ seat.known.stage.slices },
+    ghost slices_within: { are_within seat.known.sizes slices ≡ true },
+    ghost hand_within: { is_within seat.known.sizes seat.known.stage.hand ≡ true },
+}
+
+impl<J: Job> Home<J> {
+    pub(crate) fn of(seat: Seat<J>) -> Home<J>
+        requires { seat.known ≡ first_home seat.known.sizes }
+        ensures { result.seat ≡ seat }
+    {
+        Home {
+            seat,
+            slices: Slices::none(),
+        }
+    }
+}
+
+impl<J: Job> LoopTable<J> {
+    fn swap_head(&self, seat: &mut Seat<J>) -> u64
+        requires seat { IsSeatOf self.now seat.old }
+        requires number { (seat.old.known.first ≡ 64) × (seat.old.known.count ≡ 1) }
+        ensures seat { IsSeatOf self.now seat.new }
+        ensures step { Takes result seat.old.known seat.new.known }
+    {
+        self.table.shared.swap::<Take>(&mut seat.inner, HEAD, 0)
+    }
+
+    fn load_after(&self, seat: &mut Seat<J>, bh: u32) -> u64
+        requires seat { IsSeatOf self.now seat.old }
+        requires number { (seat.old.known.first ≡ 64) × (seat.old.known.count ≡ 1) }
+        requires below { bh < index_count self.now.sizes }
+        requires first { seat.old.known.stage.slices ≡ (bh + 1) ∷ drop 1 seat.old.known.stage.slices }
+        requires free { seat.old.known.stage.hand ≡ None }
+        ensures seat { IsSeatOf self.now seat.new }
+        ensures step { Lifts bh result (drop 1 seat.old.known.stage.slices) seat.old.known seat.new.known }
+    {
+        self.table
+            .shared
+            .load::<LoadNext>(&mut seat.inner, next_word(bh))
+    }
+
+    fn clear_flags(&self, seat: &mut Seat<J>, bh: u32) -> u64
+        requires seat { IsSeatOf self.now seat.old }
+        requires number { (seat.old.known.first ≡ 64) × (seat.old.known.count ≡ 1) }
+        requires below { bh < index_count self.now.sizes }
+        requires hand { seat.old.known.stage.hand ≡ Some bh }
+        ensures seat { IsSeatOf self.now seat.new }
+        ensures step { Dequeued bh result seat.old.known seat.new.known }
+    {
+        let kept = !(Flags::PENDING | Flags::SCHEDULED | Flags::IDLE);
+        self.table
+            .shared
+            .fetch_and::<Dequeue>(&mut seat.inner, flags_word(bh), kept)
+    }
+
+    /// The index to which a word of the list leads.
+    fn index_of(&self, word: u64) -> u32
+        requires some { 0 < word }
+        requires below { word ≤ index_count self.now.sizes }
+        ensures { result + 1 ≡ word }
+    {
+        let _counts = &self.counts;
+        (word - 1) as u32
+    }
+
+    /// Takes all that was pushed, by one atomic step, as the last slice.
+    pub fn take(&self, home: &mut Home<J>)
+        requires seat { IsSeatOf self.now home.old.seat }
+        requires room { length home.old.seat.known.stage.slices < 8 }
+        ensures seat { IsSeatOf self.now home.new.seat }
+        ensures step { HasTaken home.old.seat.known home.new.seat.known }
+    {
+        let found = self.swap_head(&mut home.seat);
+        home.slices.push(found);
+    }
+
+    /// Takes the first of the first slice in hand, by one atomic load of what follows it. None where no slice is left.
+    pub fn lift(&self, home: &mut Home<J>) -> Option<InHand>
+        requires seat { IsSeatOf self.now home.old.seat }
+        requires free { home.old.seat.known.stage.hand ≡ None }
+        ensures seat { IsSeatOf self.now home.new.seat }
+        ensures step { MatchOption result ((home.old.seat.known.stage.slices ≡ []) × (home.new ≡ home.old)) (λ hand. HasLifted hand home.old.seat.known home.new.seat.known) }
+    {
+        let bh = self.index_of(home.slices.first()?);
+        let found = self.load_after(&mut home.seat, bh);
+        home.slices.lift(found);
+        Some(InHand::of(bh))
+    }
+
+    /// Dequeues the index in hand: clears the flags of its round by one atomic step, and answers those that it found.
+    pub fn dequeue(&self, home: &mut Home<J>, hand: InHand) -> Flags
+        requires seat { IsSeatOf self.now home.old.seat }
+        requires hand { home.old.seat.known.stage.hand ≡ Some hand }
+        ensures seat { IsSeatOf self.now home.new.seat }
+        ensures step { Dequeues hand result home.old.seat.known home.new.seat.known }
+    {
+        let found = self.clear_flags(&mut home.seat, hand.into_bh());
+        Flags::from_word(found)
+    }
+}

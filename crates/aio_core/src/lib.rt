@@ -1,0 +1,27 @@
+//! The table that the threads of a loop share: one call for each kind of atomic step, each of which stands in the loop's
+//! one history.
+#![tactic(auto)]
+
+mod built;
+mod cancel;
+mod enqueue;
+mod home;
+mod job;
+mod plays;
+mod refusal;
+mod seat;
+mod sizes;
+mod slices;
+mod split;
+mod table;
+mod tokens;
+mod view;
+mod words;
+
+pub use built::Built;
+pub use home::Home;
+pub use job::Job;
+pub use refusal::BuildRefusal;
+pub use seat::Seat;
+pub use table::LoopTable;
+pub use tokens::{Aimed, Announced, InHand};

@@ -1,0 +1,23 @@
+//! Where the words of the table stand, as `specs/Words.antt` says.
+ghost use Rattle.std.specs.Prelude.{◌≡◌, ◌<◌, ◌≤◌};
+ghost use Rattle.aio_core.specs.Words.{flags_at, next_at};
+
+/// The first of the list of what was pushed.
+pub const HEAD: usize = 0;
+
+/// The flags of a lot without a life.
+pub const FREE: u64 = 32;
+
+/// The flags of an index.
+pub fn flags_word(bh: u32) -> usize
+    ensures { result ≡ flags_at bh }
+{
+    68 + 2 * bh as usize
+}
+
+/// What follows an index in its list.
+pub fn next_word(bh: u32) -> usize
+    ensures { result ≡ next_at bh }
+{
+    69 + 2 * bh as usize
+}
