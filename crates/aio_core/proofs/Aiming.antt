@@ -37,9 +37,9 @@ head_load_allowed sizes slots id i me numbered phase s kept long at fits =
     let found = slice_index s.words head_at in
     let owed : IsOwed sizes h v.first i = owed_of sizes s.words h v.first v.phase (Announced i) phase (stand.lists.owed id v at) in
     let w = after_head_load v i found in
-    let low : i < index_count v.sizes = subst (λ z. i < index_count z) (sym (stand.seats.each id v at).sizes_are) owed.below in
+    let low : i < index_count v.sizes = subst (λ z. i < index_count z) (sym ((stand.seats.each id v at).sizes_are numbered)) owed.below in
     let told : HeadIsLoaded i found v w = record { below = low; rest = refl } in
-    (w, keeps, tt, (h, load_stands sizes h s.words s.views id head_at v w stand at numbered (record { sizes_are = refl; numbers_are = refl }) refl refl owed (stand.lists.out id v at)), (refl, λ j is. let same : i ≡ j = ap index_in (sym phase ∙ is) in subst (λ k. HeadIsLoaded k found v w) same told))
+    (w, keeps, tt, (h, load_stands sizes h s.words s.views id head_at v w stand at numbered (record { sizes_are = refl; numbers_are = refl; told_is = refl }) refl refl owed (stand.lists.out id v at)), (refl, λ j is. let same : i ≡ j = ap index_in (sym phase ∙ is) in subst (λ k. HeadIsLoaded k found v w) same told))
 
 -- Storing what follows the index.
 
@@ -74,7 +74,7 @@ module _ (sizes : Sizes) (h : History) (words : List ℕ) (views : List Known) (
       record {
         long = length-set words (next_at i) head ∙ stand.long;
         legal = stand.legal;
-        seats = seats_keep sizes h views id v w stand.seats at (record { sizes_are = refl; numbers_are = refl }) refl refl numbered;
+        seats = seats_keep sizes h views id v w stand.seats at (record { sizes_are = refl; numbers_are = refl; told_is = refl }) refl refl numbered;
         flags = flags_apart sizes h h words (next_at i) head stand.flags (λ j q. omega arith) (λ j. refl);
         lists = lists_after sizes h h words words' views id w stand.lists
             (subst (λ k. IsChain (next_in words') k (stack_of h)) (sym top) (chain_kept (next_in words) (next_in words') (slice_index words head_at) (stack_of h) stand.lists.stack on_stack))

@@ -1,11 +1,11 @@
 -- The cancel keeps the rule.
-use Rattle.std.proofs.Common.{◌≡◌, ℕ, ◌<◌, List, ◌∷◌, set, slice_index, bit_and, refl, sym, ap, ◌∙◌, subst, arith}
+use Rattle.std.proofs.Common.{◌≡◌, ℕ, ◌<◌, true, List, ◌∷◌, set, slice_index, bit_and, refl, sym, ap, ◌∙◌, subst, arith}
 use mathlib.Core.Option.{some, none}
 use lib.ListN.{get_elem?, length-set}
 use Rattle.atomic_table.specs.Table.{Me, keeps, step, Allows}
 use Rattle.aio_model.specs.FlagsWord.{word_of}
 use Rattle.aio_model.specs.LoopHistory.{Sizes, Cancel, History}
-use Rattle.aio_model.specs.LoopFlags.{flags_of}
+use Rattle.aio_model.specs.LoopFlags.{has_life, flags_of}
 use Rattle.aio_model.specs.LoopLists.{stack_of, out_of}
 use Rattle.aio_chain.specs.Chains.{IsChain}
 use Rattle.aio_chain.proofs.Chains.{chain_kept}
@@ -37,11 +37,11 @@ module _ (sizes : Sizes) (h : History) (words : List ℕ) (views : List Known) (
       let alive = handle_lives sizes i h handle in
       let words' = set words (flags_at i) x in
       let same_next : (j : ℕ) → next_in words' j ≡ next_in words j = next_beside_flags words i x in
-      let new_word : flags_word sizes i (entry ∷ h) ≡ x = word_alive sizes i (entry ∷ h) alive ∙ ap word_of (flags_of-cancel i v.first (flags_of i h) h) ∙ sym is in
+      let new_word : (flags_word sizes i (entry ∷ h) ≡ x) × (has_life sizes i h ≡ true) = (word_alive sizes i (entry ∷ h) alive ∙ ap word_of (flags_of-cancel i v.first (flags_of i h) h) ∙ sym is, alive) in
       record {
         long = length-set words (flags_at i) x ∙ stand.long;
         legal = ((handle, refl), stand.legal);
-        seats = seats_make sizes h views id entry v w stand.seats at (record { sizes_are = refl; numbers_are = refl }) (owns_first (numbers_of v) numbered) refl refl numbered;
+        seats = seats_make sizes h views id entry v w stand.seats at (record { sizes_are = refl; numbers_are = refl; told_is = refl }) (owns_first (numbers_of v) numbered) refl refl numbered;
         flags = flags_change sizes h (entry ∷ h) words i x stand.flags stand.long below new_word (λ j ne. word_same sizes j h (entry ∷ h) refl (flags_of-cancel_other j i v.first (flags_of i h) h ne));
         lists = lists_after sizes h (entry ∷ h) words words' views id w stand.lists
             (subst (λ k. IsChain (next_in words') k (stack_of h)) (sym (head_beside_flags words i x)) (chain_kept (next_in words) (next_in words') (slice_index words head_at) (stack_of h) stand.lists.stack (each_all _ (stack_of h) same_next)))
@@ -61,6 +61,6 @@ cancel_allowed sizes slots id i me numbered handle s kept long at fits =
     let word : bit_and (slice_index s.words (flags_at i)) 18446744073709551613 ≡ word_of (canceled_flags flags) = ap (λ n. bit_and n 18446744073709551613) found ∙ canceled_word flags in
     let now = cancel_stands sizes h s.words s.views id me.0 i stand at numbered handle (bit_and (slice_index s.words (flags_at i)) 18446744073709551613) word in
     let w = after_canceling me.0 h i in
-    let cancels : Cancels i flags me.0 w = record { makes = makes_of sizes h (Cancel i me.0.first flags) me.0 w (stand.seats.each id me.0 at) refl refl now.legal; rest = refl } in
+    let cancels : Cancels i flags me.0 w = record { makes = makes_of sizes h (Cancel i me.0.first flags) me.0 w (stand.seats.each id me.0 at) numbered refl refl now.legal; rest = refl } in
     let told : Canceled i (slice_index s.words (flags_at i)) me.0 w = record { flags = flags; found_is = found; cancels = cancels } in
     (w, keeps, tt, (Cancel i me.0.first flags ∷ h, now), (refl, λ j same. let is_i : i ≡ j = omega arith in subst (λ k. Canceled k (slice_index s.words (flags_at i)) me.0 w) is_i told))

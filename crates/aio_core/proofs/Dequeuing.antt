@@ -20,7 +20,7 @@ use Rattle.aio_core.specs.Plays.{Dequeued, dequeued}
 use Rattle.aio_core.proofs.Seats.{seats_make, makes_of}
 use Rattle.aio_core.proofs.Histories.{pending_below, announced_alone, owed_still}
 use Rattle.aio_core.proofs.Masks.{dequeued_flags, dequeued_word}
-use Rattle.aio_core.proofs.Flags.{word_alive, flags_of-dequeue, flags_of-dequeue_other, flags_change, flags_again, word_same}
+use Rattle.aio_core.proofs.Flags.{word_alive, flags_of-dequeue, flags_of-dequeue_other, flags_change, flags_again, handle_of_alive, word_same}
 use Rattle.aio_core.proofs.Lists.{each_all, owes_kept, no_other_home, lists_after}
 use Rattle.aio_core.proofs.Sliced.{chains_empty}
 use Rattle.aio_core.proofs.Enqueuing.{next_beside_flags, head_beside_flags}
@@ -68,14 +68,14 @@ module _ (sizes : Sizes) (h : History) (words : List ℕ) (views : List Known) (
       let alive : has_life sizes i h ≡ true = (fits sizes h i stand.legal).alive pending in
       let words' = set words (flags_at i) x in
       let same_next : (j : ℕ) → next_in words' j ≡ next_in words j = next_beside_flags words i x in
-      let new_word : flags_word sizes i (entry ∷ h) ≡ x = word_alive sizes i (entry ∷ h) alive ∙ ap word_of (flags_of-dequeue i ran h) ∙ sym is in
+      let new_word : (flags_word sizes i (entry ∷ h) ≡ x) × (has_life sizes i h ≡ true) = (word_alive sizes i (entry ∷ h) alive ∙ ap word_of (flags_of-dequeue i ran h) ∙ sym is, alive) in
       let rest_is : held.0 ≡ out_of (entry ∷ h) = same_tail i held.0 (out_of (entry ∷ h)) (sym held.1 ∙ out_of-dequeue h i ran first) in
       let left : AreChains (next_in words') v.stage.slices (out_of (entry ∷ h)) = subst (AreChains (next_in words') v.stage.slices) rest_is (chains_kept (next_in words) (next_in words') v.stage.slices held.0 held.2 (each_all _ held.0 same_next)) in
       let apart : (j n : ℕ) → IsOwed sizes h n j → j ≢ i = λ j n owed. (subst (Each (λ k. j ≢ k)) held.1 (announced_alone sizes h j stand.legal owed.announced).1).0 in (
         record {
           long = length-set words (flags_at i) x ∙ stand.long;
           legal = ((first, refl), stand.legal);
-          seats = seats_make sizes h views id entry v w stand.seats at (record { sizes_are = refl; numbers_are = refl }) is_home refl refl numbered;
+          seats = seats_make sizes h views id entry v w stand.seats at (record { sizes_are = refl; numbers_are = refl; told_is = refl }) is_home refl refl numbered;
           flags = flags_change sizes h (entry ∷ h) words i x stand.flags stand.long below new_word (λ j ne. word_same sizes j h (entry ∷ h) refl (flags_of-dequeue_other j i ran h ne));
           lists = lists_after sizes h (entry ∷ h) words words' views id w stand.lists
               (subst (λ k. IsChain (next_in words') k (stack_of h)) (sym (head_beside_flags words i x)) (chain_kept (next_in words) (next_in words') (slice_index words head_at) (stack_of h) stand.lists.stack (each_all _ (stack_of h) same_next)))
@@ -99,8 +99,9 @@ dequeue_allowed sizes slots id i me numbered is_home hand s kept long at fits_wo
     let word : bit_and (slice_index s.words (flags_at i)) 18446744073709551596 ≡ word_of (dequeued_flags flags) = ap (λ n. bit_and n 18446744073709551596) found ∙ dequeued_word flags in
     let now = dequeue_stands sizes h s.words s.views id v i stand at numbered is_home hand (bit_and (slice_index s.words (flags_at i)) 18446744073709551596) word in
     let w = after_dequeue v h i in
+    let handle_here = handle_of_alive sizes h s.words i stand.flags ((fits sizes h i stand.legal).alive pending) (pending_below sizes h i stand.legal pending) in
     let is = stand.seats.each id v at in
-    let makes : Makes (Dequeue i (are_due flags)) v w = makes_of sizes h (Dequeue i (are_due flags)) v w is refl refl now.0.legal in
-    let dequeues : Dequeues i flags v w = record { makes = makes; were = ap (flags_of i) (same_older (Dequeue i (are_due flags)) h (makes.others ++ v.seen) makes.seen); left = now.1; rest = refl } in
+    let makes : Makes (Dequeue i (are_due flags)) v w = makes_of sizes h (Dequeue i (are_due flags)) v w is numbered refl refl now.0.legal in
+    let dequeues : Dequeues i flags v w = record { makes = makes; handle = subst (λ z. i < z.handles) (sym (is.sizes_are numbered)) handle_here; were = ap (flags_of i) (same_older (Dequeue i (are_due flags)) h (makes.others ++ v.seen) makes.seen); left = now.1; rest = refl } in
     let told : Dequeued i (slice_index s.words (flags_at i)) v w = record { flags = flags; found_is = found; dequeues = dequeues } in
     (w, keeps, tt, (Dequeue i (are_due flags) ∷ h, now.0), (refl, λ j eq. let index : i ≡ j = same_index i j (sym hand ∙ eq) in subst (λ k. Dequeued k (slice_index s.words (flags_at i)) v w) index told))

@@ -6,7 +6,7 @@ use lib.ListN.{get_elem?, length-set}
 use Rattle.atomic_table.specs.Table.{Me, keeps, step, Allows}
 use Rattle.aio_model.specs.FlagsWord.{word_of}
 use Rattle.aio_model.specs.LoopHistory.{Sizes, Asked, Enqueue, History}
-use Rattle.aio_model.specs.LoopFlags.{is_pending, flags_of, is_once}
+use Rattle.aio_model.specs.LoopFlags.{has_life, is_pending, flags_of, is_once}
 use Rattle.aio_model.specs.LoopLists.{stack_of, out_of}
 use Rattle.aio_model.specs.LoopLegal.{IsLegal}
 use Rattle.aio_model.specs.InFlight.{AtRest, Announced}
@@ -65,11 +65,11 @@ module _ (sizes : Sizes) (h : History) (words : List ℕ) (views : List Known) (
       let words' = set words (flags_at i) x in
       let same_next : (j : ℕ) → next_in words' j ≡ next_in words j = next_beside_flags words i x in
       let long : length words' ≡ word_count sizes = length-set words (flags_at i) x ∙ stand.long in
-      let new_word : flags_word sizes i (entry ∷ h) ≡ x = word_alive sizes i (entry ∷ h) alive ∙ ap word_of (flags_of-enqueue i v.first asked (flags_of i h) h) ∙ sym is in
+      let new_word : (flags_word sizes i (entry ∷ h) ≡ x) × (has_life sizes i h ≡ true) = (word_alive sizes i (entry ∷ h) alive ∙ ap word_of (flags_of-enqueue i v.first asked (flags_of i h) h) ∙ sym is, alive) in
       record {
         long = long;
         legal = ((alive, refl, may_ask_handle sizes i v.first asked h once handle), stand.legal);
-        seats = seats_make sizes h views id entry v w stand.seats at (record { sizes_are = refl; numbers_are = refl }) (owns_first (numbers_of v) numbered) refl refl numbered;
+        seats = seats_make sizes h views id entry v w stand.seats at (record { sizes_are = refl; numbers_are = refl; told_is = refl }) (owns_first (numbers_of v) numbered) refl refl numbered;
         flags = flags_change sizes h (entry ∷ h) words i x stand.flags stand.long below new_word (λ j ne. word_same sizes j h (entry ∷ h) refl (flags_of-enqueue_other j i v.first asked (flags_of i h) h ne));
         lists = lists_after sizes h (entry ∷ h) words words' views id w stand.lists
             (subst (λ k. IsChain (next_in words') k (stack_of h)) (sym (head_beside_flags words i x)) (chain_kept (next_in words) (next_in words') (slice_index words head_at) (stack_of h) stand.lists.stack (each_all _ (stack_of h) same_next)))
@@ -89,6 +89,6 @@ enqueue_allowed sizes slots id i me asked numbered once handle s kept long at fi
     let word : bit_or (slice_index s.words (flags_at i)) (mask_of asked) ≡ word_of (enqueued_flags asked flags) = ap (λ n. bit_or n (mask_of asked)) found ∙ enqueued_word asked flags in
     let now = enqueue_stands sizes h s.words s.views id me.0 i asked stand at numbered once handle (bit_or (slice_index s.words (flags_at i)) (mask_of asked)) word in
     let w = after_enqueuing me.0 h i asked in
-    let enqueues : Enqueues i asked flags me.0 w = record { makes = makes_of sizes h (Enqueue i asked me.0.first flags) me.0 w (stand.seats.each id me.0 at) refl refl now.legal; rest = refl } in
+    let enqueues : Enqueues i asked flags me.0 w = record { makes = makes_of sizes h (Enqueue i asked me.0.first flags) me.0 w (stand.seats.each id me.0 at) numbered refl refl now.legal; rest = refl } in
     let told : Enqueued i (mask_of asked) (slice_index s.words (flags_at i)) me.0 w = record { flags = flags; found_is = found; enqueues = subst (λ a. Enqueues i a flags me.0 w) (sym (asked_with-mask_of asked)) enqueues } in
     (w, keeps, tt, (Enqueue i asked me.0.first flags ∷ h, now), (refl, λ j same. let is_i : i ≡ j = omega arith in subst (λ k. Enqueued k (mask_of asked) (slice_index s.words (flags_at i)) me.0 w) is_i told))

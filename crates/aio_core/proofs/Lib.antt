@@ -14,6 +14,7 @@ pub mod Taking
 pub mod Lifting
 pub mod Dequeuing
 pub mod Splitting
+pub mod Joining
 pub mod Opening
 pub mod Opened
 pub mod Told

@@ -36,6 +36,6 @@ lift_allowed sizes slots id i more me numbered is_home slices hand s kept long a
     let full : NoneEmpty ((i + 1) ∷ more) = subst NoneEmpty slices now.1 in
     let w = after_lift v i found more in
     let has : HasOut s.words h w = λ own. (out_lifted (next_in s.words) i more (out_of h) out, none_empty-lifted (next_in s.words) i more full.1) in
-    let low : found ≤ index_count v.sizes = subst (λ z. found ≤ index_count z) (sym (stand.seats.each id v at).sizes_are) (lifted_word_below (next_in s.words) i (index_count sizes) more (out_of h) out (out_below sizes h stand.legal)) in
+    let low : found ≤ index_count v.sizes = subst (λ z. found ≤ index_count z) (sym ((stand.seats.each id v at).sizes_are numbered)) (lifted_word_below (next_in s.words) i (index_count sizes) more (out_of h) out (out_below sizes h stand.legal)) in
     let told : Lifts i found more v w = record { below = low; rest = refl } in
-    (w, keeps, tt, (h, load_stands sizes h s.words s.views id (next_at i) v w stand at numbered (record { sizes_are = refl; numbers_are = refl }) refl refl (stand.lists.owed id v at) has), (refl, λ j others eq. let both = sym slices ∙ eq in let index : i ≡ j = same_first i j more others both in let rest : more ≡ others = same_rest i j more others both in subst (λ k. Lifts k found others v w) index (subst (λ l. Lifts i found l v w) rest told)))
+    (w, keeps, tt, (h, load_stands sizes h s.words s.views id (next_at i) v w stand at numbered (record { sizes_are = refl; numbers_are = refl; told_is = refl }) refl refl (stand.lists.owed id v at) has), (refl, λ j others eq. let both = sym slices ∙ eq in let index : i ≡ j = same_first i j more others both in let rest : more ≡ others = same_rest i j more others both in subst (λ k. Lifts k found others v w) index (subst (λ l. Lifts i found l v w) rest told)))

@@ -6,6 +6,7 @@ use Rattle.aio_model.specs.LoopHistory.{Sizes}
 use Rattle.aio_core.specs.Words.{head_at, flags_at, index_count, word_count, flags_word}
 use Rattle.aio_core.specs.Known.{Known, first_known}
 use Rattle.aio_core.specs.Opening.{AreFirst}
+use Rattle.aio_core.proofs.Flags.{lot_is_free}
 use Rattle.aio_core.specs.Rule.{EachView, AreApart, IsSeat, Owes, HasOut, Stands, Kept}
 
 each_alone : (P : Known → Type 0) (v : Known) → P v → EachView P (v ∷ [])
@@ -27,12 +28,12 @@ pub record WordsSoFar (sizes : Sizes) (lot : ℕ) (words : List ℕ) : Type 0 wh
 pub opening_stands : (sizes : Sizes) (words : List ℕ) → AreFirst sizes words → Stands sizes [] words (first_known sizes ∷ [])
 opening_stands sizes words first =
     let v = first_known sizes in
-    let is : IsSeat sizes [] v = record { sizes_are = refl; seen_of = record { rest = []; longer = refl; none_missed = refl; mine_is = refl }; below = omega arith; active = λ q. absurd cc } in
+    let is : IsSeat sizes [] v = record { sizes_are = λ _. refl; seen_of = record { rest = []; longer = refl; none_missed = refl; mine_is = refl }; below = omega arith; active = λ q. absurd cc; told_of = tt } in
     record {
       long = first.long;
       legal = tt;
       seats = record { each = each_alone (IsSeat sizes []) v is; apart = apart_alone v; all_owned = refl };
-      flags = record { each = first.flags };
+      flags = record { each = first.flags; no_lots = λ i lot. lot_is_free sizes i lot };
       lists = record { stack = first.head; owed = each_alone (λ u. Owes sizes words [] u.first u.phase) v tt; out = each_alone (HasOut words []) v (λ own. (refl, tt)) };
     }
 

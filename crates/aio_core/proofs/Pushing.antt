@@ -44,7 +44,7 @@ module _ (sizes : Sizes) (h : History) (words : List ℕ) (views : List Known) (
       record {
         long = length-set words head_at (i + 1) ∙ stand.long;
         legal = ((owed.announced, owed.by_it), stand.legal);
-        seats = seats_make sizes h views id entry v w stand.seats at (record { sizes_are = refl; numbers_are = refl }) (owns_first (numbers_of v) numbered) refl refl numbered;
+        seats = seats_make sizes h views id entry v w stand.seats at (record { sizes_are = refl; numbers_are = refl; told_is = refl }) (owns_first (numbers_of v) numbered) refl refl numbered;
         flags = flags_apart sizes h (entry ∷ h) words head_at (i + 1) stand.flags (λ j q. omega arith) (λ j. refl);
         lists = lists_after sizes h (entry ∷ h) words words' views id w stand.lists
             (subst (λ k. IsChain (next_in words') k (i ∷ stack_of h)) (sym top) (pushed (next_in words') (slice_index words head_at) i (stack_of h) below_it (same_next i ∙ linked)))
@@ -73,14 +73,14 @@ module _ {S : Type 0} (sizes : Sizes) (slots id i head : ℕ) (me : Me S Known) 
       let w = after_push v h i found_now in
       let linked : next_in s.words i ≡ found_now = owed_now.1 ∙ sym (eqb-true found_now head is) in
       let now = push_stands sizes h s.words s.views id v i found_now stand at numbered owed_now.0 linked in
-      let told : Pushes i found_now v w = record { makes = makes_of sizes h (Put i v.first) v w (stand.seats.each id v at) refl refl now.legal; rest = refl } in
+      let told : Pushes i found_now v w = record { makes = makes_of sizes h (Put i v.first) v w (stand.seats.each id v at) numbered refl refl now.legal; rest = refl } in
       (w, keeps, tt, (Put i v.first ∷ h, now), (refl, λ j to eq. let index : i ≡ j = ap index_in (sym phase ∙ eq) in let loaded : head ≡ to = ap loaded_in (sym phase ∙ eq) in subst (λ k. MatchBool (eqb found_now k) (Pushes j found_now v w) (Misses j found_now v w)) loaded (subst (λ c. MatchBool c (Pushes j found_now v w) (Misses j found_now v w)) (sym is) (subst (λ k. Pushes k found_now v w) index told))))
   compared false is =
       let h = kept.0 in
       let stand = kept.1 in
       let v = me.0 in
       let w = after_miss v i found_now in
-      let now = load_stands sizes h s.words s.views id head_at v w stand at numbered (record { sizes_are = refl; numbers_are = refl }) refl refl owed_now.0 (stand.lists.out id v at) in
+      let now = load_stands sizes h s.words s.views id head_at v w stand at numbered (record { sizes_are = refl; numbers_are = refl; told_is = refl }) refl refl owed_now.0 (stand.lists.out id v at) in
       let told : Misses i found_now v w = record { rest = refl } in
       (w, keeps, tt, (h, now), (refl, λ j to eq. let index : i ≡ j = ap index_in (sym phase ∙ eq) in let loaded : head ≡ to = ap loaded_in (sym phase ∙ eq) in subst (λ k. MatchBool (eqb found_now k) (Pushes j found_now v w) (Misses j found_now v w)) loaded (subst (λ c. MatchBool c (Pushes j found_now v w) (Misses j found_now v w)) (sym is) (subst (λ k. Misses k found_now v w) index told))))
 

@@ -1,5 +1,5 @@
 -- The rule's part on seats: what keeps it when one view changes.
-use Rattle.std.proofs.Common.{◌≡◌, ◌≢◌, ℕ, ◌<◌, true, false, List, [], ◌∷◌, ◌++◌, set, refl, sym, ap, ◌∙◌, subst, ⊎_elim, arith}
+use Rattle.std.proofs.Common.{◌≡◌, ◌≢◌, ℕ, ◌<◌, true, false, Option, Some, None, List, [], ◌∷◌, ◌++◌, set, refl, sym, ap, ◌∙◌, subst, ⊎_elim, arith}
 use mathlib.Core.Option.{some}
 use lib.ListN.{get_elem?}
 use Rattle.atomic_table.proofs.Lists.{at_set}
@@ -7,9 +7,9 @@ use Rattle.aio_model.specs.LoopHistory.{Sizes, Entry, History}
 use Rattle.aio_model.specs.LoopLists.{seat_of}
 use Rattle.aio_model.specs.LoopSeats.{owns, own_entries}
 use Rattle.aio_model.specs.LoopLegal.{IsLegal}
-use Rattle.aio_core.specs.Known.{Known, numbers_of}
+use Rattle.aio_core.specs.Known.{Told, Known, numbers_of}
 use Rattle.aio_core.specs.Standing.{Makes}
-use Rattle.aio_core.specs.Rule.{everyone, EachView, AreApart, IsSeat, SeatsStand}
+use Rattle.aio_core.specs.Rule.{everyone, EachView, AreApart, AreParts, IsSeat, SeatsStand}
 use Rattle.aio_core.proofs.Entries.{own-here, own-other, own_of_seen, owned_below, owns_everyone}
 
 -- a fact of every view, once one has changed
@@ -20,6 +20,12 @@ each_set P Q views id w h new keep other u at =
 pub apart_set : (views : List Known) (id : ℕ) (v w : Known) → AreApart views → get_elem? views id ≡ some v → numbers_of w ≡ numbers_of v → AreApart (set views id w)
 apart_set views id v w h at e i j u x ati atj ne n own =
     ⊎_elim (λ a. ⊎_elim (λ b. absurd (ne (a.0 ∙ sym b.0))) (λ b. h id j v x at b.1 (λ q. ne (a.0 ∙ q)) n (subst (λ m. owns m n ≡ true) (ap numbers_of (sym a.1) ∙ e) own)) (at_set views id j w x atj)) (λ a. ⊎_elim (λ b. subst (λ m. owns m n ≡ false) (sym e ∙ ap numbers_of b.1) (h i id u v a.1 at a.0 n own)) (λ b. h i j u x a.1 b.1 ne n own) (at_set views id j w x atj)) (at_set views id i w u ati)
+
+-- parts of a history are parts of a longer one
+pub parts_grow : (h : History) (e : Entry) (told : Option Told) → AreParts h told → AreParts (e ∷ h) told
+parts_grow h e None parts = tt
+parts_grow h e (Some told) parts =
+    ((e ∷ parts.0.0, ap (λ (l : History). e ∷ l) parts.0.1), (e ∷ parts.1.0, ap (λ (l : History). e ∷ l) parts.1.1))
 
 -- another's entry is behind nothing that a seat has seen
 pub seat_beside : (sizes : Sizes) (h : History) (e : Entry) (u : Known) → IsSeat sizes h u → owns (numbers_of u) (seat_of e) ≡ false → IsSeat sizes (e ∷ h) u
@@ -34,12 +40,14 @@ seat_beside sizes h e u is other =
       };
       below = is.below;
       active = is.active;
+      told_of = parts_grow h e u.told is.told_of;
     }
 
 -- what the view that makes a step becomes: it is of the same table and has the same numbers
 pub record IsSame (v w : Known) : Type 0 where
   pub sizes_are : w.sizes ≡ v.sizes
   pub numbers_are : numbers_of w ≡ numbers_of v
+  pub told_is : w.told ≡ v.told
 
 -- the seat that makes the entry has seen all
 seat_ahead : (sizes : Sizes) (h : History) (e : Entry) (v w : Known) → IsSeat sizes h v → IsSame v w → owns (numbers_of v) (seat_of e) ≡ true → w.seen ≡ e ∷ h → w.mine ≡ e ∷ v.mine → 0 < v.count → IsSeat sizes (e ∷ h) w
@@ -49,10 +57,11 @@ seat_ahead sizes h e v w is same own seen mine numbered =
     let below = is.below in
     let all : own_entries (numbers_of w) w.seen ≡ e ∷ v.mine = ap (λ n. own_entries n w.seen) same.numbers_are ∙ ap (own_entries (numbers_of v)) seen ∙ own-here (numbers_of v) e h own ∙ ap (λ (l : History). e ∷ l) (own_of_seen h (numbers_of v) v.seen v.mine is.seen_of) in
     record {
-      sizes_are = same.sizes_are ∙ is.sizes_are;
+      sizes_are = λ _. same.sizes_are ∙ is.sizes_are numbered;
       seen_of = record { rest = []; longer = sym seen; none_missed = refl; mine_is = mine ∙ sym all };
       below = omega arith;
       active = λ _. omega arith;
+      told_of = subst (AreParts (e ∷ h)) (sym same.told_is) (parts_grow h e v.told is.told_of);
     }
 
 -- one entry more, by the seat whose view changes
@@ -78,7 +87,7 @@ seats_keep sizes h views id v w stand at same seen mine numbered =
     record {
       each = each_set (IsSeat sizes h) (IsSeat sizes h) views id w stand.each
           (record {
-            sizes_are = same.sizes_are ∙ is.sizes_are;
+            sizes_are = λ _. same.sizes_are ∙ is.sizes_are numbered;
             seen_of = record {
               rest = is.seen_of.rest;
               longer = is.seen_of.longer ∙ ap (λ (l : History). is.seen_of.rest ++ l) (sym seen);
@@ -87,6 +96,7 @@ seats_keep sizes h views id v w stand at same seen mine numbered =
             };
             below = omega arith;
             active = λ _. omega arith;
+            told_of = subst (AreParts h) (sym same.told_is) is.told_of;
           })
           (λ other u ne atu old. old);
       apart = apart_set views id v w stand.apart at same.numbers_are;
@@ -94,12 +104,13 @@ seats_keep sizes h views id v w stand at same seen mine numbered =
     }
 
 -- the entry that a seat has just made, behind all that it had not seen
-pub makes_of : (sizes : Sizes) (h : History) (e : Entry) (v w : Known) → IsSeat sizes h v → w.seen ≡ e ∷ h → w.mine ≡ e ∷ v.mine → IsLegal sizes (e ∷ h) → Makes e v w
-makes_of sizes h e v w is seen mine legal =
+pub makes_of : (sizes : Sizes) (h : History) (e : Entry) (v w : Known) → IsSeat sizes h v → 0 < v.count → w.seen ≡ e ∷ h → w.mine ≡ e ∷ v.mine → IsLegal sizes (e ∷ h) → Makes e v w
+makes_of sizes h e v w is numbered seen mine legal =
     record {
+      numbered = numbered;
       others = is.seen_of.rest;
       not_own = is.seen_of.none_missed;
       seen = seen ∙ ap (λ (l : History). e ∷ l) is.seen_of.longer;
       mine = mine;
-      legal = subst (IsLegal v.sizes) (sym seen) (subst (λ z. IsLegal z (e ∷ h)) (sym is.sizes_are) legal);
+      legal = subst (IsLegal v.sizes) (sym seen) (subst (λ z. IsLegal z (e ∷ h)) (sym (is.sizes_are numbered)) legal);
     }

@@ -1,5 +1,5 @@
 -- A seat that is split keeps the rule.
-use Rattle.std.proofs.Common.{◌≡◌, ◌≢◌, ℕ, zero, suc, ◌+◌, ◌-◌, ◌<◌, ◌≤◌, Bool, true, false, not, cond, ltb, List, [], ◌∷◌, ◌++◌, length, set, inl, inr, refl, sym, ◌∙◌, subst, ⊎_elim, ◌⊎◌, arith, length-set}
+use Rattle.std.proofs.Common.{◌≡◌, ◌≢◌, ℕ, zero, suc, ◌+◌, ◌-◌, ◌*◌, ◌/◌, ◌%◌, div-add-mod', ◌<◌, ◌≤◌, Bool, true, false, not, cond, ltb, List, [], ◌∷◌, ◌++◌, length, set, inl, inr, refl, sym, ap, ◌∙◌, subst, ⊎_elim, ◌⊎◌, arith, length-set}
 use Rattle.std.proofs.lemmas.Bool.{and_parts, and_from, not_from_false, not-true, lt-ltb, le-ltb, ltb-true, ltb-false, false_from_ne_true}
 use mathlib.Core.Option.{some, some-injective, some-ne-none}
 use lib.ListN.{get_elem?}
@@ -105,7 +105,7 @@ module _ (sizes : Sizes) (h : History) (words : List ℕ) (views : List Known) (
   front_is_seat is full low =
       let below = is.below in
       record {
-        sizes_are = is.sizes_are;
+        sizes_are = λ _. is.sizes_are (omega arith);
         seen_of = record {
           rest = is.seen_of.rest;
           longer = is.seen_of.longer;
@@ -114,13 +114,14 @@ module _ (sizes : Sizes) (h : History) (words : List ℕ) (views : List Known) (
         };
         below = omega arith;
         active = λ _. full;
+        told_of = is.told_of;
       }
 
-  back_is_seat : IsSeat sizes h v → cut ≤ v.count → IsSeat sizes h (back_known cut v)
-  back_is_seat is low =
+  back_is_seat : IsSeat sizes h v → 0 < cut → cut ≤ v.count → IsSeat sizes h (back_known cut v)
+  back_is_seat is full low =
       let below = is.below in
       record {
-        sizes_are = is.sizes_are;
+        sizes_are = λ _. is.sizes_are (omega arith);
         seen_of = record {
           rest = is.seen_of.rest;
           longer = is.seen_of.longer;
@@ -129,6 +130,7 @@ module _ (sizes : Sizes) (h : History) (words : List ℕ) (views : List Known) (
         };
         below = omega arith;
         active = λ q. absurd cc;
+        told_of = tt;
       }
 
   pub split_stands : Stands sizes h words views → get_elem? views id ≡ some v → 0 < cut → cut ≤ v.count → Stands sizes h words (set views id (front_known cut v) ++ back_known cut v ∷ [])
@@ -138,7 +140,7 @@ module _ (sizes : Sizes) (h : History) (words : List ℕ) (views : List Known) (
         long = stand.long;
         legal = stand.legal;
         seats = record {
-          each = each_split (IsSeat sizes h) views id (front_known cut v) (back_known cut v) stand.seats.each (front_is_seat is full low) (back_is_seat is low);
+          each = each_split (IsSeat sizes h) views id (front_known cut v) (back_known cut v) stand.seats.each (front_is_seat is full low) (back_is_seat is full low);
           apart = apart_split views id cut v low stand.seats.apart at;
           all_owned = stand.seats.all_owned;
         };
@@ -153,3 +155,30 @@ module _ (sizes : Sizes) (h : History) (words : List ℕ) (views : List Known) (
 pub split_allowed : {S : Type 0} (sizes : Sizes) (id cut : ℕ) (v : Known) → 0 < cut → cut ≤ v.count → Splits (Kept {S = S} sizes) id v (front_known cut v) (back_known cut v)
 split_allowed sizes id cut v full low s kept at =
     (kept.0, split_stands sizes kept.0 s.words s.views id cut v kept.1 at full low)
+
+-- Halves.
+
+pub half_below : (n : ℕ) → 0 < n → n / 2 < n
+half_below n full =
+    let whole = div-add-mod' n 2 in
+    let q : ℕ = n / 2 in
+    let r : ℕ = n % 2 in
+    let whole' : q * 2 + r ≡ n = whole in
+    let below : q < n = omega arith in
+    below
+
+pub back_first : (first count f n : ℕ) → first ≡ f → count ≡ n → first + (count - count / 2) ≡ f + (n - n / 2)
+back_first first count f n e d = ap (λ k. k + (count - count / 2)) e ∙ ap (λ k. f + (k - k / 2)) d
+
+pub back_count : (count n : ℕ) → count ≡ n → count - (count - count / 2) ≡ n / 2
+back_count count n d =
+    ap (λ k. k - (k - k / 2)) d ∙ half n (n / 2) (half_at_most n)
+  where
+    half_at_most : (n : ℕ) → n / 2 ≤ n
+    half_at_most n = let whole' : n / 2 * 2 + n % 2 ≡ n = div-add-mod' n 2 in let q : ℕ = n / 2 in let r : ℕ = n % 2 in omega arith
+
+    half : (n q : ℕ) → q ≤ n → n - (n - q) ≡ q
+    half n q low = omega arith
+
+pub front_count : (count n : ℕ) → count ≡ n → n - n / 2 ≡ count - count / 2
+front_count count n d = ap (λ k. k - k / 2) (sym d)

@@ -49,7 +49,7 @@ module _ (sizes : Sizes) (h : History) (words : List ℕ) (views : List Known) (
       record {
         long = length-set words head_at 0 ∙ stand.long;
         legal = (tt, stand.legal);
-        seats = seats_make sizes h views id Take v w stand.seats at (record { sizes_are = refl; numbers_are = refl }) is_home refl refl numbered;
+        seats = seats_make sizes h views id Take v w stand.seats at (record { sizes_are = refl; numbers_are = refl; told_is = refl }) is_home refl refl numbered;
         flags = flags_apart sizes h (Take ∷ h) words head_at 0 stand.flags (λ j q. omega arith) (λ j. refl);
         lists = lists_after sizes h (Take ∷ h) words words_taken views id w stand.lists
             (read_here words head_at 0 (omega arith))
@@ -73,6 +73,6 @@ take_allowed sizes slots id me numbered is_home s kept long at fits =
     let now = take_stands sizes h s.words s.views id v stand at numbered is_home in
     let w = after_take v h found in
     let is = stand.seats.each id v at in
-    let low : found ≤ index_count v.sizes = subst (λ z. found ≤ index_count z) (sym is.sizes_are) (chain_word_below (next_in s.words) found (index_count sizes) (stack_of h) stand.lists.stack (stack_below sizes h stand.legal)) in
-    let told : Takes found v w = record { makes = makes_of sizes h Take v w is refl refl now.legal; below = low; left = λ e. left_of (set s.words head_at 0) (Take ∷ h) w.stage.slices w.stage.hand e (has_out_taken sizes h s.words s.views id v stand at is_home); rest = refl } in
+    let low : found ≤ index_count v.sizes = subst (λ z. found ≤ index_count z) (sym (is.sizes_are numbered)) (chain_word_below (next_in s.words) found (index_count sizes) (stack_of h) stand.lists.stack (stack_below sizes h stand.legal)) in
+    let told : Takes found v w = record { makes = makes_of sizes h Take v w is numbered refl refl now.legal; below = low; left = λ e. left_of (set s.words head_at 0) (Take ∷ h) w.stage.slices w.stage.hand e (has_out_taken sizes h s.words s.views id v stand at is_home); rest = refl } in
     (w, keeps, tt, (Take ∷ h, now), (refl, told))

@@ -4,6 +4,7 @@ pub mod Rule
 pub mod Standing
 pub mod Plays
 pub mod Splitting
+pub mod Joining
 pub mod Calls
 pub mod HomeState
 pub mod Opening

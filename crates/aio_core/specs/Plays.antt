@@ -6,7 +6,8 @@ use Rattle.aio_model.specs.declared.flags.Flags.{Flags}
 use Rattle.aio_model.specs.FlagsWord.{word_of}
 use Rattle.aio_model.specs.InFlight.{Announced, HeadLoaded, Linked}
 use Rattle.aio_core.specs.Words.{head_at, flags_at, next_at, index_count}
-use Rattle.aio_core.specs.Known.{HeadLoad, NextStore, Known}
+use Rattle.aio_core.specs.Known.{HeadLoad, NextStore, Told, Known}
+use Rattle.aio_core.specs.Joining.{longer_of, IsJoined}
 use Rattle.aio_core.specs.Standing.{done, asked_with, Enqueues, Pushes, Misses, Cancels, Takes, Lifts, Dequeues}
 
 -- the enqueue of the index whose flags word this is
@@ -65,3 +66,8 @@ module _ {S : Type 0} where
   abbrev pub dequeued : Step S → Me S Known → ℕ → Me S Known → Type 0
   dequeued step before found after =
       (after.1 ≡ before.1) × ((i : ℕ) → before.0.stage.hand ≡ Some i → Dequeued i found before.0 after.0)
+
+  -- what two joined seats had seen
+  abbrev pub learned : Step S → Me S Known → ℕ → Me S Known → Type 0
+  learned step before found after =
+      (after ≡ before) × ((told : Told) → before.0.told ≡ Some told → IsJoined before.0.sizes told.staying told.joining (longer_of told.staying told.joining))

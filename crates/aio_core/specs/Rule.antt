@@ -1,17 +1,18 @@
 -- The rule of a loop's table: its words stand for one legal history, of which each seat has seen a part. It is a record of
 -- parts, each about words of its own.
-use Rattle.std.specs.Prelude.{◌≡◌, ◌≢◌, ℕ, ◌+◌, ◌<◌, ◌≤◌, true, false, Option, None, Some, List, [], ◌∷◌, length, slice_index}
+use Rattle.std.specs.Prelude.{◌≡◌, ◌≢◌, ℕ, ◌+◌, ◌<◌, ◌≤◌, true, false, Option, None, Some, List, [], ◌∷◌, ◌++◌, length, slice_index}
 use mathlib.Core.Option.{some}
 use lib.ListN.{get_elem?}
 use Rattle.atomic_table.specs.Table.{State}
 use Rattle.aio_model.specs.LoopHistory.{Sizes, History}
+use Rattle.aio_model.specs.LoopFlags.{is_lot}
 use Rattle.aio_model.specs.LoopLists.{is_announced, announcer_of, stack_of, out_of}
 use Rattle.aio_model.specs.LoopLegal.{IsLegal}
 use Rattle.aio_model.specs.LoopSeats.{Numbers, owns, own_entries, home, IsSeenOf}
 use Rattle.aio_model.specs.InFlight.{Phase, AtRest, LotClaimed, Announced, HeadLoaded, Linked, ToStore, ToLoad, ToSet, is_at_rest}
 use Rattle.aio_chain.specs.Chains.{IsChain, AreChains}
-use Rattle.aio_core.specs.Words.{head_at, flags_at, index_count, word_count, flags_word, next_in}
-use Rattle.aio_core.specs.Known.{Known, numbers_of}
+use Rattle.aio_core.specs.Words.{head_at, flags_at, index_count, word_count, flags_word, free_word, next_in}
+use Rattle.aio_core.specs.Known.{Told, Known, numbers_of}
 
 -- all numbers: those of seats, and the home's
 abbrev pub everyone : Numbers
@@ -19,12 +20,23 @@ everyone = record { first = 0; count = 65 }
 
 -- Seats.
 
--- what a seat knows is of this table and of the history, and it owns a number in every phase but rest
+-- the first list is an older part of the second
+abbrev pub IsPart : History → History → Type 0
+IsPart older history = (rest : History) × (history ≡ rest ++ older)
+
+-- what two joined seats had seen are parts of the one history
+abbrev pub AreParts : History → Option Told → Type 0
+AreParts history None = Unit {0}
+AreParts history (Some told) = IsPart told.staying history × IsPart told.joining history
+
+-- What a seat knows is of this table and of the history, and it owns a number in every phase but rest. One that was joined into
+-- another has no number left, and knows nothing of the sizes.
 pub record IsSeat (sizes : Sizes) (history : History) (known : Known) : Type 0 where
-  pub sizes_are : known.sizes ≡ sizes
+  pub sizes_are : 0 < known.count → known.sizes ≡ sizes
   pub seen_of : IsSeenOf history (numbers_of known) known.seen known.mine
   pub below : known.first + known.count ≤ 65
   pub active : is_at_rest known.phase ≡ false → 0 < known.count
+  pub told_of : AreParts history known.told
 
 -- a fact of every view
 abbrev pub EachView : (Known → Type 0) → List Known → Type 0
@@ -44,6 +56,8 @@ pub record SeatsStand (sizes : Sizes) (history : History) (views : List Known) :
 
 pub record FlagsStand (sizes : Sizes) (history : History) (words : List ℕ) : Type 0 where
   pub each : (i : ℕ) → i < index_count sizes → slice_index words (flags_at i) ≡ flags_word sizes i history
+  -- no life of a lot is begun yet
+  pub no_lots : (i : ℕ) → is_lot sizes i ≡ true → flags_word sizes i history ≡ free_word
 
 -- Lists.
 

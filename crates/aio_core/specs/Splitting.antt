@@ -1,5 +1,5 @@
 -- How what a seat knows is cut in two.
-use Rattle.std.specs.Prelude.{ℕ, ◌+◌, ◌-◌, [], None}
+use Rattle.std.specs.Prelude.{ℕ, ◌+◌, ◌-◌, ◌/◌, [], None}
 use Rattle.aio_model.specs.LoopSeats.{Numbers, own_entries}
 use Rattle.aio_model.specs.InFlight.{AtRest}
 use Rattle.aio_core.specs.Known.{Known, numbers_of}
@@ -27,3 +27,13 @@ seats_known = front_known 64
 
 abbrev pub home_known : Known → Known
 home_known = back_known 64
+
+-- how many numbers go to the new seat
+abbrev pub half_of : ℕ → ℕ
+half_of count = count / 2
+
+abbrev pub first_half : Known → Known
+first_half known = front_known (known.count - half_of known.count) known
+
+abbrev pub last_half : Known → Known
+last_half known = back_known (known.count - half_of known.count) known

@@ -35,6 +35,7 @@ done kind word found = record { kind = kind; word = word; found = found }
 
 -- The entry was made, behind some of others: it stands in the one history, which is legal, and what was seen goes on with it.
 pub record Makes (entry : Entry) (before after : Known) : Type 0 where
+  pub numbered : 0 < before.count
   pub others : History
   pub not_own : own_entries (numbers_of before) others ≡ []
   pub seen : after.seen ≡ entry ∷ (others ++ before.seen)
@@ -110,9 +111,10 @@ pub record Lifts (i found : ℕ) (more : List ℕ) (before after : Known) : Type
   pub below : found ≤ index_count before.sizes
   pub rest : after ≡ record before { did = done NextLoad (next_at i) found ∷ before.did; stage = record { slices = without_first found more; hand = Some i } }
 
--- the index at hand was dequeued, and had these flags
+-- the index at hand was dequeued, and had these flags; it is a handle, since no life of a lot is begun yet
 pub record Dequeues (i : ℕ) (flags : Flags) (before after : Known) : Type 0 where
   pub makes : Makes (Dequeue i (are_due flags)) before after
+  pub handle : i < before.sizes.handles
   pub were : flags ≡ flags_of i (makes.others ++ before.seen)
   pub left : is_empty after.stage.slices ≡ is_empty (out_of after.seen)
   pub rest : after ≡ record before { seen = after.seen; mine = after.mine; did = done DequeueFetchAnd (flags_at i) (word_of flags) ∷ before.did; stage = record before.stage { hand = None } }

@@ -12,6 +12,7 @@ mod refusal;
 mod seat;
 mod sizes;
 mod slices;
+mod split;
 mod table;
 mod tokens;
 mod view;

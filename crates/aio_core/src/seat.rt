@@ -9,8 +9,8 @@ use std::marker::Model;
 #[derive(Drop)]
 pub struct Seat<J: Job> {
     pub(crate) inner: atomic_table::Seat<Option<J>, View>,
-    first: u32,
-    count: u32,
+    pub(crate) first: u32,
+    pub(crate) count: u32,
 }
 
 impl<J: Job> Model for Seat<J> {
@@ -47,7 +47,8 @@ impl<J: Job> Seat<J> {
 
     /// How many numbers it owns, from its own on.
     pub fn count(&self) -> u32
-        ensures { result ≡ self.now.known.count }
+        ensures value { result ≡ self.now.known.count }
+        ensures some { 0 < result }
     {
         self.count
     }

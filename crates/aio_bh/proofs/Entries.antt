@@ -1,0 +1,82 @@
+-- The home's entries in what came between, and what others leave as it is.
+use Rattle.std.proofs.Common.{◌≡◌, ℕ, Bool, true, false, cond, eqb, List, [], ◌∷◌, ◌++◌, drop, refl, sym, ap, ◌∙◌, subst}
+use Rattle.std.proofs.lemmas.Bool.{and_parts, eqb-true, false≢true}
+use Rattle.aio_model.specs.LoopHistory.{Entry, New, Enqueue, Put, Cancel, Take, Dequeue, Free, SetEvent, ClearEvent, History}
+use Rattle.aio_model.specs.LoopLists.{seat_of, taken_of, dequeue_count, out_of}
+use Rattle.aio_model.specs.LoopSeats.{Numbers, owns, home, entries_by, entries_of, own_entries}
+use Rattle.aio_model.specs.LoopFrame.{are_of_callback}
+use Rattle.aio_core.specs.Standing.{is_empty}
+
+chosen-append : (b : Bool) (e : Entry) (xs xs' ys : History) → xs' ≡ xs ++ ys → cond b (e ∷ xs') xs' ≡ cond b (e ∷ xs) xs ++ ys
+chosen-append true e xs xs' ys h = ap (λ l. e ∷ l) h
+chosen-append false e xs xs' ys h = h
+
+pub entries_of-append : (n : ℕ) (newer older : History) → entries_of n (newer ++ older) ≡ entries_of n newer ++ entries_of n older
+entries_of-append n [] older = refl
+entries_of-append n (e ∷ newer) older =
+    chosen-append (eqb (seat_of e) n) e (entries_of n newer) (entries_of n (newer ++ older)) (entries_of n older) (entries_of-append n newer older)
+
+-- Who has no entry of some numbers has none of fewer.
+
+none_here : (a b : Bool) (e : Entry) (ps qs : History) → (b ≡ true → a ≡ true) → (ps ≡ [] → qs ≡ []) → cond a (e ∷ ps) ps ≡ [] → cond b (e ∷ qs) qs ≡ []
+none_here true b e ps qs implies k h = absurd cc
+none_here false true e ps qs implies k h = absurd (false≢true (implies refl))
+none_here false false e ps qs implies k h = k h
+
+none_by : (p q : ℕ → Bool) (xs : History) → ((n : ℕ) → q n ≡ true → p n ≡ true) → entries_by p xs ≡ [] → entries_by q xs ≡ []
+none_by p q [] implies h = refl
+none_by p q (e ∷ xs) implies h =
+    none_here (p (seat_of e)) (q (seat_of e)) e (entries_by p xs) (entries_by q xs) (implies (seat_of e)) (none_by p q xs implies) h
+
+home_is_owned : (numbers : Numbers) → numbers.first ≡ 64 → numbers.count ≡ 1 → (n : ℕ) → eqb n home ≡ true → owns numbers n ≡ true
+home_is_owned numbers first count n is =
+    let same : n ≡ home = eqb-true n home is in
+    let of_first : (f c : ℕ) → f ≡ 64 → c ≡ 1 → owns (record { first = f; count = c }) home ≡ true = λ f c ef ec. subst (λ x. owns (record { first = x; count = c }) home ≡ true) (sym ef) (subst (λ y. owns (record { first = 64; count = y }) home ≡ true) (sym ec) refl) in
+    subst (λ m. owns numbers m ≡ true) (sym same) (of_first numbers.first numbers.count first count)
+
+-- none of the home's own
+pub none_of_home : (numbers : Numbers) (others : History) → numbers.first ≡ 64 → numbers.count ≡ 1 → own_entries numbers others ≡ [] → entries_of home others ≡ []
+none_of_home numbers others first count h =
+    none_by (owns numbers) (λ n. eqb n home) others (home_is_owned numbers first count) h
+
+-- What is out stays as it is, where home does only what a callback may.
+
+rest_of_callback : (b : Bool) (e : Entry) (xs : History) → are_of_callback (cond b (e ∷ xs) xs) ≡ true → are_of_callback xs ≡ true
+rest_of_callback true e xs h = (and_parts _ _ h).1
+rest_of_callback false e xs h = h
+
+module _ (h : History) where
+  taken_kept : (xs : History) → are_of_callback (entries_of home xs) ≡ true → taken_of (xs ++ h) ≡ taken_of h
+  taken_kept [] q = refl
+  taken_kept (New i s j ∷ xs) q = taken_kept xs (rest_of_callback (eqb s 64) (New i s j) _ q)
+  taken_kept (Enqueue i a s w ∷ xs) q = taken_kept xs (rest_of_callback (eqb s 64) (Enqueue i a s w) _ q)
+  taken_kept (Put i s ∷ xs) q = taken_kept xs (rest_of_callback (eqb s 64) (Put i s) _ q)
+  taken_kept (Cancel i s w ∷ xs) q = taken_kept xs (rest_of_callback (eqb s 64) (Cancel i s w) _ q)
+  taken_kept (Take ∷ xs) q = absurd (false≢true q)
+  taken_kept (Dequeue i r ∷ xs) q = absurd (false≢true q)
+  taken_kept (Free i ∷ xs) q = absurd (false≢true q)
+  taken_kept (SetEvent e s ∷ xs) q = taken_kept xs (rest_of_callback (eqb s 64) (SetEvent e s) _ q)
+  taken_kept (ClearEvent e w ∷ xs) q = absurd (false≢true q)
+
+  count_kept : (xs : History) → are_of_callback (entries_of home xs) ≡ true → dequeue_count (xs ++ h) ≡ dequeue_count h
+  count_kept [] q = refl
+  count_kept (New i s j ∷ xs) q = count_kept xs (rest_of_callback (eqb s 64) (New i s j) _ q)
+  count_kept (Enqueue i a s w ∷ xs) q = count_kept xs (rest_of_callback (eqb s 64) (Enqueue i a s w) _ q)
+  count_kept (Put i s ∷ xs) q = count_kept xs (rest_of_callback (eqb s 64) (Put i s) _ q)
+  count_kept (Cancel i s w ∷ xs) q = count_kept xs (rest_of_callback (eqb s 64) (Cancel i s w) _ q)
+  count_kept (Take ∷ xs) q = absurd (false≢true q)
+  count_kept (Dequeue i r ∷ xs) q = absurd (false≢true q)
+  count_kept (Free i ∷ xs) q = absurd (false≢true q)
+  count_kept (SetEvent e s ∷ xs) q = count_kept xs (rest_of_callback (eqb s 64) (SetEvent e s) _ q)
+  count_kept (ClearEvent e w ∷ xs) q = absurd (false≢true q)
+
+  pub out_kept : (xs : History) → are_of_callback (entries_of home xs) ≡ true → out_of (xs ++ h) ≡ out_of h
+  out_kept xs q =
+      ap (λ n. drop n (taken_of (xs ++ h))) (count_kept xs q) ∙ ap (λ l. drop (dequeue_count h) l) (taken_kept xs q)
+
+  pub out_beside : (others : History) → entries_of home others ≡ [] → out_of (others ++ h) ≡ out_of h
+  out_beside others none = out_kept others (ap are_of_callback none)
+
+pub empty_of : (xs : List ℕ) → is_empty xs ≡ true → xs ≡ []
+empty_of [] h = refl
+empty_of (x ∷ xs) h = absurd (false≢true h)

@@ -1,0 +1,182 @@
+-- Steps of one seat, one after another, stand in the history.
+use Rattle.std.proofs.Common.{◌≡◌, ℕ, zero, suc, ◌<◌, Bool, true, false, cond, eqb, MatchBool, List, [], ◌∷◌, ◌++◌, refl, sym, ap, ◌∙◌, subst, append_assoc}
+use Rattle.std.proofs.lemmas.Bool.{cond-true, eqb-true, eq-eqb}
+use Rattle.aio_model.specs.declared.flags.Flags.{Flags}
+use Rattle.aio_model.specs.LoopHistory.{Sizes, Asked, Entry, Enqueue, Put, History}
+use Rattle.aio_model.specs.LoopLists.{seat_of}
+use Rattle.aio_model.specs.LoopSeats.{Numbers, owns, own_entries, entries_of, newest_of, StandsInHistory, StandsAtTheEnd}
+use Rattle.aio_model.specs.InFlight.{Phase}
+use Rattle.aio_core.specs.Known.{Done, Known, numbers_of}
+use Rattle.aio_core.specs.Standing.{Makes, Enqueues, Aims}
+use Rattle.aio_core.proofs.Entries.{owns_first}
+use Rattle.aio_bh.specs.Enqueuing.{MissesOnce, PushesOnce, Tries, PushesAtLast, Schedules, SchedulesAtOnce, SchedulesLater, enqueue_entries, Stands}
+
+chosen : (b : Bool) (e : Entry) (xs ys zs : History) → zs ≡ xs ++ ys → cond b (e ∷ zs) zs ≡ cond b (e ∷ xs) xs ++ ys
+chosen true e xs ys zs h = ap (λ (l : History). e ∷ l) h
+chosen false e xs ys zs h = h
+
+pub entries_of-append : (n : ℕ) (xs ys : History) → entries_of n (xs ++ ys) ≡ entries_of n xs ++ entries_of n ys
+entries_of-append n [] ys = refl
+entries_of-append n (e ∷ xs) ys =
+    chosen (eqb (seat_of e) n) e (entries_of n xs) (entries_of n ys) (entries_of n (xs ++ ys)) (entries_of-append n xs ys)
+
+none_more : (b c : Bool) (e : Entry) (xs ys : History) → (c ≡ true → b ≡ true) → (xs ≡ [] → ys ≡ []) → cond b (e ∷ xs) xs ≡ [] → cond c (e ∷ ys) ys ≡ []
+none_more true c e xs ys k l h = absurd cc
+none_more false true e xs ys k l h = absurd (let no : false ≡ true = k refl in cc)
+none_more false false e xs ys k l h = l h
+
+-- what none of a seat's numbers made its own number didn't make
+pub not_by_it : (n : Numbers) (xs : History) → 0 < n.count → own_entries n xs ≡ [] → entries_of n.first xs ≡ []
+not_by_it n [] full h = refl
+not_by_it n (e ∷ xs) full h =
+    none_more (owns n (seat_of e)) (eqb (seat_of e) n.first) e (own_entries n xs) (entries_of n.first xs) (λ is. subst (λ k. owns n k ≡ true) (sym (eqb-true (seat_of e) n.first is)) (owns_first n full)) (not_by_it n xs full) h
+
+-- one entry
+pub makes_stand : (e : Entry) (v w : Known) → Makes e v w → seat_of e ≡ v.first → StandsAtTheEnd v.sizes v.first (e ∷ []) v.seen v.mine w.seen w.mine
+makes_stand e v w makes by_it =
+    let same : eqb (seat_of e) v.first ≡ true = eq-eqb (seat_of e) v.first by_it in
+    record {
+      stands = record {
+        rest = e ∷ makes.others;
+        longer = makes.seen;
+        legal = makes.legal;
+        just_these = cond-true (eqb (seat_of e) v.first) (e ∷ entries_of v.first makes.others) (entries_of v.first makes.others) same ∙ ap (λ (l : History). e ∷ l) (not_by_it (numbers_of v) makes.others makes.numbered makes.not_own);
+        mine_grows = makes.mine;
+      };
+      ends = ap newest_of makes.seen;
+    }
+
+-- more entries behind those of a call
+pub stands_append : (z : Sizes) (n : ℕ) (es fs a ma b mb c mc : History) → StandsInHistory z n es a ma b mb → StandsInHistory z n fs b mb c mc → StandsInHistory z n (fs ++ es) a ma c mc
+stands_append z n es fs a ma b mb c mc h k =
+    record {
+      rest = k.rest ++ h.rest;
+      longer = k.longer ∙ ap (λ (l : History). k.rest ++ l) h.longer ∙ sym (append_assoc k.rest h.rest a);
+      legal = k.legal;
+      just_these = entries_of-append n k.rest h.rest ∙ ap (λ (l : History). l ++ entries_of n h.rest) k.just_these ∙ ap (λ (l : History). fs ++ l) h.just_these;
+      mine_grows = k.mine_grows ∙ ap (λ (l : History). fs ++ l) h.mine_grows ∙ sym (append_assoc fs es ma);
+    }
+
+-- What steps leave.
+
+-- what no step of an enqueue changes
+pub record IsSame (v w : Known) : Type 0 where
+  pub sizes : w.sizes ≡ v.sizes
+  pub first : w.first ≡ v.first
+  pub count : w.count ≡ v.count
+  pub stage : w.stage ≡ v.stage
+  pub sleep : w.sleep ≡ v.sleep
+  pub told : w.told ≡ v.told
+
+-- a step that makes no entry
+pub record IsQuiet (v w : Known) : Type 0 where
+  pub same : IsSame v w
+  pub seen : w.seen ≡ v.seen
+  pub mine : w.mine ≡ v.mine
+
+pub same_rest : (v w : Known) → IsSame v w → w ≡ record v { seen = w.seen; mine = w.mine; did = w.did; phase = w.phase }
+same_rest v w h =
+    λ i. record { sizes = h.sizes i; seen = w.seen; mine = w.mine; did = w.did; first = h.first i; count = h.count i; phase = w.phase; stage = h.stage i; sleep = h.sleep i; told = h.told i }
+
+pub same_then : (u v w : Known) → IsSame u v → IsSame v w → IsSame u w
+same_then u v w h k =
+    record { sizes = k.sizes ∙ h.sizes; first = k.first ∙ h.first; count = k.count ∙ h.count; stage = k.stage ∙ h.stage; sleep = k.sleep ∙ h.sleep; told = k.told ∙ h.told }
+
+pub quiet_then : (u v w : Known) → IsQuiet u v → IsQuiet v w → IsQuiet u w
+quiet_then u v w h k =
+    record { same = same_then u v w h.same k.same; seen = k.seen ∙ h.seen; mine = k.mine ∙ h.mine }
+
+-- a change of what was seen, done and due alone
+changed : (v w : Known) (s m : History) (d : List Done) (p : Phase) → w ≡ record v { seen = s; mine = m; did = d; phase = p } → IsSame v w
+changed v w s m d p e =
+    record {
+      sizes = ap (λ (k : Known). k.sizes) e;
+      first = ap (λ (k : Known). k.first) e;
+      count = ap (λ (k : Known). k.count) e;
+      stage = ap (λ (k : Known). k.stage) e;
+      sleep = ap (λ (k : Known). k.sleep) e;
+      told = ap (λ (k : Known). k.told) e;
+    }
+
+quieted : (v w : Known) (d : List Done) (p : Phase) → w ≡ record v { did = d; phase = p } → IsQuiet v w
+quieted v w d p e =
+    record { same = changed v w v.seen v.mine d p e; seen = ap (λ (k : Known). k.seen) e; mine = ap (λ (k : Known). k.mine) e }
+
+aims_quiet : (i head : ℕ) (v w : Known) → Aims i head v w → IsQuiet v w
+aims_quiet i head v w aims = quieted v w _ _ aims.rest
+
+missed_quiet : (i : ℕ) (v w : Known) → MissesOnce i v w → IsQuiet v w
+missed_quiet i v w once =
+    quiet_then v once.aimed w (aims_quiet i once.head v once.aimed once.aims) (quieted once.aimed w _ _ once.missed.misses.rest)
+
+quiet_refl : (v : Known) → IsQuiet v v
+quiet_refl v =
+    record { same = record { sizes = refl; first = refl; count = refl; stage = refl; sleep = refl; told = refl }; seen = refl; mine = refl }
+
+tries_quiet : (i misses : ℕ) (v w : Known) → Tries i misses v w → IsQuiet v w
+tries_quiet i zero v w h = subst (IsQuiet v) (sym h) (quiet_refl v)
+tries_quiet i (suc misses) v w h =
+    quiet_then v h.0 w (tries_quiet i misses v h.0 h.1) (missed_quiet i h.0 w h.2)
+
+-- Calls.
+
+abbrev AtEnd : Known → History → Known → Type 0
+AtEnd v entries w =
+    StandsAtTheEnd v.sizes v.first entries v.seen v.mine w.seen w.mine
+
+-- what stands behind quiet steps stands behind what came before them
+at_quiet : (v a w : Known) (entries : ℕ → History) → IsQuiet v a → AtEnd a (entries a.first) w → AtEnd v (entries v.first) w
+at_quiet v a w entries quiet h =
+    let one = subst (λ z. StandsAtTheEnd z a.first (entries a.first) a.seen a.mine w.seen w.mine) quiet.same.sizes h in
+    let two = subst (λ n. StandsAtTheEnd v.sizes n (entries n) a.seen a.mine w.seen w.mine) quiet.same.first one in
+    let three = subst (λ s. StandsAtTheEnd v.sizes v.first (entries v.first) s a.mine w.seen w.mine) quiet.seen two in
+    subst (λ m. StandsAtTheEnd v.sizes v.first (entries v.first) v.seen m w.seen w.mine) quiet.mine three
+
+pub pushes_once_stands : (i : ℕ) (v w : Known) → PushesOnce i v w → AtEnd v (Put i v.first ∷ []) w × IsSame v w
+pushes_once_stands i v w once =
+    let aimed = aims_quiet i once.head v once.aimed once.aims in
+    (at_quiet v once.aimed w (λ n. Put i n ∷ []) aimed (makes_stand (Put i once.aimed.first) once.aimed w once.pushes.makes refl), same_then v once.aimed w aimed.same (changed once.aimed w _ _ _ _ once.pushes.rest))
+
+pub pushes_at_last_stands : (i : ℕ) (v w : Known) → PushesAtLast i v w → AtEnd v (Put i v.first ∷ []) w × IsSame v w
+pushes_at_last_stands i v w run =
+    let quiet = tries_quiet i run.misses v run.last run.tries in
+    let push = pushes_once_stands i run.last w run.pushes in
+    (at_quiet v run.last w (λ n. Put i n ∷ []) quiet push.0, same_then v run.last w quiet.same push.1)
+
+-- an enqueue, and then a push
+pub enqueue_then_push : (i : ℕ) (asked : Asked) (flags : Flags) (v a w : Known) → Enqueues i asked flags v a → AtEnd a (Put i a.first ∷ []) w × IsSame a w → AtEnd v (Put i v.first ∷ Enqueue i asked v.first flags ∷ []) w × IsSame v w
+enqueue_then_push i asked flags v a w enqueues push =
+    let same = changed v a _ _ _ _ enqueues.rest in
+    let first = makes_stand (Enqueue i asked v.first flags) v a enqueues.makes refl in
+    let one = subst (λ z. StandsAtTheEnd z a.first (Put i a.first ∷ []) a.seen a.mine w.seen w.mine) same.sizes push.0 in
+    let second : StandsAtTheEnd v.sizes v.first (Put i v.first ∷ []) a.seen a.mine w.seen w.mine = subst (λ n. StandsAtTheEnd v.sizes n (Put i n ∷ []) a.seen a.mine w.seen w.mine) same.first one in
+    (record { stands = stands_append v.sizes v.first (Enqueue i asked v.first flags ∷ []) (Put i v.first ∷ []) v.seen v.mine a.seen a.mine w.seen w.mine first.stands second.stands; ends = second.ends }, same_then v a w same push.1)
+
+pub enqueue_alone : (i : ℕ) (asked : Asked) (flags : Flags) (v a : Known) → Enqueues i asked flags v a → AtEnd v (Enqueue i asked v.first flags ∷ []) a × IsSame v a
+enqueue_alone i asked flags v a enqueues =
+    (makes_stand (Enqueue i asked v.first flags) v a enqueues.makes refl, changed v a _ _ _ _ enqueues.rest)
+
+to_stands : (entries : History) (v w : Known) → AtEnd v entries w × IsSame v w → Stands entries v w
+to_stands entries v w h = record { stands = h.0; rest = same_rest v w h.1 }
+
+-- by whether the index was pending
+by_pending : (b : Bool) (i : ℕ) (asked : Asked) (flags : Flags) (v a w : Known) (P : Type 0) → Enqueues i asked flags v a → MatchBool b (w ≡ a) P → (P → AtEnd a (Put i a.first ∷ []) w × IsSame a w) → Stands (cond b (Enqueue i asked v.first flags ∷ []) (Put i v.first ∷ Enqueue i asked v.first flags ∷ [])) v w
+by_pending true i asked flags v a w P enqueues h push =
+    subst (Stands (Enqueue i asked v.first flags ∷ []) v) (sym h) (to_stands (Enqueue i asked v.first flags ∷ []) v a (enqueue_alone i asked flags v a enqueues))
+by_pending false i asked flags v a w P enqueues h push =
+    to_stands (Put i v.first ∷ Enqueue i asked v.first flags ∷ []) v w (enqueue_then_push i asked flags v a w enqueues (push h))
+
+pub schedules_stands : (i : ℕ) (asked : Asked) (flags : Flags) (v w : Known) → Schedules i asked flags v w → Stands (enqueue_entries i asked v.first flags) v w
+schedules_stands i asked flags v w run =
+    by_pending flags.pending i asked flags v run.announced w (PushesAtLast i run.announced w) run.enqueues run.pushes (pushes_at_last_stands i run.announced w)
+
+pub schedules_at_once_stands : (i : ℕ) (asked : Asked) (flags : Flags) (v w : Known) → SchedulesAtOnce i asked flags v w → Stands (enqueue_entries i asked v.first flags) v w
+schedules_at_once_stands i asked flags v w run =
+    by_pending flags.pending i asked flags v run.announced w (PushesOnce i run.announced w) run.enqueues run.pushes (pushes_once_stands i run.announced w)
+
+pub schedules_later_stands : (i : ℕ) (asked : Asked) (flags : Flags) (v w : Known) → SchedulesLater i asked flags v w → Stands (Enqueue i asked v.first flags ∷ []) v w
+schedules_later_stands i asked flags v w run =
+    let first = enqueue_alone i asked flags v run.announced run.enqueues in
+    let quiet = missed_quiet i run.announced w run.missed in
+    let one = subst (λ s. StandsAtTheEnd v.sizes v.first (Enqueue i asked v.first flags ∷ []) v.seen v.mine s run.announced.mine) (sym quiet.seen) first.0 in
+    to_stands (Enqueue i asked v.first flags ∷ []) v w (subst (λ m. StandsAtTheEnd v.sizes v.first (Enqueue i asked v.first flags ∷ []) v.seen v.mine w.seen m) (sym quiet.mine) one, same_then v run.announced w first.1 quiet.same)

@@ -1,0 +1,64 @@
+-- An enqueue from any thread, as a run of the steps of the table.
+use Rattle.std.specs.Prelude.{◌≡◌, ℕ, zero, suc, false, if◌then◌else◌, [], ◌∷◌, MatchBool}
+use Rattle.aio_model.specs.declared.flags.Flags.{Flags}
+use Rattle.aio_model.specs.LoopHistory.{Asked, Enqueue, Put, History}
+use Rattle.aio_model.specs.LoopSeats.{StandsAtTheEnd}
+use Rattle.aio_core.specs.Known.{Known}
+use Rattle.aio_core.specs.Standing.{Enqueues, Aims, Pushes}
+use Rattle.aio_core.specs.Calls.{IsMissed}
+
+-- one try that found another head than the one that it had loaded
+pub record MissesOnce (i : ℕ) (before after : Known) : Type 0 where
+  pub head : ℕ
+  pub aimed : Known
+  pub aims : Aims i head before aimed
+  pub missed : IsMissed i head aimed after
+
+-- one try that pushed the index
+pub record PushesOnce (i : ℕ) (before after : Known) : Type 0 where
+  pub head : ℕ
+  pub aimed : Known
+  pub aims : Aims i head before aimed
+  pub pushes : Pushes i head aimed after
+
+-- so many tries in a row that missed
+abbrev pub Tries : ℕ → ℕ → Known → Known → Type 0
+Tries i zero before after = after ≡ before
+Tries i (suc misses) before after =
+    (mid : Known) × Tries i misses before mid × MissesOnce i mid after
+
+-- tries until one pushed the index
+pub record PushesAtLast (i : ℕ) (before after : Known) : Type 0 where
+  pub misses : ℕ
+  pub last : Known
+  pub tries : Tries i misses before last
+  pub pushes : PushesOnce i last after
+
+-- the enqueue, and the push of an index that wasn't pending
+pub record Schedules (i : ℕ) (asked : Asked) (flags : Flags) (before after : Known) : Type 0 where
+  pub announced : Known
+  pub enqueues : Enqueues i asked flags before announced
+  pub pushes : MatchBool flags.pending (after ≡ announced) (PushesAtLast i announced after)
+
+-- the enqueue, and one try to push: it pushed
+pub record SchedulesAtOnce (i : ℕ) (asked : Asked) (flags : Flags) (before after : Known) : Type 0 where
+  pub announced : Known
+  pub enqueues : Enqueues i asked flags before announced
+  pub pushes : MatchBool flags.pending (after ≡ announced) (PushesOnce i announced after)
+
+-- it missed, and the index is still to be pushed
+pub record SchedulesLater (i : ℕ) (asked : Asked) (flags : Flags) (before after : Known) : Type 0 where
+  pub announced : Known
+  pub enqueues : Enqueues i asked flags before announced
+  pub not_pending : flags.pending ≡ false
+  pub missed : MissesOnce i announced after
+
+-- the entries of an enqueue, newest first
+abbrev pub enqueue_entries : ℕ → Asked → ℕ → Flags → History
+enqueue_entries i asked seat flags =
+    if flags.pending then Enqueue i asked seat flags ∷ [] else Put i seat ∷ Enqueue i asked seat flags ∷ []
+
+-- just these entries of the seat stand in the history, and all else that it knows is as before
+pub record Stands (entries : History) (before after : Known) : Type 0 where
+  pub stands : StandsAtTheEnd before.sizes before.first entries before.seen before.mine after.seen after.mine
+  pub rest : after ≡ record before { seen = after.seen; mine = after.mine; did = after.did; phase = after.phase }

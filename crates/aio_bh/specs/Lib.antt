@@ -1,0 +1,5 @@
+pub mod Enqueuing
+pub mod Puts
+pub mod Running
+pub mod Polling
+pub mod SoFar

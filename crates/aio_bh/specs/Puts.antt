@@ -1,0 +1,15 @@
+-- What came of an enqueue that tried once to push.
+use Rattle.std.specs.Prelude.{◌≡◌, ℕ, ◌∷◌, []}
+use Rattle.aio_model.specs.LoopHistory.{Asked, Enqueue}
+use Rattle.aio_model.specs.InFlight.{AtRest, Announced}
+use Rattle.aio_core.specs.Known.{Known}
+use Rattle.aio_bh.specs.declared.put.Put.{Put}
+use Rattle.aio_bh.specs.declared.put.Put.TheVariants.{Done, Owed}
+use Rattle.aio_bh.specs.Enqueuing.{SchedulesAtOnce, SchedulesLater, enqueue_entries, Stands}
+
+-- done: what there was to push was pushed, and the seat is at rest; owed: the try found another head
+abbrev pub TriedToPut : ℕ → Asked → Put → Known → Known → Type 0
+TriedToPut i asked (Done flags) before after =
+    SchedulesAtOnce i asked flags before after × Stands (enqueue_entries i asked before.first flags) before after × (after.phase ≡ AtRest)
+TriedToPut i asked (Owed flags owed) before after =
+    SchedulesLater i asked flags before after × Stands (Enqueue i asked before.first flags ∷ []) before after × (owed ≡ i) × (after.phase ≡ Announced i)

@@ -1,0 +1,91 @@
+-- How far a poll has come, and what its parts add.
+use Rattle.std.specs.Prelude.{◌≡◌, ℕ, ◌<◌, min, ◌+◌, ◌^◌, ◌-◌, Bool, true, not, ◌&&◌, ◌||◌, if◌then◌else◌, MatchBool, None, List, [], ◌∷◌, ◌++◌}
+use Rattle.aio_model.specs.LoopHistory.{Sizes, Take, Dequeue, History}
+use Rattle.aio_model.specs.LoopFlags.{is_idle}
+use Rattle.aio_model.specs.LoopLists.{out_of}
+use Rattle.aio_model.specs.LoopSeats.{home, entries_of}
+use Rattle.aio_model.specs.LoopLegal.{IsLegal}
+use Rattle.aio_model.specs.InFlight.{AtRest}
+use Rattle.aio_model.specs.LoopFrame.{Answer, Entered, Place, Makes, Body, Turns, Runs, is_cut, ran_of, cut_nests_of}
+use Rattle.aio_core.specs.Known.{Known}
+use Rattle.aio_core.specs.Standing.{is_empty}
+use Rattle.aio_core.specs.Calls.{TableState, SeatState, IsSeatOf}
+use Rattle.aio_bh.specs.declared.polled.Polled.{Polled}
+use Rattle.aio_bh.specs.Polling.{counted, GoesOn}
+
+-- what a part of a poll changes: what the home knows, the runner, and the counts
+pub record Far (R : Type 0) : Type 0 where
+  pub known : Known
+  pub runner : R
+  pub polled : Polled
+
+abbrev pub far : {R : Type 0} → Known → R → Polled → Far R
+far known runner polled = record { known = known; runner = runner; polled = polled }
+
+abbrev pub place_of : {R : Type 0} → Far R → List Entered → Place
+place_of so_far log = record { seen = so_far.known.seen; log = log; progress = so_far.polled.progress }
+
+-- the counts are those of the entries into the runner so far
+pub record Counts (polled : Polled) (log : List Entered) : Type 0 where
+  pub ran : polled.ran ≡ counted (ran_of log)
+  pub cut_nests : polled.cut_nests ≡ counted (cut_nests_of log)
+
+-- the runner was entered some more
+pub record EntersSome {R : Type 0} (does : R → Entered → R → Type 0) (runner : R) (log : List Entered) (runner_after : R) (log_after : List Entered) : Type 0 where
+  pub more : List Entered
+  pub longer : log_after ≡ more ++ log
+  pub runs : Runs does runner more runner_after
+
+-- from these entries on some part of a poll was done, which leads from place to place by this relation
+pub record Went {R : Type 0} (relation : Place → Place → Type 0) (does : R → Entered → R → Type 0) (old new : Far R) (log : List Entered) : Type 0 where
+  pub log_after : List Entered
+  pub goes : relation (place_of old log) (place_of new log_after)
+  pub enters : EntersSome does old.runner log new.runner log_after
+  pub counts : Counts new.polled log_after
+
+-- whatever entries there were before
+pub record Goes {R : Type 0} (relation : Place → Place → Type 0) (does : R → Entered → R → Type 0) (old new : Far R) : Type 0 where
+  pub at : (log : List Entered) → Counts old.polled log → Went relation does old new log
+  pub goes_on : GoesOn old.known new.known
+
+-- Between two turns the home is at rest with nothing at hand, and what it has taken is left exactly where something is out.
+pub record IsBetween (table : TableState) (seat : SeatState) : Type 0 where
+  pub of_table : IsSeatOf table seat
+  pub rest : seat.known.phase ≡ AtRest
+  pub legal : IsLegal seat.known.sizes seat.known.seen
+  pub hand : seat.known.stage.hand ≡ None
+  pub left : is_empty seat.known.stage.slices ≡ is_empty (out_of seat.known.seen)
+
+-- nothing was out
+pub record FindsNone (before after : Known) (polled polled_after : Polled) : Type 0 where
+  pub none : out_of after.seen ≡ []
+  pub slices : after.stage.slices ≡ []
+  pub same : after ≡ before
+  pub same_polled : polled_after ≡ polled
+
+-- the first that was out was dequeued
+pub record TakesNext (i : ℕ) (ran : Bool) (before after : Known) (polled polled_after : Polled) : Type 0 where
+  pub others : History
+  pub not_home : entries_of home others ≡ []
+  pub seen : after.seen ≡ Dequeue i ran ∷ (others ++ before.seen)
+  pub mine : after.mine ≡ Dequeue i ran ∷ before.mine
+  pub legal : IsLegal before.sizes after.seen
+  pub handle : i < before.sizes.handles
+  pub was_out : out_of before.seen ≡ i ∷ out_of after.seen
+  pub rest : after ≡ record before { seen = after.seen; mine = after.mine; did = after.did; stage = after.stage; told = after.told }
+  pub progress : polled_after ≡ record polled { progress = polled.progress || (ran && not (is_idle i (others ++ before.seen))) }
+
+-- what follows a dequeue of a handle in its turn
+abbrev pub Calls : (Place → Place → Type 0) → ℕ → ℕ → Bool → Place → Place → Type 0
+Calls frame nests index ran before after =
+    MatchBool ran (Body frame index None true nests before after) (after ≡ before)
+
+-- one take, and then some turns
+abbrev pub TakesAndSome : Sizes → (Place → Place → Type 0) → ℕ → Place → Place → Type 0
+TakesAndSome sizes frame nests before after =
+    (taken : Place) × (count : ℕ) × Makes Take before taken × Turns sizes frame nests count taken after
+
+-- the counts after one more entry
+abbrev pub noted : Bool → Answer → ℕ → Polled → Polled
+noted first answer nests polled =
+    record polled { ran = (if first then min (polled.ran + 1) (2 ^ 64 - 1) else polled.ran); cut_nests = (if is_cut answer nests then min (polled.cut_nests + 1) (2 ^ 64 - 1) else polled.cut_nests) }

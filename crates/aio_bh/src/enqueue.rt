@@ -1,0 +1,89 @@
+//! Enqueues from any thread, after qemu_bh_schedule, qemu_bh_schedule_idle and qemu_bh_delete of QEMU's util/async.c; nobody
+//! is notified yet.
+ghost use Rattle.std.specs.Prelude.{◌≡◌, ◌<◌, ◌∷◌, [], MatchResult, false};
+ghost use Rattle.aio_model.specs.LoopHistory.{Put as pushed, Enqueue as enqueued};
+ghost use Rattle.aio_model.specs.InFlight.{AtRest, Announced as announced};
+ghost use Rattle.aio_core.specs.Standing.{asked_by};
+ghost use Rattle.aio_core.specs.Calls.{IsSeatOf};
+ghost use Rattle.aio_bh.specs.Enqueuing.{MissesOnce, PushesOnce, Schedules, SchedulesAtOnce, SchedulesLater, PushesAtLast, enqueue_entries, Stands};
+ghost use Rattle.aio_bh.specs.Puts.{TriedToPut};
+
+use crate::put::Put;
+use aio_core::{Announced, Job, LoopTable, Seat};
+use aio_model::{Flags, Kind};
+use std::sync::Wait;
+
+/// One more try to push an index that the seat has announced. Err gives the debt back, where another head was found.
+pub fn try_to_push<J: Job>(
+    table: &LoopTable<J>,
+    seat: &mut Seat<J>,
+    owed: Announced,
+) -> Result<(), Announced>
+    requires seat { IsSeatOf table.now seat.old }
+    requires phase { seat.old.known.phase ≡ announced owed }
+    ensures seat { IsSeatOf table.now seat.new }
+    ensures step { MatchResult result (λ _. PushesOnce owed seat.old.known seat.new.known) (λ again. (again ≡ owed) × MissesOnce owed seat.old.known seat.new.known) }
+    ensures phase { MatchResult result (λ _. seat.new.known.phase ≡ AtRest) (λ again. seat.new.known.phase ≡ announced again) }
+{
+    let aimed = table.aim(seat, owed);
+    table.link(seat, aimed)
+}
+
+/// Pushes an index that the seat has announced, trying until it succeeds.
+fn push<J: Job, R: Wait>(rt: &R, table: &LoopTable<J>, seat: &mut Seat<J>, owed: Announced)
+    requires seat { IsSeatOf table.now seat.old }
+    requires phase { seat.old.known.phase ≡ announced owed }
+    ensures seat { IsSeatOf table.now seat.new }
+    ensures steps { PushesAtLast owed seat.old.known seat.new.known }
+    ensures phase { seat.new.known.phase ≡ AtRest }
+{
+    let mut owed = owed;
+    for _ in rt.forever() {
+        match try_to_push(table, seat, owed) {
+            Ok(()) => return,
+            Err(again) => owed = again,
+        }
+    }
+    unreachable!()
+}
+
+/// An enqueue of this kind. One atomic step where the index is pending; else three more for each try to push it.
+pub fn schedule_as<J: Job, R: Wait>(
+    rt: &R,
+    table: &LoopTable<J>,
+    seat: &mut Seat<J>,
+    bh: u32,
+    kind: Kind,
+) -> Flags
+    requires seat { IsSeatOf table.now seat.old }
+    requires rest { seat.old.known.phase ≡ AtRest }
+    requires handle { bh < table.now.sizes.handles }
+    ensures seat { IsSeatOf table.now seat.new }
+    ensures steps { Schedules bh (asked_by kind) result seat.old.known seat.new.known }
+    ensures stands { Stands (enqueue_entries bh (asked_by kind) seat.old.known.first result) seat.old.known seat.new.known }
+    ensures rest { seat.new.known.phase ≡ AtRest }
+{
+    let (flags, owed) = table.announce(seat, bh, kind);
+    if let Some(owed) = owed {
+        push(rt, table, seat, owed);
+    }
+    flags
+}
+
+/// An enqueue of this kind that tries once to push.
+pub fn try_schedule_as<J: Job>(table: &LoopTable<J>, seat: &mut Seat<J>, bh: u32, kind: Kind) -> Put
+    requires seat { IsSeatOf table.now seat.old }
+    requires rest { seat.old.known.phase ≡ AtRest }
+    requires handle { bh < table.now.sizes.handles }
+    ensures seat { IsSeatOf table.now seat.new }
+    ensures put { TriedToPut bh (asked_by kind) result seat.old.known seat.new.known }
+{
+    let (flags, owed) = table.announce(seat, bh, kind);
+    let Some(owed) = owed else {
+        return Put::Done(flags);
+    };
+    match try_to_push(table, seat, owed) {
+        Ok(()) => Put::Done(flags),
+        Err(owed) => Put::Owed(flags, owed),
+    }
+}

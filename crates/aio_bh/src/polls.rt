@@ -1,0 +1,262 @@
+//! A poll, after aio_bh_poll of QEMU's util/async.c: the home thread takes the list whole, and dequeues until nothing that it took
+//! is left. What a callback schedules goes into the list behind its back, for the next poll.
+ghost use Rattle.std.specs.Prelude.{◌≡◌, ◌+◌, ◌-◌, ◌^◌, ◌<◌, min, not, ◌&&◌, ◌||◌, true, false, None, Some, length, MatchOption, MatchResult, if◌then◌else◌};
+ghost use Rattle.aio_model.specs.LoopHistory.{ToCall, ToCallIdle, ToDelete};
+ghost use Rattle.aio_model.specs.InFlight.{AtRest, Announced as announced};
+ghost use Rattle.aio_model.specs.LoopFlags.{are_due};
+ghost use Rattle.aio_model.specs.LoopLists.{out_of};
+ghost use Rattle.aio_model.specs.LoopFrame.{Frame, Body, lent_of};
+ghost use Rattle.aio_model.specs.LoopFrame.{Turn as OneTurn};
+ghost use Rattle.aio_core.specs.Known.{empty_stage};
+ghost use Rattle.aio_core.specs.Calls.{IsSeatOf};
+ghost use Rattle.aio_bh.specs.Enqueuing.{PushesOnce, MissesOnce, Schedules, enqueue_entries, Stands};
+ghost use Rattle.aio_bh.specs.Puts.{TriedToPut};
+ghost use Rattle.aio_bh.specs.Running.{answer_by, RunsOnce};
+ghost use Rattle.aio_bh.specs.Polling.{Polls};
+ghost use Rattle.aio_bh.specs.SoFar.{far, Goes, Calls, IsBetween, FindsNone, TakesNext, noted};
+
+use crate::call::Call;
+use crate::enqueue::{schedule_as, try_schedule_as, try_to_push};
+use crate::polled::Polled;
+use crate::put::Put;
+use crate::runner::Runner;
+use crate::turn::Turn;
+use aio_core::{Announced, Home, Job, LoopTable, Seat};
+use aio_model::{Flags, Kind};
+use std::sync::Wait;
+
+/// How many nested polls a callback may ask for: none, as polls don't nest yet.
+const NESTS: u32 = 0;
+
+/// What was dequeued, and whether it is to be called.
+#[derive(Clone, Copy)]
+struct Dequeued {
+    bh: u32,
+    ran: bool,
+}
+
+/// Enters the callback of a handle, which is called.
+fn enter<J: Job + Drop, R: Runner<J>>(
+    table: &LoopTable<J>,
+    seat: &mut Seat<J>,
+    runner: &mut R,
+    bh: u32,
+) -> Turn
+    requires can_run { R.can_run runner.old table.now.sizes.handles }
+    requires seat { IsSeatOf table.now seat.old }
+    requires rest { seat.old.known.phase ≡ AtRest }
+    requires handle { bh < table.now.sizes.handles }
+    ensures can_run { R.can_run runner.new table.now.sizes.handles }
+    ensures seat { IsSeatOf table.now seat.new }
+    ensures runs { RunsOnce R.does (lent_of bh None true 0) (answer_by result) runner.old seat.old.known runner.new seat.new.known }
+{
+    let mut call = Call::of_handle(bh, NESTS);
+    runner.run(table, seat, &mut call)
+}
+
+impl Polled {
+    fn nothing() -> Polled
+        ensures { result ≡ record { progress = false; ran = 0; cut_nests = 0 } }
+    {
+        Polled {
+            progress: false,
+            ran: 0,
+            cut_nests: 0,
+        }
+    }
+
+    /// Whether what had these flags is called. That is progress, unless it was idle.
+    fn note_dequeue(&mut self, was: Flags) -> bool
+        ensures ran { result ≡ are_due was }
+        ensures progress { self.new ≡ record self.old { progress = self.old.progress || (are_due was && not was.idle) } }
+    {
+        let ran = was.scheduled && !was.deleted;
+        self.progress = self.progress || (ran && !was.idle);
+        ran
+    }
+
+    /// A first entry into a callback that could nest no more.
+    fn note(&mut self, turn: Turn)
+        ensures { self.new ≡ noted true (answer_by turn) 0 self.old }
+    {
+        self.ran = self.ran.saturating_add(1);
+        if turn == Turn::Nest {
+            self.cut_nests = self.cut_nests.saturating_add(1);
+        }
+    }
+}
+
+/// Dequeues the first that is out. None where nothing is.
+fn next<J: Job + Drop>(
+    table: &LoopTable<J>,
+    home: &mut Home<J>,
+    polled: &mut Polled,
+) -> Option<Dequeued>
+    requires between { IsBetween table.now home.old.seat }
+    ensures between { IsBetween table.now home.new.seat }
+    ensures next { MatchOption result (FindsNone home.old.seat.known home.new.seat.known polled.old polled.new) (λ next. TakesNext next.bh next.ran home.old.seat.known home.new.seat.known polled.old polled.new) }
+{
+    let hand = table.lift(home)?;
+    let bh = hand.bh();
+    let was = table.dequeue(home, hand);
+    let ran = polled.note_dequeue(was);
+    Some(Dequeued { bh, ran })
+}
+
+/// Calls a callback.
+fn body<J: Job + Drop, R: Runner<J>>(
+    table: &LoopTable<J>,
+    home: &mut Home<J>,
+    runner: &mut R,
+    bh: u32,
+    polled: &mut Polled,
+)
+    requires can_run { R.can_run runner.old table.now.sizes.handles }
+    requires between { IsBetween table.now home.old.seat }
+    requires handle { bh < table.now.sizes.handles }
+    ensures can_run { R.can_run runner.new table.now.sizes.handles }
+    ensures between { IsBetween table.now home.new.seat }
+    ensures same_out { out_of home.new.seat.known.seen ≡ out_of home.old.seat.known.seen }
+    ensures goes { Goes (Body (Frame table.now.sizes 0) bh None true 0) R.does (far home.old.seat.known runner.old polled.old) (far home.new.seat.known runner.new polled.new) }
+{
+    let turn = enter(table, &mut home.seat, runner, bh);
+    polled.note(turn);
+}
+
+/// What follows a dequeue in its turn.
+fn follow<J: Job + Drop, R: Runner<J>>(
+    table: &LoopTable<J>,
+    home: &mut Home<J>,
+    runner: &mut R,
+    next: Dequeued,
+    polled: &mut Polled,
+)
+    requires can_run { R.can_run runner.old table.now.sizes.handles }
+    requires between { IsBetween table.now home.old.seat }
+    requires handle { next.bh < table.now.sizes.handles }
+    ensures can_run { R.can_run runner.new table.now.sizes.handles }
+    ensures between { IsBetween table.now home.new.seat }
+    ensures same_out { out_of home.new.seat.known.seen ≡ out_of home.old.seat.known.seen }
+    ensures goes { Goes (Calls (Frame table.now.sizes 0) 0 next.bh next.ran) R.does (far home.old.seat.known runner.old polled.old) (far home.new.seat.known runner.new polled.new) }
+{
+    if next.ran {
+        body(table, home, runner, next.bh, polled);
+    }
+}
+
+/// One turn. False where nothing was out.
+fn turn<J: Job + Drop, R: Runner<J>>(
+    table: &LoopTable<J>,
+    home: &mut Home<J>,
+    runner: &mut R,
+    polled: &mut Polled,
+) -> bool
+    requires can_run { R.can_run runner.old table.now.sizes.handles }
+    requires between { IsBetween table.now home.old.seat }
+    ensures can_run { R.can_run runner.new table.now.sizes.handles }
+    ensures between { IsBetween table.now home.new.seat }
+    ensures goes { result ≡ true → Goes (OneTurn table.now.sizes (Frame table.now.sizes 0) 0) R.does (far home.old.seat.known runner.old polled.old) (far home.new.seat.known runner.new polled.new) }
+    ensures shorter { result ≡ true → length (out_of home.new.seat.known.seen) < length (out_of home.old.seat.known.seen) }
+    ensures none { result ≡ false → FindsNone home.old.seat.known home.new.seat.known polled.old polled.new × (runner.new ≡ runner.old) }
+{
+    let Some(next) = next(table, home, polled) else {
+        return false;
+    };
+    follow(table, home, runner, next, polled);
+    true
+}
+
+/// What the home thread does with bottom halves.
+pub trait BottomHalves<J: Job + Drop> {
+    ghost use Rattle.aio_core.specs.Calls.{TableState};
+
+    ghost table: { Self → TableState };
+
+    /// Schedules a handle: its callback is called at the next poll. Answers the flags that it found. Any thread, with a seat
+    /// of its own; it may try again as long as other threads push.
+    fn schedule<R: Wait>(&self, rt: &R, seat: &mut Seat<J>, bh: u32) -> Flags
+        requires seat { IsSeatOf (table self.now) seat.old }
+        requires rest { seat.old.known.phase ≡ AtRest }
+        requires handle { bh < (table self.now).sizes.handles }
+        ensures seat { IsSeatOf (table self.now) seat.new }
+        ensures steps { Schedules bh ToCall result seat.old.known seat.new.known }
+        ensures stands { Stands (enqueue_entries bh ToCall seat.old.known.first result) seat.old.known seat.new.known }
+        ensures rest { seat.new.known.phase ≡ AtRest };
+
+    /// The same, for a call that is no progress. Scheduling it again in the same round doesn't take that back.
+    fn schedule_idle<R: Wait>(&self, rt: &R, seat: &mut Seat<J>, bh: u32) -> Flags
+        requires seat { IsSeatOf (table self.now) seat.old }
+        requires rest { seat.old.known.phase ≡ AtRest }
+        requires handle { bh < (table self.now).sizes.handles }
+        ensures seat { IsSeatOf (table self.now) seat.new }
+        ensures steps { Schedules bh ToCallIdle result seat.old.known seat.new.known }
+        ensures stands { Stands (enqueue_entries bh ToCallIdle seat.old.known.first result) seat.old.known seat.new.known }
+        ensures rest { seat.new.known.phase ≡ AtRest };
+
+    /// Deletes a handle: its callback is never called again.
+    fn delete<R: Wait>(&self, rt: &R, seat: &mut Seat<J>, bh: u32) -> Flags
+        requires seat { IsSeatOf (table self.now) seat.old }
+        requires rest { seat.old.known.phase ≡ AtRest }
+        requires handle { bh < (table self.now).sizes.handles }
+        ensures seat { IsSeatOf (table self.now) seat.new }
+        ensures steps { Schedules bh ToDelete result seat.old.known seat.new.known }
+        ensures stands { Stands (enqueue_entries bh ToDelete seat.old.known.first result) seat.old.known seat.new.known }
+        ensures rest { seat.new.known.phase ≡ AtRest };
+
+    /// Schedules a handle, and tries once to push it. It doesn't wait.
+    fn try_schedule(&self, seat: &mut Seat<J>, bh: u32) -> Put
+        requires seat { IsSeatOf (table self.now) seat.old }
+        requires rest { seat.old.known.phase ≡ AtRest }
+        requires handle { bh < (table self.now).sizes.handles }
+        ensures seat { IsSeatOf (table self.now) seat.new }
+        ensures put { TriedToPut bh ToCall result seat.old.known seat.new.known };
+
+    /// One more try to push what this seat owes; Err gives the debt back. It doesn't wait.
+    fn push_owed(&self, seat: &mut Seat<J>, owed: Announced) -> Result<(), Announced>
+        requires seat { IsSeatOf (table self.now) seat.old }
+        requires phase { seat.old.known.phase ≡ announced owed }
+        ensures seat { IsSeatOf (table self.now) seat.new }
+        ensures step { MatchResult result (λ _. PushesOnce owed seat.old.known seat.new.known × (seat.new.known.phase ≡ AtRest)) (λ again. (again ≡ owed) × MissesOnce owed seat.old.known seat.new.known × (seat.new.known.phase ≡ announced again)) };
+
+    /// Calls back all that is due of what was scheduled before, one after another, the last one first, and dequeues the
+    /// rest. What a callback schedules is for the next poll. The home thread, outside any poll.
+    fn poll<R: Runner<J>>(&self, home: &mut Home<J>, runner: &mut R) -> Polled
+        requires can_run { R.can_run runner.old (table self.now).sizes.handles }
+        requires seat { IsSeatOf (table self.now) home.old.seat }
+        requires rest { home.old.seat.known.phase ≡ AtRest }
+        requires empty { home.old.seat.known.stage ≡ empty_stage }
+        ensures can_run { R.can_run runner.new (table self.now).sizes.handles }
+        ensures seat { IsSeatOf (table self.now) home.new.seat }
+        ensures polls { Polls R.does result runner.old home.old.seat.known runner.new home.new.seat.known };
+}
+
+impl<J: Job + Drop> BottomHalves<J> for LoopTable<J> {
+    ghost table = { λ t. t };
+
+    fn schedule<R: Wait>(&self, rt: &R, seat: &mut Seat<J>, bh: u32) -> Flags {
+        schedule_as(rt, self, seat, bh, Kind::Sched)
+    }
+
+    fn schedule_idle<R: Wait>(&self, rt: &R, seat: &mut Seat<J>, bh: u32) -> Flags {
+        schedule_as(rt, self, seat, bh, Kind::Idle)
+    }
+
+    fn delete<R: Wait>(&self, rt: &R, seat: &mut Seat<J>, bh: u32) -> Flags {
+        schedule_as(rt, self, seat, bh, Kind::Del)
+    }
+
+    fn try_schedule(&self, seat: &mut Seat<J>, bh: u32) -> Put {
+        try_schedule_as(self, seat, bh, Kind::Sched)
+    }
+
+    fn push_owed(&self, seat: &mut Seat<J>, owed: Announced) -> Result<(), Announced> {
+        try_to_push(self, seat, owed)
+    }
+
+    fn poll<R: Runner<J>>(&self, home: &mut Home<J>, runner: &mut R) -> Polled {
+        let mut polled = Polled::nothing();
+        self.take(home);
+        while turn(self, home, runner, &mut polled) {}
+        polled
+    }
+}

@@ -1,0 +1,33 @@
+ghost use Rattle.std.specs.Prelude.{◌≡◌, ◌<◌, option_map};
+ghost use Rattle.aio_model.specs.InFlight.{AtRest};
+ghost use Rattle.aio_model.specs.LoopFrame.{lent_of};
+ghost use Rattle.aio_core.specs.Words.{index_count};
+ghost use Rattle.aio_core.specs.Calls.{IsSeatOf};
+ghost use Rattle.aio_bh.specs.Running.{answer_by, RunsOnce};
+
+use crate::call::Call;
+use crate::turn::Turn;
+use aio_core::{Job, LoopTable, Seat};
+
+/// The callbacks of a loop. A poll enters it once for each bottom half that is due.
+pub trait Runner<J: Job> {
+    ghost use Rattle.std.specs.Prelude.{ℕ};
+    ghost use Rattle.aio_model.specs.LoopFrame.{Entered};
+
+    /// What it needs of the number of handles.
+    ghost can_run: { Self → ℕ → Type 0 };
+
+    /// What one entry does to it: what it was lent, what it answered, and what was made through the seat.
+    ghost does: { Self → Entered → Self → Type 0 };
+
+    /// One entry. The seat is the home's, to be given back at rest. A callback schedules and cancels through it; what it
+    /// schedules is for a later poll.
+    fn run(&mut self, table: &LoopTable<J>, seat: &mut Seat<J>, call: &mut Call<J>) -> Turn
+        requires can_run { can_run self.old table.now.sizes.handles }
+        requires seat { IsSeatOf table.now seat.old }
+        requires rest { seat.old.known.phase ≡ AtRest }
+        requires index { call.old.bh < index_count table.now.sizes }
+        ensures can_run { can_run self.new table.now.sizes.handles }
+        ensures seat { IsSeatOf table.now seat.new }
+        ensures runs { RunsOnce does (lent_of call.old.bh (option_map J.number_of call.old.job) call.old.first call.old.nests_left) (answer_by result) self.old seat.old.known self.new seat.new.known };
+}

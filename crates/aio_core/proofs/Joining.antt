@@ -1,0 +1,222 @@
+-- Two seats that are joined keep the rule, and a load after it tells that what each had seen is a part of the one history.
+use Rattle.std.proofs.Common.{◌≡◌, ◌≢◌, ℕ, ◌+◌, ◌<◌, ◌≤◌, Bool, true, false, cond, ltb, Some, List, [], ◌∷◌, ◌++◌, length, set, inl, inr, refl, sym, ap, ◌∙◌, subst, ⊎_elim, ◌⊎◌, arith, append-nil, length-append}
+use Rattle.std.proofs.lemmas.Bool.{and_parts, and_from, not_from_false, not-true, lt-ltb, le-ltb, ltb-true, ltb-false, false_from_ne_true, cases_lt, cond-false}
+use mathlib.Core.Option.{some, none}
+use lib.ListN.{get_elem?}
+use Rattle.atomic_table.specs.Table.{Me, keeps, step, Joins, Allows}
+use Rattle.atomic_table.proofs.Lists.{at_set, set_else}
+use Rattle.aio_model.specs.LoopHistory.{Sizes, Entry, History}
+use Rattle.aio_model.specs.LoopLists.{seat_of}
+use Rattle.aio_model.specs.LoopLegal.{IsLegal}
+use Rattle.aio_model.specs.LoopSeats.{Numbers, owns, own_entries, home}
+use Rattle.aio_model.proofs.Rounds.{legal_cut}
+use Rattle.aio_model.specs.LoopLists.{out_of}
+use Rattle.aio_core.specs.Words.{head_at, next_in}
+use Rattle.aio_core.specs.Known.{Told, Known, numbers_of}
+use Rattle.aio_core.specs.Rule.{EachView, AreApart, IsPart, AreParts, IsSeat, Owes, IsOut, NoneEmpty, HasOut, Stands, Kept}
+use Rattle.aio_core.specs.Joining.{longer_of, both_numbers, joined_known, spent_known, IsJoined}
+use Rattle.aio_core.specs.Plays.{learned}
+use Rattle.aio_core.proofs.Entries.{own-append}
+use Rattle.aio_core.proofs.Seats.{each_set}
+use Rattle.aio_core.proofs.Keeping.{load_stands}
+
+-- Two ends of one list.
+
+tail_same : (x y : Entry) (xs ys : History) → x ∷ xs ≡ y ∷ ys → xs ≡ ys
+tail_same x y xs ys e = cc
+
+head_same : (x y : Entry) (xs ys : History) → x ∷ xs ≡ y ∷ ys → x ≡ y
+head_same x y xs ys e = cc
+
+-- the shorter of two ends of a list is an end of the longer
+pub shorter_end : (a x b y : History) → a ++ x ≡ b ++ y → length x ≤ length y → (mid : History) × (a ≡ b ++ mid) × (y ≡ mid ++ x)
+shorter_end a x [] y e le = (a, refl, sym e)
+shorter_end [] x (k ∷ b) y e le =
+    absurd (let long : length x ≡ length ((k ∷ b) ++ y) = ap length e in let count = length-append (k ∷ b) y in omega arith)
+shorter_end (j ∷ a) x (k ∷ b) y e le =
+    let rest = shorter_end a x b y (tail_same j k (a ++ x) (b ++ y) e) le in
+    let same = head_same j k (a ++ x) (b ++ y) e in
+    (rest.0, (λ i. same i ∷ rest.1 i), rest.2)
+
+-- of two parts of one history each is a part of the longer
+pub parts_of_longer : (h x y : History) → IsPart x h → IsPart y h → IsPart x (longer_of x y) × IsPart y (longer_of x y) × IsPart (longer_of x y) h
+parts_of_longer h x y px py = by (ltb (length x) (length y)) refl
+  where
+    by : (b : Bool) → ltb (length x) (length y) ≡ b → IsPart x (longer_of x y) × IsPart y (longer_of x y) × IsPart (longer_of x y) h
+    by true is =
+        let less = ltb-true (length x) (length y) is in
+        let mid = shorter_end px.0 x py.0 y (sym px.1 ∙ py.1) (omega arith) in
+        rw is ((mid.0, mid.2), ([], refl), py)
+    by false is =
+        let less = ltb-false (length x) (length y) is in
+        let mid = shorter_end py.0 y px.0 x (sym py.1 ∙ px.1) less in
+        rw is (([], refl), (mid.0, mid.2), px)
+
+-- Numbers.
+
+both_owned : (v w : Known) (n : ℕ) → w.first ≡ v.first + v.count → owns (both_numbers v w) n ≡ true → (owns (numbers_of v) n ≡ true) ⊎ (owns (numbers_of w) n ≡ true)
+both_owned v w n next is =
+    let parts = and_parts _ _ is in
+    let low = ltb-false n v.first (not-true _ parts.0) in
+    let high = ltb-true n (v.first + (v.count + w.count)) parts.1 in
+    ⊎_elim (λ lt. inl (and_from _ _ parts.0 (lt-ltb n (v.first + v.count) lt))) (λ ge. inr (and_from _ _ (not_from_false _ (le-ltb n w.first (omega arith))) (lt-ltb n (w.first + w.count) (omega arith)))) (cases_lt n (v.first + v.count))
+
+none_owned : (n : ℕ) → owns (numbers_of spent_known) n ≡ false
+none_owned n = false_from_ne_true _ (λ is. let high = ltb-true n (0 + 0) (and_parts _ _ is).1 in omega arith)
+
+gone : (b c d : Bool) (e : Entry) (ns ms ls : History) → (b ≡ true → (c ≡ true) ⊎ (d ≡ true)) → (ms ≡ [] → ls ≡ [] → ns ≡ []) → cond c (e ∷ ms) ms ≡ [] → cond d (e ∷ ls) ls ≡ [] → cond b (e ∷ ns) ns ≡ []
+gone b true d e ns ms ls k l p q = absurd cc
+gone b false true e ns ms ls k l p q = absurd cc
+gone true false false e ns ms ls k l p q = absurd (⊎_elim (λ t. cc) (λ t. cc) (k refl))
+gone false false false e ns ms ls k l p q = l p q
+
+-- what neither made neither makes together
+own_both : (v w : Known) (xs : History) → w.first ≡ v.first + v.count → own_entries (numbers_of v) xs ≡ [] → own_entries (numbers_of w) xs ≡ [] → own_entries (both_numbers v w) xs ≡ []
+own_both v w [] next p q = refl
+own_both v w (e ∷ xs) next p q =
+    gone (owns (both_numbers v w) (seat_of e)) (owns (numbers_of v) (seat_of e)) (owns (numbers_of w) (seat_of e)) e (own_entries (both_numbers v w) xs) (own_entries (numbers_of v) xs) (own_entries (numbers_of w) xs) (both_owned v w (seat_of e) next) (own_both v w xs next) p q
+
+none_own : (xs : History) → own_entries (numbers_of spent_known) xs ≡ []
+none_own [] = refl
+none_own (e ∷ xs) =
+    cond-false (owns (numbers_of spent_known) (seat_of e)) (e ∷ own_entries (numbers_of spent_known) xs) (own_entries (numbers_of spent_known) xs) (none_owned (seat_of e)) ∙ none_own xs
+
+front_none : (n : Numbers) (xs ys : History) → own_entries n (xs ++ ys) ≡ [] → own_entries n xs ≡ []
+front_none n xs ys h = front (own_entries n xs) (own_entries n ys) (sym (own-append n xs ys) ∙ h)
+  where
+    front : (a b : History) → a ++ b ≡ [] → a ≡ []
+    front [] b e = refl
+    front (k ∷ a) b e = absurd cc
+
+-- Views.
+
+module _ (views : List Known) (id other : ℕ) (v w : Known) (next : w.first ≡ v.first + v.count) (h : AreApart views) (at : get_elem? views id ≡ some v) (atw : get_elem? views other ≡ some w) (away : other ≢ id) where
+  abbrev after_join : List Known
+  after_join = set (set views id (joined_known v w)) other spent_known
+
+  -- which view a place has: the spent one, the joined one, or another
+  abbrev Place : ℕ → Known → Type 0
+  Place i u =
+      ((i ≡ other) × (spent_known ≡ u)) ⊎ (((i ≡ id) × (joined_known v w ≡ u)) ⊎ ((i ≢ other) × (i ≢ id) × (get_elem? views i ≡ some u)))
+
+  place_of : (i : ℕ) (u : Known) → get_elem? after_join i ≡ some u → Place i u
+  place_of i u e =
+      ⊎_elim (λ t. inl t) (λ t. ⊎_elim (λ q. inr (inl q)) (λ q. inr (inr (t.0, q.0, q.1))) (at_set views id i (joined_known v w) u t.1)) (at_set (set views id (joined_known v w)) other i spent_known u e)
+
+  none_of_spent : (u : Known) (n : ℕ) → spent_known ≡ u → owns (numbers_of u) n ≡ false
+  none_of_spent u n is = subst (λ k. owns (numbers_of k) n ≡ false) is (none_owned n)
+
+  -- another view owns nothing of what the two own
+  beside_both : (i : ℕ) (u : Known) (n : ℕ) → i ≢ other → i ≢ id → get_elem? views i ≡ some u → owns (both_numbers v w) n ≡ true → owns (numbers_of u) n ≡ false
+  beside_both i u n no_w no_v ati own =
+      ⊎_elim (λ q. h id i v u at ati (λ k. no_v (sym k)) n q) (λ q. h other i w u atw ati (λ k. no_w (sym k)) n q) (both_owned v w n next own)
+
+  apart_joined : AreApart after_join
+  apart_joined i j u x ati atj ne n own =
+      ⊎_elim
+      (λ t. absurd (let none = none_of_spent u n t.1 in cc))
+      (λ t. ⊎_elim
+      (λ q. joined_first i j u x q.0 q.1 (place_of j x atj) ne n own)
+      (λ q. other_first i j u x q (place_of j x atj) ne n own)
+      t)
+      (place_of i u ati)
+    where
+      joined_first : (i j : ℕ) (u x : Known) → i ≡ id → joined_known v w ≡ u → Place j x → i ≢ j → (n : ℕ) → owns (numbers_of u) n ≡ true → owns (numbers_of x) n ≡ false
+      joined_first i j u x is same place ne n own =
+          let own' : owns (both_numbers v w) n ≡ true = subst (λ k. owns (numbers_of k) n ≡ true) (sym same) own in
+          ⊎_elim (λ t. none_of_spent x n t.1) (λ t. ⊎_elim (λ q. absurd (ne (is ∙ sym q.0))) (λ q. beside_both j x n q.0 q.1 q.2 own') t) place
+
+      other_first : (i j : ℕ) (u x : Known) → (i ≢ other) × (i ≢ id) × (get_elem? views i ≡ some u) → Place j x → i ≢ j → (n : ℕ) → owns (numbers_of u) n ≡ true → owns (numbers_of x) n ≡ false
+      other_first i j u x a place ne n own =
+          ⊎_elim (λ t. none_of_spent x n t.1) (λ t. ⊎_elim (λ q. subst (λ k. owns (numbers_of k) n ≡ false) q.1 (false_from_ne_true (owns (both_numbers v w) n) (λ both. let none = beside_both i u n a.0 a.1 a.2 both in cc))) (λ q. h i j u x a.2 q.2 ne n own) t) place
+
+-- The rule.
+
+module _ (sizes : Sizes) (h : History) (words : List ℕ) (views : List Known) (id other : ℕ) (v w : Known) (next : w.first ≡ v.first + v.count) where
+  -- the longer one's rest has no entry of the two
+  joined_seen : IsSeat sizes h v → IsSeat sizes h w → (rest : History) × (h ≡ rest ++ longer_of v.seen w.seen) × (own_entries (both_numbers v w) rest ≡ [])
+  joined_seen is theirs = by (ltb (length v.seen) (length w.seen)) refl
+    where
+      by : (b : Bool) → ltb (length v.seen) (length w.seen) ≡ b → (rest : History) × (h ≡ rest ++ longer_of v.seen w.seen) × (own_entries (both_numbers v w) rest ≡ [])
+      by true less =
+          let a = is.seen_of in
+          let b = theirs.seen_of in
+          let low = ltb-true (length v.seen) (length w.seen) less in
+          let mid = shorter_end a.rest v.seen b.rest w.seen (sym a.longer ∙ b.longer) (omega arith) in
+          let mine : own_entries (numbers_of v) b.rest ≡ [] = front_none (numbers_of v) b.rest mid.0 (subst (λ l. own_entries (numbers_of v) l ≡ []) mid.1 a.none_missed) in
+          rw less (b.rest, b.longer, own_both v w b.rest next mine b.none_missed)
+      by false less =
+          let a = is.seen_of in
+          let b = theirs.seen_of in
+          let mid = shorter_end b.rest w.seen a.rest v.seen (sym b.longer ∙ a.longer) (ltb-false (length v.seen) (length w.seen) less) in
+          let their : own_entries (numbers_of w) a.rest ≡ [] = front_none (numbers_of w) a.rest mid.0 (subst (λ l. own_entries (numbers_of w) l ≡ []) mid.1 b.none_missed) in
+          rw less (a.rest, a.longer, own_both v w a.rest next a.none_missed their)
+
+  joined_is_seat : IsSeat sizes h v → IsSeat sizes h w → 0 < v.count → IsSeat sizes h (joined_known v w)
+  joined_is_seat is theirs numbered =
+      let below = theirs.below in
+      let all = joined_seen is theirs in
+      record {
+        sizes_are = λ _. is.sizes_are numbered;
+        seen_of = record { rest = all.0; longer = all.1; none_missed = all.2; mine_is = refl };
+        below = omega arith;
+        active = λ _. omega arith;
+        told_of = ((is.seen_of.rest, is.seen_of.longer), (theirs.seen_of.rest, theirs.seen_of.longer));
+      }
+
+  spent_is_seat : IsSeat sizes h spent_known
+  spent_is_seat =
+      record {
+        sizes_are = λ none. absurd (omega arith);
+        seen_of = record { rest = h; longer = sym (append-nil h); none_missed = none_own h; mine_is = refl };
+        below = omega arith;
+        active = λ q. absurd cc;
+        told_of = tt;
+      }
+
+  joined_out : Stands sizes h words views → get_elem? views id ≡ some v → get_elem? views other ≡ some w → HasOut words h (joined_known v w)
+  joined_out stand at atw own = by (owns (numbers_of w) home) refl
+    where
+      by : (b : Bool) → owns (numbers_of w) home ≡ b → IsOut (next_in words) (cond b w.stage v.stage).slices (cond b w.stage v.stage).hand (out_of h) × NoneEmpty (cond b w.stage v.stage).slices
+      by true is = stand.lists.out other w atw is
+      by false is =
+          stand.lists.out id v at (⊎_elim (λ q. q) (λ q. absurd cc) (both_owned v w home next own))
+
+  pub join_stands : Stands sizes h words views → get_elem? views id ≡ some v → get_elem? views other ≡ some w → other ≢ id → 0 < v.count → Stands sizes h words (set (set views id (joined_known v w)) other spent_known)
+  join_stands stand at atw away numbered =
+      let each_of = λ (P : Known → Type 0) (all : EachView P views) (joined : P (joined_known v w)) (spent : P spent_known). each_set P P (set views id (joined_known v w)) other spent_known (each_set P P views id (joined_known v w) all joined (λ i u ne e old. old)) spent (λ i u ne e old. old) in
+      record {
+        long = stand.long;
+        legal = stand.legal;
+        seats = record {
+          each = each_of (IsSeat sizes h) stand.seats.each (joined_is_seat (stand.seats.each id v at) (stand.seats.each other w atw) numbered) spent_is_seat;
+          apart = apart_joined views id other v w next stand.seats.apart at atw away;
+          all_owned = stand.seats.all_owned;
+        };
+        flags = stand.flags;
+        lists = record {
+          stack = stand.lists.stack;
+          owed = each_of (λ u. Owes sizes words h u.first u.phase) stand.lists.owed (stand.lists.owed id v at) tt;
+          out = each_of (HasOut words h) stand.lists.out (joined_out stand at atw) (λ own. absurd (let none = none_owned home in cc));
+        };
+      }
+
+pub join_allowed : {S : Type 0} (sizes : Sizes) (id other : ℕ) (v w : Known) → w.first ≡ v.first + v.count → 0 < v.count → Joins (Kept {S = S} sizes) id v other w (joined_known v w) spent_known
+join_allowed sizes id other v w next numbered s kept at away atw =
+    (kept.0, join_stands sizes kept.0 s.words s.views id other v w next kept.1 at (sym (set_else s.views id other (joined_known v w) away) ∙ atw) away numbered)
+
+-- The load that tells of it.
+
+pub learn_allowed : {S : Type 0} (sizes : Sizes) (slots id : ℕ) (me : Me S Known) → 0 < me.0.count → Allows (Kept {S = S} sizes) slots id me head_at (λ n. n) (learned (step slots head_at 0 0 none) me)
+learn_allowed sizes slots id me numbered s kept long at fits =
+    let h = kept.0 in
+    let stand = kept.1 in
+    let v = me.0 in
+    let is = stand.seats.each id v at in
+    (v, keeps, tt, (h, load_stands sizes h s.words s.views id head_at v v stand at numbered (record { sizes_are = refl; numbers_are = refl; told_is = refl }) refl refl (stand.lists.owed id v at) (stand.lists.out id v at)), (refl, λ told eq. subst (λ z. IsJoined z told.staying told.joining (longer_of told.staying told.joining)) (sym (is.sizes_are numbered)) (learn h v told stand.legal is eq)))
+  where
+    learn : (h : History) (v : Known) (told : Told) → IsLegal sizes h → IsSeat sizes h v → v.told ≡ Some told → IsJoined sizes told.staying told.joining (longer_of told.staying told.joining)
+    learn h v told legal is eq =
+        let parts : AreParts h (Some told) = subst (AreParts h) eq is.told_of in
+        let all = parts_of_longer h told.staying told.joining parts.0 parts.1 in
+        record { stayed = all.0; joined = all.1; legal = legal_cut sizes all.2.0 (longer_of told.staying told.joining) (subst (IsLegal sizes) all.2.1 legal) }
