@@ -25,3 +25,6 @@ pub use refusal::BuildRefusal;
 pub use seat::Seat;
 pub use table::LoopTable;
 pub use tokens::{Aimed, Announced, InHand};
+
+#[cfg(test)]
+mod tests;
