@@ -1,3 +1,4 @@
+pub mod Bells
 pub mod Answers
 pub mod Buffers
 pub mod Reading

@@ -2,6 +2,7 @@
 #![tactic(auto)]
 
 mod answer;
+mod bells;
 mod print;
 mod program;
 mod read;
