@@ -1,7 +1,7 @@
 -- Each script that the grammar gives is within the limits.
-use Rattle.std.proofs.Common.{◌≡◌, ℕ, ◌<◌, ◌≤◌, ◌==◌, ◌||◌, ◌&&◌, Bool, true, false, inl, inr, nat_eq, nat_le, List, [], ◌∷◌, ◌++◌, length, map, codes, refl, sym, ap, ◌∙◌, subst, arith, append-nil, Result, Ok, Err, IfOk}
+use Rattle.std.proofs.Common.{◌≡◌, ℕ, ◌<◌, ◌≤◌, ◌==◌, ◌||◌, ◌&&◌, Bool, true, false, nat_eq, nat_le, List, [], ◌∷◌, ◌++◌, length, map, codes, refl, sym, subst, arith, append-nil, Result, Ok, Err, IfOk}
 use Rattle.std.specs.List.{AllByRecursion, IsDistinct, list_any}
-use Rattle.std.proofs.lemmas.Bool.{cases_Bool, leb-true, and_parts, eqb-true}
+use Rattle.std.proofs.lemmas.Bool.{leb-true, and_parts, eqb-true}
 use Rattle.std.proofs.lemmas.List.{length-map}
 use Rattle.std.proofs.lemmas.List.Elements.{filter_map-append}
 use Rattle.std.proofs.lemmas.Map.Steps.{length-le_from_distinct_below}
@@ -12,19 +12,18 @@ use Rattle.aio_script.specs.declared.refusals.ScriptRefusal.{ScriptRefusal}
 use Rattle.aio_script.specs.declared.refusals.ScriptFail.{ScriptFail}
 use Rattle.aio_script.specs.declared.said.Said.{Said}
 use Rattle.aio_script.specs.declared.said.Said.TheVariants.{Declares, Does}
-use Rattle.aio_script.specs.declared.said.Counts.{Counts}
 use Rattle.aio_script.specs.Bounds.{AreApart, IsAtHome, IsBounded, IsWithin}
 use Rattle.aio_script.specs.Grammar.{◌>>=◌, all_said, begins, counted, counts_of, declared, done, formed, has_stream, header_at, loops_below, present, said_at, script_below, script_lines, script_said, steps_in, streams_in, within, words_at}
 use Rattle.aio_script.specs.Lines.{Numbered, significant}
 use Rattle.aio_script.specs.Forms.{header_form}
 use Rattle.aio_script.specs.Text.{number_of}
-use Rattle.aio_script.specs.Progress.{AreLow, counts_with}
+use Rattle.aio_script.specs.Progress.{AreLow}
 use Rattle.aio_script.specs.Reading.{GivesScript}
 use Rattle.aio_script.proofs.Limits.{Fits, said_at-fits}
 use Rattle.aio_script.proofs.LinesRead.{counts_of-line}
 
 -- what went well
-followed : {A B : Type 0} (a : Result A ScriptRefusal) (f : A → Result B ScriptRefusal) (d : B) → (a >>= f) ≡ Ok d
+pub followed : {A B : Type 0} (a : Result A ScriptRefusal) (f : A → Result B ScriptRefusal) (d : B) → (a >>= f) ≡ Ok d
     → (x : A) × (a ≡ Ok x) × (f x ≡ Ok d)
 followed (Ok x) f d e = (x, refl, e)
 followed (Err x) f d e = cc e
@@ -38,7 +37,7 @@ record AreGood (loops : ℕ) (streams : List Stream) (steps : List Step) : Type 
 
 -- ---- one more at the end
 
-all_one_more : {X : Type 0} (P : X → Type 0) (xs : List X) (x : X) → AllByRecursion P xs → P x → AllByRecursion P (xs ++ x ∷ [])
+pub all_one_more : {X : Type 0} (P : X → Type 0) (xs : List X) (x : X) → AllByRecursion P xs → P x → AllByRecursion P (xs ++ x ∷ [])
 all_one_more P [] x all last = (last, tt)
 all_one_more P (y ∷ ys) x all last = (all.0, all_one_more P ys x all.1 last)
 

@@ -1,6 +1,8 @@
 pub mod Bounded
 mod Examples
 pub mod Limits
+pub mod LoopBounded
+pub mod LoopTexts
 pub mod LinesRead
 pub mod Words
 pub mod Cuts

@@ -1,12 +1,11 @@
 -- Lines read one behind the other.
-use Rattle.std.proofs.Common.{◌≡◌, Bool, ℕ, ◌+◌, ◌≤◌, List, [], ◌∷◌, ◌++◌, refl, sym, ap, ◌∙◌, subst, arith, append-nil, Result, Ok, Err, count_by, sum_by, not, if◌then◌else◌}
+use Rattle.std.proofs.Common.{◌≡◌, Bool, ℕ, ◌+◌, List, [], ◌∷◌, ◌++◌, refl, sym, ap, ◌∙◌, arith, append-nil, Result, Ok, Err, count_by, sum_by, not, if◌then◌else◌}
 use Rattle.std.proofs.lemmas.List.Elements.{filter_map-append}
 use Rattle.std.proofs.lemmas.List.Sums.{fold_push, sum_by-append}
 use Rattle.aio_model.specs.declared.scripts.Stream.{Stream}
 use Rattle.aio_model.specs.declared.scripts.Step.{Step}
 use Rattle.aio_model.specs.declared.scripts.What.{What}
 use Rattle.aio_model.specs.declared.scripts.What.TheVariants.{Ask, Delay, Move}
-use Rattle.aio_model.specs.declared.scripts.Script.{Script}
 use Rattle.aio_model.specs.Asked.{is_ask}
 use Rattle.aio_script.specs.declared.refusals.ScriptRefusal.{ScriptRefusal}
 use Rattle.aio_script.specs.declared.refusals.ScriptFail.{ScriptFail}
@@ -67,7 +66,7 @@ HasRead-whole image loops whole left streams steps read end =
     ∙ ap (λ (ss : List Stream). Ok (record { image = image; loops = loops; streams = ss; lines = steps_in read.above })) (sym read.same_streams)
     ∙ ap (λ (ss : List Step). Ok (record { image = image; loops = loops; streams = streams; lines = ss })) (sym read.same_steps)
 
-count_by-one : {X : Type 0} (p : X → Bool) (xs : List X) (x : X) → count_by p (xs ++ x ∷ []) ≡ count_by p xs + (if p x then 1 else 0)
+pub count_by-one : {X : Type 0} (p : X → Bool) (xs : List X) (x : X) → count_by p (xs ++ x ∷ []) ≡ count_by p xs + (if p x then 1 else 0)
 count_by-one p xs x = fold_push _ 0 xs x
 
 counts_of-at : (requests pauses moved : ℕ) (counts : Counts)

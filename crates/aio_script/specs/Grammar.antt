@@ -1,8 +1,7 @@
 -- The grammar of scripts: the script that a text says, or the first line that can't stand where it does. On one line
 -- its form is looked at first, then its numbers and data, then its limits, and last whether its stream was declared.
-use Rattle.std.specs.Prelude.{ℕ, ◌+◌, ◌==◌, ◌&&◌, Bool, true, false, not, nat_le, nat_lt, List, [], ◌∷◌, ◌++◌, length, count_by, sum_by, codes, Option, Some, None, Result, Ok, Err, if◌then◌else◌}
+use Rattle.std.specs.Prelude.{ℕ, ◌+◌, ◌==◌, ◌&&◌, Bool, false, not, nat_le, nat_lt, List, [], ◌∷◌, ◌++◌, length, count_by, sum_by, codes, Option, Some, None, Result, Ok, Err, if◌then◌else◌}
 use Rattle.std.specs.List.{list_any, filter_map}
-use Rattle.aio_model.specs.declared.requests.Request.{Request}
 use Rattle.aio_model.specs.declared.requests.Request.TheVariants.{Read, Write, Zero, Flush}
 use Rattle.aio_model.specs.declared.scripts.Stream.{Stream}
 use Rattle.aio_model.specs.declared.scripts.Step.{Step}

@@ -2,11 +2,16 @@ pub mod Bounds
 pub mod Forms
 pub mod Grammar
 pub mod Lines
+pub mod LoopBounds
+pub mod LoopForms
+pub mod LoopGrammar
+pub mod LoopReading
 pub mod Printing
 pub mod Progress
 pub mod Reading
 pub mod Text
 pub use Rattle.aio_model.specs.Asked
+pub use Rattle.aio_model.specs.LoopLines
 pub use Rattle.aio_model.specs.PrintedText
 pub use Rattle.aio_words.specs.Content
 pub use Rattle.aio_words.specs.Faults

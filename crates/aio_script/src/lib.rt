@@ -4,6 +4,11 @@
 mod form;
 mod forms;
 mod lines;
+mod loop_form;
+mod loop_forms;
+mod loop_lines;
+mod loop_print;
+mod loop_reader;
 mod print;
 mod reader;
 mod refusals;
@@ -12,7 +17,12 @@ mod said;
 mod tests;
 mod text;
 
-pub use aio_model::{Bytes, Placed, Reply, Request, Script, Step, Steps, Stream, Streams, What};
+pub use aio_model::{
+    Act, ActKind, Acts, Bytes, Called, Command, Commands, LoopReply, LoopScript, Placed, RanList,
+    Reply, Request, Script, Step, Steps, Stream, Streams, What,
+};
+pub use loop_print::print_reply;
+pub use loop_reader::read_loop_script;
 pub use print::{WriteFault, print_end, print_line};
 pub use reader::read_script;
 pub use refusals::{ScriptFail, ScriptRefusal};

@@ -201,7 +201,7 @@ fn read_move(above: Above<'_>, stream: &[u8], target: &[u8]) -> Result<Said, Scr
 
 // ---- what several forms have
 
-fn read_counted(number: u32, word: &[u8]) -> Result<u64, ScriptRefusal>
+pub(crate) fn read_counted(number: u32, word: &[u8]) -> Result<u64, ScriptRefusal>
     ensures { result ≡ counted number (number_of word.now) }
 {
     read_number(word).ok_or(ScriptRefusal::BadNumber(number))

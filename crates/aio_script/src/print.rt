@@ -91,15 +91,15 @@ fn print_outcome<K: Sink>(sink: &mut K, reply: &Reply) -> Result<(), WriteFault>
     ensures { Prints (outcome_of reply.now ++ codes "\n") (K.held sink.old) (K.held sink.new) (K.faults sink.old) (K.faults sink.new) result }
 {
     match reply {
-        Reply::Put(n) | Reply::Zeroed(n) => print_counted(sink, b"ok ", *n),
+        Reply::Put(n) | Reply::Zeroed(n) => print_counted(sink, b"ok ", u64::from(*n)),
         Reply::Got(bytes) => print_found(sink, bytes.as_slice()),
         Reply::Flushed => print_parts(sink, &[b"ok\n"]),
-        Reply::Eio(k) => print_counted(sink, b"eio ", *k),
+        Reply::Eio(k) => print_counted(sink, b"eio ", u64::from(*k)),
         Reply::Einval => print_parts(sink, &[b"einval\n"]),
     }
 }
 
-fn print_counted<K: Sink>(sink: &mut K, word: &[u8], n: u32) -> Result<(), WriteFault>
+pub(crate) fn print_counted<K: Sink>(sink: &mut K, word: &[u8], n: u64) -> Result<(), WriteFault>
     ensures { Prints (word.now ++ (decimal n ++ codes "\n")) (K.held sink.old) (K.held sink.new) (K.faults sink.old) (K.faults sink.new) result }
 {
     let mut digits = Buffer::new();
@@ -150,7 +150,7 @@ fn write_digits(bytes: &[u8], digits: &mut [u8])
     prove!(written.is_ok());
 }
 
-fn print_parts<K: Sink>(sink: &mut K, parts: &[&[u8]]) -> Result<(), WriteFault>
+pub(crate) fn print_parts<K: Sink>(sink: &mut K, parts: &[&[u8]]) -> Result<(), WriteFault>
     ensures { Prints (flat_map (λ part. part.now) parts.now) (K.held sink.old) (K.held sink.new) (K.faults sink.old) (K.faults sink.new) result }
 {
     for part in parts {

@@ -19,7 +19,7 @@ const LARGEST_IMAGE: u64 = 1_048_576;
 
 const MOST_LOOPS: u64 = 16;
 
-const NO_HEADER: ScriptFail = ScriptFail::Refused(ScriptRefusal::NoHeader);
+pub(crate) const NO_HEADER: ScriptFail = ScriptFail::Refused(ScriptRefusal::NoHeader);
 
 /// The script that a text says. Takes memory for its lines and their data.
 pub fn read_script(alloc: Global, text: &[u8]) -> Result<Script, ScriptFail>

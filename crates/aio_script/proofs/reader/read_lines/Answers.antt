@@ -1,11 +1,11 @@
-use Rattle.std.proofs.Common.{◌≡◌, ℕ, ◌+◌, ◌++◌, ◌∷◌, [], ◌≤◌, List, sym, ap, ◌∙◌, subst, arith, length, Ok, Err, rules}
+use Rattle.std.proofs.Common.{◌≡◌, ℕ, ◌+◌, ◌++◌, ◌∷◌, [], List, sym, ap, ◌∙◌, subst, arith, Err, rules}
 use Rattle.aio_model.specs.declared.scripts.Stream.{Stream}
 use Rattle.aio_model.specs.declared.scripts.Step.{Step}
 use Rattle.aio_script.specs.declared.said.Counts.{Counts}
-use Rattle.aio_script.specs.Grammar.{counts_of, said_at, script_below, streams_in, steps_in}
+use Rattle.aio_script.specs.Grammar.{counts_of, script_below, streams_in, steps_in}
 use Rattle.aio_script.specs.Lines.{Numbered, significant_from}
 use Rattle.aio_script.specs.Progress.{AreLow, counts_with, HasRead}
-use Rattle.aio_script.specs.Reading.{Gives, GivesScript}
+use Rattle.aio_script.specs.Reading.{GivesScript}
 use Rattle.aio_script.proofs.Limits.{said_at-fits}
 use Rattle.aio_script.proofs.LinesRead.{HasRead-line, GivesScript-stops, counts_of-line}
 use Rattle.aio_script.proofs.reader.read_lines.Goals as goal

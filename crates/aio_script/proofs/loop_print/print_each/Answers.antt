@@ -1,0 +1,15 @@
+use Rattle.std.specs.List.{flat_map}
+use Rattle.std.proofs.Common.{◌+◌, drop}
+use Rattle.aio_model.specs.LoopLines.{behind_space}
+use Rattle.aio_script.proofs.Prints.{Prints-then, Prints-stops, Prints-same}
+use Rattle.aio_script.proofs.Texts.{flat_map_around}
+use Rattle.aio_script.proofs.loop_print.print_each.Goals as goal
+
+pub returns-in_err-print_called : goal.returns-in_err-print_called
+returns-in_err-print_called g c =
+    let called = c.args.called.now in
+    let i = c.loop-one.one-index in
+    let rest = flat_map behind_space (drop (i + 1) called) in
+    Prints-same (flat_map_around behind_space called i _ c.loop-one-test.true)
+    (Prints-then c.from_residual.result c.loop-one.invariant
+    (Prints-stops rest c.from_residual.result c.from_residual.ensures.0 c.in_err-print_called.ensures))
