@@ -206,7 +206,7 @@ acts_at-index f [] i v inside here = absurd (omega arith)
 acts_at-index f (x ∷ lists) zero v inside here = ap f here
 acts_at-index f (x ∷ lists) (suc i) v inside here = acts_at-index f lists i v (omega arith) here
 
-above_is_lot : (sizes : Sizes) (lot : ℕ) → sizes.handles ≤ lot → lot < sizes.handles + sizes.lots → is_lot sizes lot ≡ true
+pub above_is_lot : (sizes : Sizes) (lot : ℕ) → sizes.handles ≤ lot → lot < sizes.handles + sizes.lots → is_lot sizes lot ≡ true
 above_is_lot sizes lot above below =
     let e : ltb lot sizes.handles ≡ false = le-ltb lot sizes.handles above in
     let f : ltb lot (sizes.handles + sizes.lots) ≡ true = lt-ltb lot (sizes.handles + sizes.lots) below in

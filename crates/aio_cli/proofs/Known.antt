@@ -65,7 +65,7 @@ head_lives sizes i H legal head above =
       | inr no_life ↦ absurd (false≢true (sym (unlived sizes i H legal above no_life) ∙ pending))
     ]
 
-lot_below : (sizes : Sizes) (i : ℕ) → is_lot sizes i ≡ true → i < sizes.handles + sizes.lots
+pub lot_below : (sizes : Sizes) (i : ℕ) → is_lot sizes i ≡ true → i < sizes.handles + sizes.lots
 lot_below sizes i lot = ltb-true _ _ (and_parts _ _ lot).1
 
 head_below : (sizes : Sizes) (i : ℕ) (H : History) → IsLegal sizes H → head_of (out_of H) ≡ Some i → i < sizes.handles + sizes.lots

@@ -1,5 +1,7 @@
 pub mod Acting
 pub mod Causes
+pub mod Commanded
+pub mod Commands
 pub mod Entries
 pub mod Going
 pub mod Known

@@ -119,7 +119,7 @@ AreOfActs-append : (newer older : History) → AreOfActs newer → AreOfActs old
 AreOfActs-append [] older n o = o
 AreOfActs-append (e ∷ newer) older n o = (n.0, AreOfActs-append newer older n.1 o)
 
-enqueue_of : (i : ℕ) (asked : Asked) (was : Flags) (b : Bool) → AreOfActs (cond b (Enqueue i asked home was ∷ []) (Put i home ∷ (Enqueue i asked home was ∷ [])))
+pub enqueue_of : (i : ℕ) (asked : Asked) (was : Flags) (b : Bool) → AreOfActs (cond b (Enqueue i asked home was ∷ []) (Put i home ∷ (Enqueue i asked home was ∷ [])))
 enqueue_of i asked was true = (refl, tt)
 enqueue_of i asked was false = (refl, (refl, tt))
 

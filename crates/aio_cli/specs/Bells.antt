@@ -3,7 +3,6 @@ use Rattle.std.specs.Prelude.{◌≡◌, ℕ, zero, min, ◌^◌, ◌+◌, ◌-�
 use Rattle.std.specs.List.{AllByRecursion}
 use Rattle.aio_model.specs.declared.flags.Flags.{Flags}
 use Rattle.aio_model.specs.declared.loop_scripts.ActKind.{ActKind}
-use Rattle.aio_model.specs.declared.loop_scripts.ActKind.TheVariants.{Schedule, Idle, Delete, Cancel, Nest}
 use Rattle.aio_model.specs.declared.ran_lists.Called.{Called}
 use Rattle.aio_model.specs.LoopHistory.{Sizes, Take, Dequeue, Free, History}
 use Rattle.aio_model.specs.LoopFlags.{is_lot, is_idle, lives}
@@ -14,19 +13,13 @@ use Rattle.aio_model.specs.LoopSeats.{home, entries_of}
 use Rattle.aio_model.specs.LoopFrame.{Entered, Place, Makes, Body, Turns, Runs, lent_of, called_of, cut_nests_of}
 use Rattle.aio_model.specs.LoopActs.{Waiting, DoesActs, Add, made_by, before_nest, behind_nest, answer_of}
 use Rattle.aio_model.specs.LoopReplies.{made_log, counted, named_most, called_as}
+use Rattle.aio_script.specs.LoopBounds.{CallsHandle}
 use Rattle.aio_cli.specs.declared.bells.Bells.{Bells}
 use Rattle.aio_cli.specs.declared.bells.Next.{Next}
 
--- an action on one of the handles
-abbrev pub IsWithin : ℕ → ActKind → Type 0
-IsWithin handles (Schedule i) = i < handles
-IsWithin handles (Idle i) = i < handles
-IsWithin handles (Delete i) = i < handles
-IsWithin handles (Cancel i) = i < handles
-IsWithin handles Nest = Unit {0}
-
+-- actions on handles, of which there are so many
 abbrev pub AreWithin : ℕ → List ActKind → Type 0
-AreWithin handles todo = AllByRecursion (IsWithin handles) todo
+AreWithin handles todo = AllByRecursion (CallsHandle handles) todo
 
 -- the list of actions of each handle
 abbrev pub acts_at : List (List ActKind) → ℕ → List ActKind

@@ -3,11 +3,16 @@ ghost use Rattle.std.specs.Prelude.{◌≡◌, ◌+◌, ◌-◌, ◌^◌, min, �
 ghost use Rattle.aio_model.specs.declared.ran_lists.Called.{Called};
 ghost use Rattle.aio_model.specs.LoopActs as Spec;
 ghost use Rattle.aio_model.specs.LoopActs.{before_nest, behind_nest};
-ghost use Rattle.aio_cli.specs.Bells.{IsWithin, AreWithin, Acts, ActsAll, Names, cut_after, EntersOnce, Alive, FindsNone, TakesNext, IsKnown};
+ghost use Rattle.aio_script.specs.LoopBounds.{CallsHandle};
+ghost use Rattle.aio_cli.specs.Bells.{AreWithin, Acts, ActsAll, Names, cut_after, EntersOnce, Alive, FindsNone, TakesNext, IsKnown};
 
 use aio_model::{ActKind, Called, OneLoop, RanList};
 
+mod commands;
 mod poll;
+mod run;
+
+pub(crate) use run::run_loop_script;
 
 /// A loop script's run: its loop, and of the present poll what it called and cut.
 #[derive(Drop)]
@@ -38,7 +43,7 @@ fn one_more(count: u64) -> u64
 
 /// Does one action; a nest is for the caller to do.
 fn act(one_loop: &mut OneLoop, what: ActKind)
-    requires within { IsWithin one_loop.old.sizes.handles what }
+    requires within { CallsHandle one_loop.old.sizes.handles what }
     ensures acts { Acts what one_loop.old one_loop.new }
     ensures sizes { one_loop.new.sizes ≡ one_loop.old.sizes }
 {

@@ -10,6 +10,7 @@ mod run;
 mod serve;
 #[cfg(test)]
 mod tests;
+mod words;
 
 pub use answer::{Answer, End};
 pub use program::top;
