@@ -16,6 +16,7 @@ use Rattle.aio_model.specs.LoopLines.{reply_text}
 use Rattle.aio_model.specs.LoopText.{IsLoopText}
 use Rattle.aio_script.specs.declared.print.WriteFault as fault
 use Rattle.aio_script.specs.Printing.{Prints}
+use Rattle.aio_cli.specs.Reading.{SaysLoop}
 use Rattle.aio_cli.specs.declared.answer.Answer.{Answer}
 use Rattle.aio_cli.specs.declared.answer.Answer.TheVariants.{Done, WriteFault, NoMemory}
 use Rattle.aio_cli.specs.declared.bells.Bells.{Bells}
@@ -75,6 +76,13 @@ pub record Rings (script : LoopScript) (Wrote : List ℕ → Type 0) : Type 0 wh
   pub text : List ℕ
   pub is_text : IsLoopText script text
   pub wrote : Wrote text
+
+-- A whole run. The text was all that the source had left, the loop script is the one that it says, and so much of a text
+-- of it was written.
+pub record RingsSaid (left_before left_now : Option (List ℕ)) (Wrote : List ℕ → Type 0) : Type 0 where
+  pub script : LoopScript
+  pub said : SaysLoop left_before left_now script
+  pub rings : Rings script Wrote
 
 -- an answer that can come once a loop script was read
 abbrev pub IsOfBells : Answer → Type 0

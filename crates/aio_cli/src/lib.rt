@@ -3,6 +3,8 @@
 
 mod answer;
 mod bells;
+#[cfg(test)]
+mod loop_tests;
 mod print;
 mod program;
 mod read;
