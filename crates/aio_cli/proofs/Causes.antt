@@ -4,16 +4,22 @@ use Rattle.std.proofs.lemmas.Option.{none-some, same_Some}
 use Rattle.aio_model.specs.declared.replies.Placed.{Placed}
 use Rattle.aio_model.specs.declared.scripts.Script.{Script}
 use Rattle.aio_model.specs.SerialHistory.{eios_of}
+use Rattle.aio_model.specs.declared.loop_scripts.LoopScript.{LoopScript}
 use Rattle.aio_words.specs.Content.{Takes}
 use Rattle.aio_words.specs.Faults.{HasRisen, HasRisenBy}
 use Rattle.aio_words.proofs.ContentLemmas.{Takes_to_end}
 use Rattle.aio_words.proofs.FaultLemmas.{HasRisen-from_more}
 use Rattle.aio_script.specs.declared.refusals.ScriptRefusal.{ScriptRefusal}
 use Rattle.aio_script.specs.Grammar.{script_said}
+use Rattle.aio_script.specs.LoopGrammar.{loop_script_said}
 use Rattle.aio_cli.specs.declared.answer.Answer.{Answer}
 use Rattle.aio_cli.specs.declared.answer.Answer.TheVariants.{Done, Errors, Usage, BadScript, TooLong, TooLarge, ReadFault, WriteFault, NoMemory, DeviceFault}
-use Rattle.aio_cli.specs.Answers.{IsLengthRefusal, IsRefusal, IsWhole, OnBadScript, OnDeviceFault, OnRun, OnTooLarge, OnTooLong}
-use Rattle.aio_cli.specs.Reading.{IsText, IsTooLong, Refuses, Says, SaysFitting, SaysImage, SaysSome, longest_script}
+use Rattle.aio_cli.specs.Answers.{IsLengthRefusal, IsOfLoop, IsRefusal, IsWhole, OnBadScript, OnCut, OnDeviceFault, OnRun, OnTooLarge, OnTooLong, OnWritten}
+use Rattle.aio_cli.specs.BellsRun.{RingsSaid}
+use Rattle.aio_cli.specs.declared.words.Mode.{Mode}
+use Rattle.aio_cli.specs.declared.words.Mode.TheVariants.{Image, Bells}
+use Rattle.aio_cli.specs.Words.{InBells, InImage}
+use Rattle.aio_cli.specs.Reading.{IsText, IsTooLong, Refuses, RefusesLoop, Says, SaysLoop, SaysFitting, SaysImage, SaysSome, longest_script}
 
 -- a fact for the bytes that are told, if they are
 pub told-each : (told : Option (List ℕ)) (P : List ℕ → Type 0) → ((bytes : List ℕ) → told ≡ Some bytes → P bytes) → IfSome told P
@@ -57,6 +63,35 @@ module _ (before now : Option (List ℕ)) (bytes : List ℕ) (told : before ≡ 
 
   same-refusal : (one other : ScriptRefusal) → script_said bytes ≡ Err one → script_said bytes ≡ Err other → one ≡ other
   same-refusal one other said again = cc (said, again)
+
+  -- the same of loop scripts
+
+  says_loop-whole : (script : LoopScript) → SaysLoop before now script → loop_script_said bytes ≡ Ok script
+  says_loop-whole script said = ap loop_script_said (whole-text said.text said.read) ∙ said.says
+
+  refuses_loop-whole : (refusal : ScriptRefusal) → RefusesLoop before now refusal → loop_script_said bytes ≡ Err refusal
+  refuses_loop-whole refusal refused = ap loop_script_said (whole-text refused.text refused.read) ∙ refused.says
+
+  not-both-loop : (script : LoopScript) (refusal : ScriptRefusal) → loop_script_said bytes ≡ Ok script → loop_script_said bytes ≡ Err refusal → ⊥
+  not-both-loop script refusal said refused = cc (said, refused)
+
+  same-loop-refusal : (one other : ScriptRefusal) → loop_script_said bytes ≡ Err one → loop_script_said bytes ≡ Err other → one ≡ other
+  same-loop-refusal one other said again = cc (said, again)
+
+  pub refused_loop-only : (W V : List ℕ → Type 0) (answer : Answer) → IsOfLoop answer → (answer ≡ ReadFault → ⊥)
+      → OnBadScript answer (RefusesLoop before now) → OnTooLong answer (IsTooLong before now)
+      → OnWritten answer (RingsSaid before now W) → OnCut answer (RingsSaid before now V)
+      → length bytes ≤ longest_script → (refusal : ScriptRefusal) → loop_script_said bytes ≡ Err refusal → IsRefusal refusal answer
+  refused_loop-only W V Done of fault bad long written cut few refusal says = absurd (not-both-loop written.script refusal (says_loop-whole written.script written.said) says)
+  refused_loop-only W V (Errors n) of fault bad long written cut few refusal says = absurd of
+  refused_loop-only W V Usage of fault bad long written cut few refusal says = absurd of
+  refused_loop-only W V (BadScript told_so) of fault bad long written cut few refusal says = same-loop-refusal told_so refusal (refuses_loop-whole told_so bad) says
+  refused_loop-only W V TooLong of fault bad long written cut few refusal says = absurd (omega (arith, few, too_long-longer long))
+  refused_loop-only W V (TooLarge i d) of fault bad long written cut few refusal says = absurd of
+  refused_loop-only W V ReadFault of fault bad long written cut few refusal says = absurd (fault refl)
+  refused_loop-only W V WriteFault of fault bad long written cut few refusal says = absurd (not-both-loop cut.script refusal (says_loop-whole cut.script cut.said) says)
+  refused_loop-only W V NoMemory of fault bad long written cut few refusal says = tt
+  refused_loop-only W V DeviceFault of fault bad long written cut few refusal says = absurd of
 
   module _ (extent size_before size_now : ℕ) where
     pub long-only : (answer : Answer) → (answer ≡ Usage → ⊥) → (answer ≡ ReadFault → ⊥)
@@ -124,3 +159,11 @@ module _ (before now : Option (List ℕ)) (bytes : List ℕ) (told : before ≡ 
     whole-only served f g WriteFault usage read write eios still told_size bad long ran large size few script says = absurd (write refl)
     whole-only served f g NoMemory usage read write eios still told_size bad long ran large size few script says = tt
     whole-only served f g DeviceFault usage read write eios still told_size bad long ran large size few script says = absurd (told_size size.0)
+
+-- In the mode that the words ask for.
+
+pub in_image : (m : Option Mode) (P : Type 0) → m ≡ Some Image → P → InImage m P
+in_image m P is p = subst (λ k. InImage k P) (sym is) p
+
+pub in_bells : (m : Option Mode) (P : Type 0) → m ≡ Some Bells → P → InBells m P
+in_bells m P is p = subst (λ k. InBells k P) (sym is) p

@@ -4,7 +4,7 @@ use Rattle.aio_model.specs.declared.replies.Placed.{Placed}
 use Rattle.aio_model.specs.SerialHistory.{errors_of, eios_of}
 use Rattle.aio_words.specs.Faults.{HasRisen}
 use Rattle.aio_script.specs.declared.refusals.ScriptRefusal.{ScriptRefusal}
-use Rattle.aio_cli.specs.Reading.{IsTooLong, Refuses}
+use Rattle.aio_cli.specs.Reading.{IsTooLong, Refuses, RefusesLoop}
 use Rattle.aio_cli.specs.declared.answer.Answer.{Answer}
 use Rattle.aio_cli.specs.declared.answer.Answer.TheVariants.{Done, Errors, Usage, BadScript, TooLong, TooLarge, ReadFault, WriteFault, NoMemory, DeviceFault}
 
@@ -122,6 +122,35 @@ IsServed Done = Unit {0}
 IsServed (Errors n) = Unit {0}
 IsServed WriteFault = Unit {0}
 IsServed answer = ⊥
+
+-- why no text was read
+abbrev pub FailsText : Option (List ℕ) → Option (List ℕ) → ℕ → ℕ → Answer → Type 0
+FailsText before now faults_before faults_now ReadFault = HasRisen faults_before faults_now
+FailsText before now faults_before faults_now TooLong = IsTooLong before now
+FailsText before now faults_before faults_now NoMemory = Unit {0}
+FailsText before now faults_before faults_now answer = ⊥
+
+-- why no loop script was read
+abbrev pub FailsReadingLoop : Option (List ℕ) → Option (List ℕ) → ℕ → ℕ → Answer → Type 0
+FailsReadingLoop before now faults_before faults_now ReadFault = HasRisen faults_before faults_now
+FailsReadingLoop before now faults_before faults_now (BadScript refusal) = RefusesLoop before now refusal
+FailsReadingLoop before now faults_before faults_now TooLong = IsTooLong before now
+FailsReadingLoop before now faults_before faults_now NoMemory = Unit {0}
+FailsReadingLoop before now faults_before faults_now answer = ⊥
+
+-- an answer to a loop script where nothing failed
+abbrev pub IsDone : Answer → Type 0
+IsDone Done = Unit {0}
+IsDone NoMemory = Unit {0}
+IsDone answer = ⊥
+
+-- an answer that can come in the mode of loop scripts
+abbrev pub IsOfLoop : Answer → Type 0
+IsOfLoop (Errors n) = ⊥
+IsOfLoop Usage = ⊥
+IsOfLoop (TooLarge image device) = ⊥
+IsOfLoop DeviceFault = ⊥
+IsOfLoop answer = Unit {0}
 
 -- why no script was read
 abbrev pub FailsReading : Option (List ℕ) → Option (List ℕ) → ℕ → ℕ → Answer → Type 0

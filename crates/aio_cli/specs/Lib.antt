@@ -1,6 +1,9 @@
+pub mod Bells
+pub mod BellsRun
 pub mod Answers
 pub mod Buffers
 pub mod FaultText
 pub mod Reading
 pub mod Run
 pub mod Streams
+pub mod Words

@@ -1,9 +1,11 @@
 -- What of a source was read.
 use Rattle.std.specs.Prelude.{◌≡◌, ◌⊎◌, ℕ, ◌≤◌, List, [], length, Option, IfSome, Ok, Err}
 use Rattle.aio_model.specs.declared.scripts.Script.{Script}
+use Rattle.aio_model.specs.declared.loop_scripts.LoopScript.{LoopScript}
 use Rattle.aio_words.specs.Content.{Takes}
 use Rattle.aio_script.specs.declared.refusals.ScriptRefusal.{ScriptRefusal}
 use Rattle.aio_script.specs.Grammar.{script_said}
+use Rattle.aio_script.specs.LoopGrammar.{loop_script_said}
 
 -- how many bytes a script may have
 abbrev pub longest_script : ℕ
@@ -36,6 +38,18 @@ pub record Says (before now : Option (List ℕ)) (script : Script) : Type 0 wher
   pub text : List ℕ
   pub read : IsText before now text
   pub says : script_said text ≡ Ok script
+
+-- the text that was read says this loop script
+pub record SaysLoop (before now : Option (List ℕ)) (script : LoopScript) : Type 0 where
+  pub text : List ℕ
+  pub read : IsText before now text
+  pub says : loop_script_said text ≡ Ok script
+
+-- it says no loop script, for this reason
+pub record RefusesLoop (before now : Option (List ℕ)) (refusal : ScriptRefusal) : Type 0 where
+  pub text : List ℕ
+  pub read : IsText before now text
+  pub says : loop_script_said text ≡ Err refusal
 
 -- it says some script
 pub record SaysSome (before now : Option (List ℕ)) : Type 0 where

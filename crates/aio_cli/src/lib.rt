@@ -2,7 +2,10 @@
 #![tactic(auto)]
 
 mod answer;
+mod bells;
 mod fault;
+#[cfg(test)]
+mod loop_tests;
 mod print;
 mod program;
 mod read;
@@ -10,6 +13,7 @@ mod run;
 mod serve;
 #[cfg(test)]
 mod tests;
+mod words;
 
 pub use answer::{Answer, End};
 pub use fault::print_fault;

@@ -1,32 +1,37 @@
-ghost use Rattle.std.specs.Prelude.{◌≡◌, ◌≢◌, ◌↔◌, ◌≤◌, ◌<◌, [], List, ℕ, length, vec_len, Ok, Err, IfOk, IfErr, IfSome};
+ghost use Rattle.std.specs.Prelude.{◌≡◌, ◌↔◌, ◌≤◌, ◌<◌, [], List, ℕ, length, map, string_bytes, vec_len, None, Ok, Err, IfOk, IfErr, IfSome};
 ghost use Rattle.aio_model.specs.declared.scripts.Script.{Script};
 ghost use Rattle.aio_script.specs.declared.refusals.ScriptRefusal.{ScriptRefusal};
+ghost use Rattle.aio_model.specs.declared.loop_scripts.LoopScript.{LoopScript};
 ghost use Rattle.aio_model.specs.SerialHistory.{eios_of};
 ghost use Rattle.aio_words.specs.Content.{with_piece, AppendsFront};
 ghost use Rattle.aio_words.specs.Faults.{HasRisen, HasRisenBy};
 ghost use Rattle.aio_script.specs.Bounds.{IsBounded};
 ghost use Rattle.aio_script.specs.Grammar.{script_said};
-ghost use Rattle.aio_cli.specs.Answers.{FailsReading, IsLengthRefusal, IsRefusal, IsWhole, OnBadScript, OnCut, OnDeviceFault, OnRun, OnTooLarge, OnTooLong, OnUnasked, OnUnserved, OnWritten, TellsErrors};
-ghost use Rattle.aio_cli.specs.Reading.{IsTooLong, Refuses, Says, SaysFitting, SaysImage, SaysSome, TakesAtMost, longest_script, most_read};
+ghost use Rattle.aio_script.specs.LoopBounds.{IsLoopBounded};
+ghost use Rattle.aio_script.specs.LoopGrammar.{loop_script_said};
+ghost use Rattle.aio_cli.specs.Answers.{FailsReading, FailsReadingLoop, FailsText, IsDone, IsLengthRefusal, IsOfLoop, IsRefusal, IsWhole, OnBadScript, OnCut, OnDeviceFault, OnRun, OnTooLarge, OnTooLong, OnUnasked, OnUnserved, OnWritten, TellsErrors};
+ghost use Rattle.aio_cli.specs.Reading.{IsText, IsTooLong, Refuses, RefusesLoop, Says, SaysLoop, SaysFitting, SaysImage, SaysSome, TakesAtMost, longest_script, most_read};
+ghost use Rattle.aio_cli.specs.BellsRun.{RingsSaid};
 ghost use Rattle.aio_cli.specs.Run.{Runs};
+ghost use Rattle.aio_cli.specs.Words.{InBells, InImage, mode_said};
 
+use crate::bells::run_loop_script;
 use crate::read::{ReadFail, read_text};
 use crate::run::{run_script, unserved};
+use crate::words::{Mode, mode_said};
 use crate::{Answer, End};
-use aio_model::Script;
-use aio_script::{ScriptFail, read_script};
+use aio_model::{LoopScript, Script};
+use aio_script::{ScriptFail, read_loop_script, read_script};
 use aio_words::{Clock, Device, Gate, Sink, Source};
 use std::alloc::Global;
 
 /// How many bytes a script may have.
 const LONGEST_SCRIPT: usize = 1_048_576;
 
-/// Reads the script that a source's text says, or tells the answer that stands in its place.
-fn read_all<S: Source>(alloc: Global, source: &mut S) -> Result<Script, Answer>
-    ensures says { IfOk result (λ script. Says (S.left source.old) (S.left source.new) script) }
-    ensures bounded { IfOk result IsBounded }
-    ensures fails { IfErr result (λ answer.
-        FailsReading (S.left source.old) (S.left source.new) (S.faults source.old) (S.faults source.new) answer) }
+/// Reads the source's text to its end, or tells the answer that stands in its place.
+fn read_whole<S: Source>(alloc: Global, source: &mut S) -> Result<Vec<u8>, Answer>
+    ensures text { IfOk result (λ text. IsText (S.left source.old) (S.left source.new) text.items) }
+    ensures fails { IfErr result (FailsText (S.left source.old) (S.left source.new) (S.faults source.old) (S.faults source.new)) }
     ensures taken { TakesAtMost most_read (S.left source.old) (S.left source.new) }
     ensures counted { S.faults source.old ≤ S.faults source.new }
 {
@@ -38,6 +43,19 @@ fn read_all<S: Source>(alloc: Global, source: &mut S) -> Result<Script, Answer>
     if text.len() > LONGEST_SCRIPT {
         return Err(Answer::TooLong);
     }
+    Ok(text)
+}
+
+/// Reads the script that a source's text says, or tells the answer that stands in its place.
+fn read_all<S: Source>(alloc: Global, source: &mut S) -> Result<Script, Answer>
+    ensures says { IfOk result (λ script. Says (S.left source.old) (S.left source.new) script) }
+    ensures bounded { IfOk result IsBounded }
+    ensures fails { IfErr result (λ answer.
+        FailsReading (S.left source.old) (S.left source.new) (S.faults source.old) (S.faults source.new) answer) }
+    ensures taken { TakesAtMost most_read (S.left source.old) (S.left source.new) }
+    ensures counted { S.faults source.old ≤ S.faults source.new }
+{
+    let text = read_whole(alloc, source)?;
     match read_script(alloc, text.as_slice()) {
         Ok(script) => Ok(script),
         Err(ScriptFail::Refused(refusal)) => Err(Answer::BadScript(refusal)),
@@ -45,10 +63,26 @@ fn read_all<S: Source>(alloc: Global, source: &mut S) -> Result<Script, Answer>
     }
 }
 
-/// What `top` does.
-fn run_words<S: Source, K: Sink, D: Device>(
+/// Reads the loop script that a source's text says, or tells the answer that stands in its place.
+fn read_loop<S: Source>(alloc: Global, source: &mut S) -> Result<LoopScript, Answer>
+    ensures says { IfOk result (λ script. SaysLoop (S.left source.old) (S.left source.new) script) }
+    ensures bounded { IfOk result IsLoopBounded }
+    ensures fails { IfErr result (λ answer.
+        FailsReadingLoop (S.left source.old) (S.left source.new) (S.faults source.old) (S.faults source.new) answer) }
+    ensures taken { TakesAtMost most_read (S.left source.old) (S.left source.new) }
+    ensures counted { S.faults source.old ≤ S.faults source.new }
+{
+    let text = read_whole(alloc, source)?;
+    match read_loop_script(alloc, text.as_slice()) {
+        Ok(script) => Ok(script),
+        Err(ScriptFail::Refused(refusal)) => Err(Answer::BadScript(refusal)),
+        Err(ScriptFail::NoMemory) => Err(Answer::NoMemory),
+    }
+}
+
+/// Reads an image script, serves it and prints its replies.
+fn run_image<S: Source, K: Sink, D: Device>(
     alloc: Global,
-    words: &[String],
     source: &mut S,
     sink: &mut K,
     device: D,
@@ -63,8 +97,7 @@ fn run_words<S: Source, K: Sink, D: Device>(
     ensures unasked { OnUnasked result.answer (result.device ≡ device) }
     ensures errors { TellsErrors result.answer result.served.items }
     ensures eios { HasRisenBy (eios_of result.served.items) (D.faults device) (D.faults result.device) }
-    ensures usage { (result.answer ≡ Answer.Usage) ↔ (words.now ≢ []) }
-    ensures usage_source { result.answer ≡ Answer.Usage → source.new ≡ source.old }
+    ensures asked { result.answer ≡ Answer.Usage → ⊥ }
     ensures bad_script { OnBadScript result.answer (Refuses (S.left source.old) (S.left source.new)) }
     ensures too_long { OnTooLong result.answer (IsTooLong (S.left source.old) (S.left source.new)) }
     ensures device_fault { OnDeviceFault result.answer (HasRisen (D.size_faults device) (D.size_faults result.device) × SaysSome (S.left source.old) (S.left source.new)) }
@@ -79,19 +112,47 @@ fn run_words<S: Source, K: Sink, D: Device>(
     ensures sizes { D.size_faults device ≤ D.size_faults result.device }
     ensures extent { D.extent result.device ≡ D.extent device }
 {
-    if !words.is_empty() {
-        return unserved(alloc, Answer::Usage, device);
-    }
     match read_all(alloc, source) {
         Ok(script) => run_script(alloc, &script, sink, device),
         Err(answer) => unserved(alloc, answer, device),
     }
 }
 
+/// Reads a loop script, does its commands and prints their replies. The device isn't touched.
+fn run_bells<S: Source, K: Sink, D: Device>(
+    alloc: Global,
+    source: &mut S,
+    sink: &mut K,
+    device: D,
+) -> End<D>
+    ensures of_loop { IsOfLoop result.answer }
+    ensures written { OnWritten result.answer
+        (RingsSaid (S.left source.old) (S.left source.new) (λ text. K.held sink.new ≡ with_piece text (K.held sink.old))) }
+    ensures cut { OnCut result.answer
+        (RingsSaid (S.left source.old) (S.left source.new) (AppendsFront (K.held sink.old) (K.held sink.new))) }
+    ensures unserved { OnUnserved result.answer (sink.new ≡ sink.old) }
+    ensures device { result.device ≡ device }
+    ensures served { result.served.items ≡ [] }
+    ensures bad_script { OnBadScript result.answer (RefusesLoop (S.left source.old) (S.left source.new)) }
+    ensures too_long { OnTooLong result.answer (IsTooLong (S.left source.old) (S.left source.new)) }
+    ensures read_fault { result.answer ≡ Answer.ReadFault → HasRisen (S.faults source.old) (S.faults source.new) }
+    ensures write_fault { result.answer ≡ Answer.WriteFault → HasRisen (K.faults sink.old) (K.faults sink.new) }
+    ensures taken { TakesAtMost most_read (S.left source.old) (S.left source.new) }
+    ensures source_counted { S.faults source.old ≤ S.faults source.new }
+    ensures sink_counted { K.faults sink.old ≤ K.faults sink.new }
+{
+    let answer = match read_loop(alloc, source) {
+        Ok(script) => run_loop_script(alloc, &script, sink),
+        Err(answer) => answer,
+    };
+    unserved(alloc, answer, device)
+}
+
 /// Does all that the program does: reads a script from the source, serves its requests on the device, and writes the
-/// replies to the sink.
+/// replies to the sink; or, where the word is `--mode=bh`, reads a loop script, does its commands on a loop of one
+/// thread, and writes what they answer.
 ///
-/// The words are those of the command line behind the program's name. The clocks and the gate aren't used yet: a line
+/// The words are those of the command line behind the program's name: none, `--mode=run` or `--mode=bh`. The clocks and the gate aren't used yet: a line
 /// that asks for a delay or a move is passed over, and requests are served in the order of their lines.
 /// The device comes back at every answer. An answer is looked for in this order: Usage, then ReadFault or TooLong,
 /// BadScript, DeviceFault, TooLarge, and once the script was served WriteFault; NoMemory may stand in place of any from
@@ -108,13 +169,19 @@ pub fn top<S: Source, K: Sink, D: Device + Send, C: Clock + Send + Drop, G: Gate
     requires sixteen { vec_len clocks ≡ 16 }
 
     // At Done and Errors all of the printed text was written.
-    ensures written { OnWritten result.answer
+    ensures written { InImage (mode_said (map string_bytes words.now)) (OnWritten result.answer
         (Runs (S.left source.old) (S.left source.new) (D.bytes device) (D.bytes result.device) result.served.items
-        (λ text. K.held sink.new ≡ with_piece text (K.held sink.old))) }
+        (λ text. K.held sink.new ≡ with_piece text (K.held sink.old)))) }
     // At WriteFault a front of it.
-    ensures cut { OnCut result.answer
+    ensures cut { InImage (mode_said (map string_bytes words.now)) (OnCut result.answer
         (Runs (S.left source.old) (S.left source.new) (D.bytes device) (D.bytes result.device) result.served.items
-        (AppendsFront (K.held sink.old) (K.held sink.new))) }
+        (AppendsFront (K.held sink.old) (K.held sink.new)))) }
+    // So in the mode of loop scripts, where the text is one of the loop script, and the device isn't touched.
+    ensures rung { InBells (mode_said (map string_bytes words.now)) (OnWritten result.answer
+        (RingsSaid (S.left source.old) (S.left source.new) (λ text. K.held sink.new ≡ with_piece text (K.held sink.old)))) }
+    ensures rung_cut { InBells (mode_said (map string_bytes words.now)) (OnCut result.answer
+        (RingsSaid (S.left source.old) (S.left source.new) (AppendsFront (K.held sink.old) (K.held sink.new)))) }
+    ensures untouched { InBells (mode_said (map string_bytes words.now)) (IsOfLoop result.answer × (result.device ≡ device) × (result.served.items ≡ [])) }
     // At every other answer nothing was served and nothing written.
     ensures unserved { OnUnserved result.answer ((sink.new ≡ sink.old) × (D.bytes result.device ≡ D.bytes device) × (result.served.items ≡ [])) }
     ensures unasked { OnUnasked result.answer (result.device ≡ device) }
@@ -123,12 +190,13 @@ pub fn top<S: Source, K: Sink, D: Device + Send, C: Clock + Send + Drop, G: Gate
     ensures eios { HasRisenBy (eios_of result.served.items) (D.faults device) (D.faults result.device) }
 
     // When each answer comes.
-    ensures usage { (result.answer ≡ Answer.Usage) ↔ (words.now ≢ []) }
+    ensures usage { (result.answer ≡ Answer.Usage) ↔ (mode_said (map string_bytes words.now) ≡ None) }
     ensures usage_source { result.answer ≡ Answer.Usage → source.new ≡ source.old }
-    ensures bad_script { OnBadScript result.answer (Refuses (S.left source.old) (S.left source.new)) }
+    ensures bad_script { InImage (mode_said (map string_bytes words.now)) (OnBadScript result.answer (Refuses (S.left source.old) (S.left source.new))) }
+    ensures bad_loop_script { InBells (mode_said (map string_bytes words.now)) (OnBadScript result.answer (RefusesLoop (S.left source.old) (S.left source.new))) }
     ensures too_long { OnTooLong result.answer (IsTooLong (S.left source.old) (S.left source.new)) }
     ensures device_fault { OnDeviceFault result.answer (HasRisen (D.size_faults device) (D.size_faults result.device) × SaysSome (S.left source.old) (S.left source.new)) }
-    ensures fits { OnRun result.answer (SaysFitting (S.left source.old) (S.left source.new) (D.extent device)) }
+    ensures fits { InImage (mode_said (map string_bytes words.now)) (OnRun result.answer (SaysFitting (S.left source.old) (S.left source.new) (D.extent device))) }
     ensures too_large { OnTooLarge result.answer (λ image size. SaysImage (S.left source.old) (S.left source.new) image × (size ≡ D.extent device) × (size < image)) }
     ensures read_fault { result.answer ≡ Answer.ReadFault → HasRisen (S.faults source.old) (S.faults source.new) }
     ensures write_fault { result.answer ≡ Answer.WriteFault → HasRisen (K.faults sink.old) (K.faults sink.new) }
@@ -141,21 +209,32 @@ pub fn top<S: Source, K: Sink, D: Device + Send, C: Clock + Send + Drop, G: Gate
     ensures extent { D.extent result.device ≡ D.extent device }
 
     // Where no read failed, a text that is too long or says no script is answered so.
-    ensures long { words.now ≡ [] → (HasRisen (S.faults source.old) (S.faults source.new) → ⊥)
+    ensures long { (mode_said (map string_bytes words.now) ≡ None → ⊥) → (HasRisen (S.faults source.old) (S.faults source.new) → ⊥)
         → IfSome (S.left source.old) (λ text. longest_script < length text → IsLengthRefusal result.answer) }
-    ensures refused { words.now ≡ [] → (HasRisen (S.faults source.old) (S.faults source.new) → ⊥)
+    ensures refused { InImage (mode_said (map string_bytes words.now)) ((HasRisen (S.faults source.old) (S.faults source.new) → ⊥)
         → IfSome (S.left source.old) (λ text. length text ≤ longest_script
-        → (refusal : ScriptRefusal) → script_said text ≡ Err refusal → IsRefusal refusal result.answer) }
+        → (refusal : ScriptRefusal) → script_said text ≡ Err refusal → IsRefusal refusal result.answer)) }
+    ensures refused_loop { InBells (mode_said (map string_bytes words.now)) ((HasRisen (S.faults source.old) (S.faults source.new) → ⊥)
+        → IfSome (S.left source.old) (λ text. length text ≤ longest_script
+        → (refusal : ScriptRefusal) → loop_script_said text ≡ Err refusal → IsRefusal refusal result.answer)) }
 
     // Where nothing failed, a text that says a script is served if the device holds its image, and each error is that
     // of a request past the end.
-    ensures complete { words.now ≡ [] → (HasRisen (S.faults source.old) (S.faults source.new) → ⊥)
+    ensures complete { InImage (mode_said (map string_bytes words.now)) ((HasRisen (S.faults source.old) (S.faults source.new) → ⊥)
         → (HasRisen (K.faults sink.old) (K.faults sink.new) → ⊥) → (HasRisen (D.faults device) (D.faults result.device) → ⊥)
         → (HasRisen (D.size_faults device) (D.size_faults result.device) → ⊥)
         → IfSome (S.left source.old) (λ text. length text ≤ longest_script
-        → (script : Script) → script_said text ≡ Ok script → IsWhole script.image (D.extent device) result.answer result.served.items) }
+        → (script : Script) → script_said text ≡ Ok script → IsWhole script.image (D.extent device) result.answer result.served.items)) }
+    ensures complete_loop { InBells (mode_said (map string_bytes words.now)) ((HasRisen (S.faults source.old) (S.faults source.new) → ⊥)
+        → (HasRisen (K.faults sink.old) (K.faults sink.new) → ⊥)
+        → IfSome (S.left source.old) (λ text. length text ≤ longest_script
+        → (script : LoopScript) → loop_script_said text ≡ Ok script → IsDone result.answer)) }
 {
     drop(clocks);
     let _ = gate;
-    run_words(alloc, words, source, sink, device)
+    match mode_said(words) {
+        None => unserved(alloc, Answer::Usage, device),
+        Some(Mode::Image) => run_image(alloc, source, sink, device),
+        Some(Mode::Bells) => run_bells(alloc, source, sink, device),
+    }
 }

@@ -22,12 +22,12 @@ struct Seen {
 }
 
 /// A device of so many of this byte, which fails at the calls of these numbers; call 0 asks for its length.
-fn device(alloc: Global, byte: u8, len: u32, fails: &[u32]) -> Result<MemDevice, Fail> {
+pub(crate) fn device(alloc: Global, byte: u8, len: u32, fails: &[u32]) -> Result<MemDevice, Fail> {
     let bytes = vec![in alloc; byte; len as usize]?;
     Ok(MemDevice::build(alloc, bytes.as_slice(), fails)?)
 }
 
-fn clocks(alloc: Global) -> Result<Vec<StepClock>, Fail>
+pub(crate) fn clocks(alloc: Global) -> Result<Vec<StepClock>, Fail>
     ensures { IfOk result (λ clocks. vec_len clocks ≡ 16) }
 {
     Ok(vec![in alloc; StepClock { now: 0 }; 16]?)
@@ -338,11 +338,11 @@ fn streams_of_any_number_and_zeroings(rt: HostRuntime) -> Result<(), Fail> {
 }
 
 #[test]
-fn any_word_is_refused(rt: HostRuntime) -> Result<(), Fail> {
+fn a_word_that_asks_for_no_mode_is_refused(rt: HostRuntime) -> Result<(), Fail> {
     let alloc = rt.alloc();
     let mut source = MemSource::build(alloc, FIRST, 4096, &[])?;
     let mut sink = MemSink::build(alloc, 1000, &[])?;
-    let words = [String::from_str(alloc, "--mode=run")?];
+    let words = [String::from_str(alloc, "--help")?];
     let end = top(
         alloc,
         &words,

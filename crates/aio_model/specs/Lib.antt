@@ -15,6 +15,9 @@ pub mod LoopInside
 pub mod LoopSeats
 pub mod LoopFrame
 pub mod LoopLines
+pub mod LoopActs
+pub mod LoopReplies
+pub mod LoopText
 pub mod InFlight
 pub mod HandlerCalls
 pub mod HandlerStates

@@ -1,40 +1,51 @@
-use Rattle.std.proofs.Common.{◌≡◌, ◌<◌, ◌≤◌, length, Ok, Err}
+use Rattle.std.proofs.Common.{◌≡◌, ◌<◌, ◌≤◌, length, map, string_bytes, Some, Ok, Err, IfSome}
 use Rattle.aio_model.specs.declared.scripts.Script.{Script}
+use Rattle.aio_words.specs.Content.{with_piece, AppendsFront}
+use Rattle.aio_words.specs.Faults.{HasRisen}
 use Rattle.aio_script.specs.declared.refusals.ScriptRefusal.{ScriptRefusal}
 use Rattle.aio_script.specs.Grammar.{script_said}
-use Rattle.aio_cli.specs.Answers.{IsLengthRefusal, IsRefusal, IsWhole}
+use Rattle.aio_script.specs.LoopGrammar.{loop_script_said}
+use Rattle.aio_cli.specs.declared.words.Mode.TheVariants.{Image, Bells}
+use Rattle.aio_cli.specs.Answers.{IsRefusal, IsWhole}
 use Rattle.aio_cli.specs.Reading.{longest_script}
-use Rattle.aio_cli.proofs.Causes.{told-each, long-only, refused-only, whole-only}
+use Rattle.aio_cli.specs.Words.{mode_said}
+use Rattle.aio_cli.proofs.Causes.{told-each, refused-only, whole-only, refused_loop-only, in_image, in_bells}
 use Rattle.aio_cli.proofs.program.top.Goals as goal
 
-pub returns-clause-long : goal.returns-clause-long
-returns-clause-long g c = λ empty still.
-    let answer = c.run_words.result.answer in
-    told-each (g.S.Source.left c.args.source.now) (λ text. longest_script < length text → IsLengthRefusal answer) (λ text told long.
-    long-only _ _ text told _ _ _ answer
-    (λ usage. c.run_words.ensures.usage.0 usage empty) (λ fault. still (c.run_words.ensures.read_fault fault))
-    c.run_words.ensures.bad_script c.run_words.ensures.fits c.run_words.ensures.too_large c.run_words.ensures.device_fault long)
-
-pub returns-clause-refused : goal.returns-clause-refused
-returns-clause-refused g c = λ empty still.
-    let answer = c.run_words.result.answer in
+pub returns-in-Some-Image-clause-refused : goal.returns-in-Some-Image-clause-refused
+returns-in-Some-Image-clause-refused g c =
+    let answer = c.run_image.result.answer in
+    let run = c.run_image.ensures in
+    let mode : mode_said (map string_bytes c.args.words.now) ≡ Some Image = cc (c.mode_said.ensures, c.in-Some-Image.is, c.in-Some-Image.field-0-is) in
+    in_image _ _ mode (λ still.
     told-each (g.S.Source.left c.args.source.now)
     (λ text. length text ≤ longest_script → (refusal : ScriptRefusal) → script_said text ≡ Err refusal → IsRefusal refusal answer)
     (λ text told few refusal says.
-    refused-only _ _ text told _ _ _ answer
-    (λ usage. c.run_words.ensures.usage.0 usage empty) (λ fault. still (c.run_words.ensures.read_fault fault))
-    c.run_words.ensures.bad_script c.run_words.ensures.too_long c.run_words.ensures.fits c.run_words.ensures.too_large
-    c.run_words.ensures.device_fault few refusal says)
+    refused-only _ _ text told _ _ _ answer run.asked (λ fault. still (run.read_fault fault))
+    run.bad_script run.too_long run.fits run.too_large run.device_fault few refusal says))
 
-pub returns-clause-complete : goal.returns-clause-complete
-returns-clause-complete g c = λ empty source_still sink_still device_still size_still.
-    let answer = c.run_words.result.answer in
-    let served = c.run_words.result.served.items in
+pub returns-in-Some-Image-clause-complete : goal.returns-in-Some-Image-clause-complete
+returns-in-Some-Image-clause-complete g c =
+    let answer = c.run_image.result.answer in
+    let run = c.run_image.ensures in
+    let served = c.run_image.result.served.items in
+    let mode : mode_said (map string_bytes c.args.words.now) ≡ Some Image = cc (c.mode_said.ensures, c.in-Some-Image.is, c.in-Some-Image.field-0-is) in
+    in_image _ _ mode (λ source_still sink_still device_still size_still.
     told-each (g.S.Source.left c.args.source.now)
     (λ text. length text ≤ longest_script → (script : Script) → script_said text ≡ Ok script → IsWhole script.image (g.D.Device.extent c.args.device) answer served)
     (λ text told few script says.
-    whole-only _ _ text told _ _ _ served _ _ answer
-    (λ usage. c.run_words.ensures.usage.0 usage empty) (λ fault. source_still (c.run_words.ensures.read_fault fault))
-    (λ fault. sink_still (c.run_words.ensures.write_fault fault)) c.run_words.ensures.eios device_still size_still
-    c.run_words.ensures.bad_script c.run_words.ensures.too_long c.run_words.ensures.fits c.run_words.ensures.too_large
-    c.run_words.ensures.device_fault few script says)
+    whole-only _ _ text told _ _ _ served _ _ answer run.asked (λ fault. source_still (run.read_fault fault))
+    (λ fault. sink_still (run.write_fault fault)) run.eios device_still size_still
+    run.bad_script run.too_long run.fits run.too_large run.device_fault few script says))
+
+pub returns-in-Some-Bells-clause-refused_loop : goal.returns-in-Some-Bells-clause-refused_loop
+returns-in-Some-Bells-clause-refused_loop g c =
+    let answer = c.run_bells.result.answer in
+    let run = c.run_bells.ensures in
+    let mode : mode_said (map string_bytes c.args.words.now) ≡ Some Bells = cc (c.mode_said.ensures, c.in-Some-Bells.is, c.in-Some-Bells.field-0-is) in
+    in_bells _ _ mode (λ still.
+    told-each (g.S.Source.left c.args.source.now)
+    (λ text. length text ≤ longest_script → (refusal : ScriptRefusal) → loop_script_said text ≡ Err refusal → IsRefusal refusal answer)
+    (λ text told few refusal says.
+    refused_loop-only _ _ text told (λ text. g.K.Sink.held c.run_bells.new.sink ≡ with_piece text (g.K.Sink.held c.args.sink.now)) (AppendsFront (g.K.Sink.held c.args.sink.now) (g.K.Sink.held c.run_bells.new.sink))
+    answer run.of_loop (λ fault. still (run.read_fault fault)) run.bad_script run.too_long run.written run.cut few refusal says))
