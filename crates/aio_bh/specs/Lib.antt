@@ -3,3 +3,4 @@ pub mod Puts
 pub mod Running
 pub mod Polling
 pub mod SoFar
+pub mod Ready

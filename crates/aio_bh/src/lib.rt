@@ -15,3 +15,6 @@ pub use polls::BottomHalves;
 pub use put::Put;
 pub use runner::Runner;
 pub use turn::Turn;
+
+#[cfg(test)]
+mod thread_tests;

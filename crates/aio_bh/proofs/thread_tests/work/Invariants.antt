@@ -1,0 +1,6 @@
+use Rattle.std.proofs.Common.{◌≡◌}
+use Rattle.aio_bh.specs.Ready.{ComesBack}
+use Rattle.aio_bh.proofs.thread_tests.work.Given as goal
+
+abbrev pub invariant-loop-turn : goal.invariant-loop-turn
+invariant-loop-turn g l = ComesBack l.fn.table l.fn.seat l.seat

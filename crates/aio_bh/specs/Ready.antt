@@ -1,0 +1,15 @@
+-- A seat between two calls.
+use Rattle.std.specs.Prelude.{◌≡◌, ℕ}
+use Rattle.aio_model.specs.InFlight.{AtRest}
+use Rattle.aio_core.specs.Calls.{TableState, SeatState, IsSeatOf}
+
+-- it is of the table, and at rest
+pub record IsReady (table : TableState) (seat : SeatState) : Type 0 where
+  pub of : IsSeatOf table seat
+  pub rest : seat.known.phase ≡ AtRest
+
+-- it is ready again, with the numbers that it had
+pub record ComesBack (table : TableState) (before after : SeatState) : Type 0 where
+  pub ready : IsReady table after
+  pub first : after.known.first ≡ before.known.first
+  pub count : after.known.count ≡ before.known.count
