@@ -5,6 +5,8 @@ mod call;
 mod polled;
 mod polls;
 mod runner;
+#[cfg(test)]
+mod tests;
 mod turn;
 
 pub use call::Call;
