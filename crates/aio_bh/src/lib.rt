@@ -7,6 +7,8 @@ mod polled;
 mod polls;
 mod put;
 mod runner;
+#[cfg(test)]
+mod tests;
 mod turn;
 
 pub use call::Call;
