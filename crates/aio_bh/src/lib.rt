@@ -9,6 +9,8 @@ mod put;
 mod runner;
 #[cfg(test)]
 mod tests;
+#[cfg(test)]
+mod thread_tests;
 mod turn;
 
 pub use call::Call;
@@ -17,6 +19,3 @@ pub use polls::BottomHalves;
 pub use put::Put;
 pub use runner::Runner;
 pub use turn::Turn;
-
-#[cfg(test)]
-mod thread_tests;
