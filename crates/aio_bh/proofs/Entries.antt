@@ -1,6 +1,6 @@
 -- The home's entries in what came between, and what others leave as it is.
-use Rattle.std.proofs.Common.{◌≡◌, ℕ, Bool, true, false, cond, eqb, List, [], ◌∷◌, ◌++◌, drop, refl, sym, ap, ◌∙◌, subst}
-use Rattle.std.proofs.lemmas.Bool.{and_parts, eqb-true, false≢true}
+use Rattle.std.proofs.Common.{◌≡◌, ℕ, ◌+◌, ◌<◌, Bool, true, false, cond, eqb, List, [], ◌∷◌, ◌++◌, drop, refl, sym, ap, ◌∙◌, subst, arith}
+use Rattle.std.proofs.lemmas.Bool.{and_parts, and_from, not_from_false, le-ltb, lt-ltb, eqb-true, false≢true}
 use Rattle.aio_model.specs.LoopHistory.{Entry, New, Enqueue, Put, Cancel, Take, Dequeue, Free, SetEvent, ClearEvent, History}
 use Rattle.aio_model.specs.LoopLists.{seat_of, taken_of, dequeue_count, out_of}
 use Rattle.aio_model.specs.LoopSeats.{Numbers, owns, home, entries_by, entries_of, own_entries}
@@ -39,9 +39,18 @@ pub none_of_home : (numbers : Numbers) (others : History) → numbers.first ≡ 
 none_of_home numbers others first count h =
     none_by (owns numbers) (λ n. eqb n home) others (home_is_owned numbers first count) h
 
+first_is_owned : (numbers : Numbers) → 0 < numbers.count → (n : ℕ) → eqb n numbers.first ≡ true → owns numbers n ≡ true
+first_is_owned numbers some n is =
+    subst (λ m. owns numbers m ≡ true) (sym (eqb-true n numbers.first is)) (and_from _ _ (not_from_false _ (le-ltb numbers.first numbers.first (omega arith))) (lt-ltb numbers.first (numbers.first + numbers.count) (omega arith)))
+
+-- none of a seat's own number
+pub none_of_own : (numbers : Numbers) (others : History) → 0 < numbers.count → own_entries numbers others ≡ [] → entries_of numbers.first others ≡ []
+none_of_own numbers others some h =
+    none_by (owns numbers) (λ n. eqb n numbers.first) others (first_is_owned numbers some) h
+
 -- What is out stays as it is, where home does only what a callback may.
 
-rest_of_callback : (b : Bool) (e : Entry) (xs : History) → are_of_callback (cond b (e ∷ xs) xs) ≡ true → are_of_callback xs ≡ true
+pub rest_of_callback : (b : Bool) (e : Entry) (xs : History) → are_of_callback (cond b (e ∷ xs) xs) ≡ true → are_of_callback xs ≡ true
 rest_of_callback true e xs h = (and_parts _ _ h).1
 rest_of_callback false e xs h = h
 

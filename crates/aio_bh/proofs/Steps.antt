@@ -7,6 +7,7 @@ use Rattle.aio_core.specs.Known.{Known, Stage, empty_stage}
 use Rattle.aio_bh.specs.declared.polled.Polled.{Polled}
 use Rattle.aio_bh.specs.Polling.{Polls}
 use Rattle.aio_bh.specs.SoFar.{far, place_of, Goes, TakesAndSome, FindsNone}
+use Rattle.aio_bh.proofs.OneTake.{takes_once}
 use Rattle.aio_bh.proofs.Parts.{Goes-then, some-more, frame-from-some}
 
 pub Goes-more : {R : Type 0} (sizes : Sizes) (deeper : ℕ) (does : R → Entered → R → Type 0) (a b c : Known) (r s t : R) (p q u : Polled) → Goes (TakesAndSome sizes (Frame sizes deeper) (nests_above deeper)) does (far a r p) (far b s q) → Goes (Turn sizes (Frame sizes deeper) (nests_above deeper)) does (far b s q) (far c t u) → Goes (TakesAndSome sizes (Frame sizes deeper) (nests_above deeper)) does (far a r p) (far c t u)
@@ -33,6 +34,7 @@ Polls-of does a b r s polled goes none stage =
       ran = went.counts.ran;
       progress = refl;
       cut_nests = went.counts.cut_nests;
+      takes_once = takes_once a.sizes (start_of a.seen) end goes.goes_on.legal went.goes none;
       none_out = none;
       goes_on = goes.goes_on;
       stage = stage;

@@ -54,7 +54,7 @@ between-take table a b of rest empty taken =
     record {
       of_table = of;
       rest = ap (λ (k : Known). k.phase) takes.rest ∙ rest;
-      legal = subst (λ s. IsLegal s b.known.seen) (sym (ap (λ (k : Known). k.sizes) takes.rest)) takes.makes.legal;
+      legal = subst (λ s. IsLegal s b.known.seen) (sym (ap (λ (k : Known). k.sizes) takes.rest) ∙ of.sizes) takes.makes.legal;
       hand = ap (λ (k : Known). k.stage.hand) takes.rest ∙ ap (λ s. s.hand) empty;
       left = takes.left (ap (λ s. s.hand) empty);
     }
@@ -97,7 +97,7 @@ between-next table i was a b c of between lifted dequeues =
     record {
       of_table = of;
       rest = ap (λ (k : Known). k.phase) dequeues.rest ∙ ap (λ (k : Known). k.phase) up ∙ between.rest;
-      legal = subst (λ s. IsLegal s c.known.seen) (sym (ap (λ (k : Known). k.sizes) dequeues.rest)) dequeues.makes.legal;
+      legal = subst (λ s. IsLegal s c.known.seen) (sym (ap (λ (k : Known). k.sizes) dequeues.rest) ∙ of.sizes) dequeues.makes.legal;
       hand = ap (λ (k : Known). k.stage.hand) dequeues.rest;
       left = dequeues.left;
     }
@@ -114,7 +114,7 @@ between-back table made a b of between first back =
     record {
       of_table = of;
       rest = ap (λ (k : Known). k.phase) back.rest ∙ between.rest;
-      legal = subst (λ s. IsLegal s b.known.seen) (sym (ap (λ (k : Known). k.sizes) back.rest)) back.legal;
+      legal = subst (λ s. IsLegal s b.known.seen) (sym (ap (λ (k : Known). k.sizes) back.rest) ∙ of.sizes) back.legal;
       hand = ap (λ (k : Known). k.stage.hand) back.rest ∙ between.hand;
       left = ap (λ (k : Known). is_empty k.stage.slices) back.rest ∙ between.left ∙ ap is_empty (sym (back_same_out made a.known b.known first back));
     }

@@ -1,6 +1,6 @@
 -- What a poll does.
-use Rattle.std.specs.Prelude.{◌≡◌, ℕ, min, ◌^◌, ◌-◌, ◌++◌, []}
-use Rattle.aio_model.specs.LoopHistory.{History}
+use Rattle.std.specs.Prelude.{◌≡◌, ℕ, min, ◌^◌, ◌-◌, List, [], ◌∷◌, ◌++◌}
+use Rattle.aio_model.specs.LoopHistory.{Take, Dequeue, History}
 use Rattle.aio_model.specs.LoopLegal.{IsLegal}
 use Rattle.aio_model.specs.LoopLists.{out_of}
 use Rattle.aio_model.specs.LoopSeats.{home, entries_of}
@@ -21,6 +21,21 @@ pub record GoesOn (before after : Known) : Type 0 where
   pub legal : IsLegal before.sizes after.seen
   pub rest : after ≡ record before { seen = after.seen; mine = after.mine; did = after.did; stage = after.stage; told = after.told }
 
+-- the indices that were dequeued, in order
+abbrev pub dequeued_in : History → List ℕ
+dequeued_in [] = []
+dequeued_in (Dequeue i ran ∷ older) = dequeued_in older ++ i ∷ []
+dequeued_in (_ ∷ older) = dequeued_in older
+
+-- The list was taken once, after some of others, and what was out then was dequeued since, each once and in order, and nothing else: what
+-- was scheduled since is for a later poll.
+pub record TakesOnce (before after : History) : Type 0 where
+  pub others : History
+  pub not_home : entries_of home others ≡ []
+  pub later : History
+  pub seen : after ≡ later ++ (Take ∷ (others ++ before))
+  pub each_once : dequeued_in later ≡ out_of (Take ∷ (others ++ before))
+
 -- How many polls may stand in one another, the outermost among them.
 abbrev pub depths : ℕ
 depths = 1
@@ -35,6 +50,7 @@ pub record Polls {R : Type 0} (does : R → Entered → R → Type 0) (polled : 
   pub ran : polled.ran ≡ counted (ran_of end.log)
   pub progress : polled.progress ≡ end.progress
   pub cut_nests : polled.cut_nests ≡ counted (cut_nests_of end.log)
+  pub takes_once : TakesOnce before.seen after.seen
   pub none_out : out_of after.seen ≡ []
   pub goes_on : GoesOn before after
   pub stage : after.stage ≡ empty_stage

@@ -1,5 +1,5 @@
 -- A seat between two calls.
-use Rattle.std.specs.Prelude.{◌≡◌, ℕ}
+use Rattle.std.specs.Prelude.{◌≡◌}
 use Rattle.aio_model.specs.InFlight.{AtRest}
 use Rattle.aio_core.specs.Calls.{TableState, SeatState, IsSeatOf}
 

@@ -52,7 +52,7 @@ pub record Goes {R : Type 0} (relation : Place → Place → Type 0) (does : R �
 pub record IsBetween (table : TableState) (seat : SeatState) : Type 0 where
   pub of_table : IsSeatOf table seat
   pub rest : seat.known.phase ≡ AtRest
-  pub legal : IsLegal seat.known.sizes seat.known.seen
+  pub legal : IsLegal table.sizes seat.known.seen
   pub hand : seat.known.stage.hand ≡ None
   pub left : is_empty seat.known.stage.slices ≡ is_empty (out_of seat.known.seen)
 

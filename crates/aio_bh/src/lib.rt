@@ -7,6 +7,10 @@ mod polled;
 mod polls;
 mod put;
 mod runner;
+#[cfg(test)]
+mod tests;
+#[cfg(test)]
+mod thread_tests;
 mod turn;
 
 pub use call::Call;
@@ -15,6 +19,3 @@ pub use polls::BottomHalves;
 pub use put::Put;
 pub use runner::Runner;
 pub use turn::Turn;
-
-#[cfg(test)]
-mod thread_tests;

@@ -5,6 +5,7 @@ ghost use Rattle.aio_model.specs.LoopHistory.{ToCall, ToCallIdle, ToDelete};
 ghost use Rattle.aio_model.specs.InFlight.{AtRest, Announced as announced};
 ghost use Rattle.aio_model.specs.LoopFlags.{are_due};
 ghost use Rattle.aio_model.specs.LoopLists.{out_of};
+ghost use Rattle.aio_model.specs.LoopLegal.{IsLegal};
 ghost use Rattle.aio_model.specs.LoopFrame.{Frame, Body, lent_of};
 ghost use Rattle.aio_model.specs.LoopFrame.{Turn as OneTurn};
 ghost use Rattle.aio_core.specs.Known.{empty_stage};
@@ -44,7 +45,9 @@ fn enter<J: Job + Drop, R: Runner<J>>(
 ) -> Turn
     requires can_run { R.can_run runner.old table.now.sizes.handles }
     requires seat { IsSeatOf table.now seat.old }
+    requires home { (seat.old.known.first ≡ 64) × (seat.old.known.count ≡ 1) }
     requires rest { seat.old.known.phase ≡ AtRest }
+    requires legal { IsLegal table.now.sizes seat.old.known.seen }
     requires handle { bh < table.now.sizes.handles }
     ensures can_run { R.can_run runner.new table.now.sizes.handles }
     ensures seat { IsSeatOf table.now seat.new }

@@ -1,5 +1,6 @@
 ghost use Rattle.std.specs.Prelude.{◌≡◌, ◌<◌, option_map};
 ghost use Rattle.aio_model.specs.InFlight.{AtRest};
+ghost use Rattle.aio_model.specs.LoopLegal.{IsLegal};
 ghost use Rattle.aio_model.specs.LoopFrame.{lent_of};
 ghost use Rattle.aio_core.specs.Words.{index_count};
 ghost use Rattle.aio_core.specs.Calls.{IsSeatOf};
@@ -25,7 +26,9 @@ pub trait Runner<J: Job> {
     fn run(&mut self, table: &LoopTable<J>, seat: &mut Seat<J>, call: &mut Call<J>) -> Turn
         requires can_run { can_run self.old table.now.sizes.handles }
         requires seat { IsSeatOf table.now seat.old }
+        requires home { (seat.old.known.first ≡ 64) × (seat.old.known.count ≡ 1) }
         requires rest { seat.old.known.phase ≡ AtRest }
+        requires legal { IsLegal table.now.sizes seat.old.known.seen }
         requires index { call.old.bh < index_count table.now.sizes }
         ensures can_run { can_run self.new table.now.sizes.handles }
         ensures seat { IsSeatOf table.now seat.new }

@@ -1,4 +1,4 @@
-ghost use Rattle.std.specs.Prelude.{◌≡◌, ◌<◌, None, IfOk, MatchOption, MatchResult};
+ghost use Rattle.std.specs.Prelude.{◌≡◌, ◌<◌, None, MatchOption, MatchResult};
 ghost use Rattle.aio_model.specs.InFlight.{AtRest, Announced as announced, Linked};
 ghost use Rattle.aio_core.specs.Known.{empty_stage};
 ghost use Rattle.aio_core.specs.Calls.{IsSeatOf};
@@ -34,6 +34,44 @@ fn a_table_has_4096_indices_and_64_events_at_most(rt: HostRuntime) -> Result<(),
 fn a_job_has_a_number(rt: HostRuntime) {
     assert_eq!(rt; ().number(), 0);
     assert_eq!(rt; u64::MAX.number(), u64::MAX);
+}
+
+/// Splits the seat, and compares how many numbers the other one owns, if there is one.
+fn split_off(rt: &impl Abort, table: &LoopTable<u64>, seat: &mut Seat<u64>, want: Option<u32>)
+    requires seat { IsSeatOf table.now seat.old }
+    requires rest { seat.old.known.phase ≡ AtRest }
+    ensures seat { IsSeatOf table.now seat.new }
+    ensures rest { seat.new.known.phase ≡ AtRest }
+{
+    match table.split(seat) {
+        Some(other) => assert_eq!(rt; Some(other.count()), want),
+        None => assert_eq!(rt; None, want),
+    }
+}
+
+#[test]
+fn a_seat_splits_in_halves_and_joins(rt: HostRuntime) -> Result<(), Fail> {
+    let Ok(built) = LoopTable::<u64>::build(rt.alloc(), 1, 0, 0) else {
+        return Err(Fail::from("no memory"));
+    };
+    let table = built.table;
+    let mut seat = built.seat;
+    assert_eq!(rt; (seat.first(), seat.count()), (0, 64));
+    let Some(other) = table.split(&mut seat) else {
+        return Err(Fail::from("no halves"));
+    };
+    assert_eq!(rt; (seat.first(), seat.count()), (0, 32));
+    assert_eq!(rt; (other.first(), other.count()), (32, 32));
+    table.join(&mut seat, other);
+    assert_eq!(rt; (seat.first(), seat.count()), (0, 64));
+    split_off(&rt, &table, &mut seat, Some(32));
+    split_off(&rt, &table, &mut seat, Some(16));
+    split_off(&rt, &table, &mut seat, Some(8));
+    split_off(&rt, &table, &mut seat, Some(4));
+    split_off(&rt, &table, &mut seat, Some(2));
+    split_off(&rt, &table, &mut seat, Some(1));
+    split_off(&rt, &table, &mut seat, None);
+    Ok(())
 }
 
 /// Notes the flags that the next dequeue finds, at its handle.
