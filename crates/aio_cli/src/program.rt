@@ -152,8 +152,9 @@ fn run_bells<S: Source, K: Sink, D: Device>(
 /// replies to the sink; or, where the word is `--mode=bh`, reads a loop script, does its commands on a loop of one
 /// thread, and writes what they answer.
 ///
-/// The words are those of the command line behind the program's name: none, `--mode=run` or `--mode=bh`. The clocks and the gate aren't used yet: a line
-/// that asks for a delay or a move is passed over, and requests are served in the order of their lines.
+/// The words are those of the command line behind the program's name: none, `--mode=run` or `--mode=bh`. The clocks and
+/// the gate aren't used yet: a line that asks for a delay or a move is passed over, and requests are served in the order
+/// of their lines.
 /// The device comes back at every answer. An answer is looked for in this order: Usage, then ReadFault or TooLong,
 /// BadScript, DeviceFault, TooLarge, and once the script was served WriteFault; NoMemory may stand in place of any from
 /// the reading to the serving.
