@@ -1,12 +1,12 @@
 -- How a callback shows that it gives back the seat that it was lent: by the steps that it made, one after another.
-use Rattle.std.proofs.Common.{◌≡◌, ℕ, ◌<◌, Bool, true, false, cond, ◌&&◌, eqb, List, [], ◌∷◌, ◌++◌, refl, sym, ap, ◌∙◌, subst, append_assoc, arith}
+use Rattle.std.proofs.Common.{◌≡◌, ℕ, ◌<◌, true, cond, eqb, List, [], ◌∷◌, ◌++◌, refl, sym, ap, ◌∙◌, subst, append_assoc}
 use Rattle.std.proofs.lemmas.Bool.{eq-eqb, and_from, and_parts}
 use Rattle.aio_model.specs.declared.flags.Flags.{Flags}
-use Rattle.aio_model.specs.LoopHistory.{Sizes, Entry, Enqueue, Put, Cancel, History}
+use Rattle.aio_model.specs.LoopHistory.{Entry, Enqueue, Put, Cancel, History}
 use Rattle.aio_model.specs.LoopHistory.{Asked}
 use Rattle.aio_model.specs.LoopLists.{seat_of}
 use Rattle.aio_model.specs.LoopLegal.{IsLegal}
-use Rattle.aio_model.specs.LoopSeats.{entries_of, own_entries, StandsInHistory}
+use Rattle.aio_model.specs.LoopSeats.{entries_of, StandsInHistory}
 use Rattle.aio_model.specs.LoopFrame.{is_of_callback, are_of_callback}
 use Rattle.aio_model.specs.InFlight.{Phase, AtRest, Announced}
 use Rattle.aio_core.specs.Known.{Known, Done, numbers_of}
