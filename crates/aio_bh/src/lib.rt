@@ -2,6 +2,8 @@
 #![tactic(auto)]
 
 mod call;
+#[cfg(test)]
+mod compare_tests;
 mod enqueue;
 mod polled;
 mod polls;
