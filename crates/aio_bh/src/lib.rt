@@ -6,6 +6,8 @@ mod call;
 mod compare_tests;
 mod enqueue;
 mod polled;
+#[cfg(test)]
+mod polling_tests;
 mod polls;
 mod put;
 mod runner;
