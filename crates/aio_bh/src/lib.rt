@@ -2,8 +2,12 @@
 #![tactic(auto)]
 
 mod call;
+#[cfg(test)]
+mod compare_tests;
 mod enqueue;
 mod polled;
+#[cfg(test)]
+mod polling_tests;
 mod polls;
 mod put;
 mod runner;

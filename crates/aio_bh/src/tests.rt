@@ -11,6 +11,8 @@ use aio_core::{Built, Home, LoopTable, Seat};
 use aio_model::Kind;
 use std::alloc::Global;
 use std::process::Abort;
+use std::sync::Wait;
+use std::test::Fail;
 
 /// Announces a bottom half and pushes it, on one thread.
 fn push(rt: &impl Abort, table: &LoopTable<()>, seat: &mut Seat<()>, bh: u32, kind: Kind)
@@ -34,17 +36,17 @@ fn push(rt: &impl Abort, table: &LoopTable<()>, seat: &mut Seat<()>, bh: u32, ki
 
 /// Callbacks that note which they are, and do the same each: schedule one, or cancel one, or nest.
 #[derive(Drop)]
-struct Notes<'a, T: Abort> {
+pub(crate) struct Notes<'a, T: Abort> {
     rt: &'a T,
-    called: [u32; 8],
-    count: usize,
+    pub(crate) called: [u32; 8],
+    pub(crate) count: usize,
     schedules: Option<u32>,
     cancels: Option<u32>,
     nests: bool,
 }
 
 impl<'a, T: Abort> Notes<'a, T> {
-    fn of(rt: &'a T) -> Notes<'a, T>
+    pub(crate) fn of(rt: &'a T) -> Notes<'a, T>
         ensures idle { (result.schedules ≡ None) × (result.cancels ≡ None) }
     {
         Notes {
@@ -57,7 +59,7 @@ impl<'a, T: Abort> Notes<'a, T> {
         }
     }
 
-    fn note(&mut self, bh: u32)
+    pub(crate) fn note(&mut self, bh: u32)
         ensures same { (self.new.schedules ≡ self.old.schedules) × (self.new.cancels ≡ self.old.cancels) }
     {
         if self.count < 8 {
@@ -193,4 +195,56 @@ fn one_that_a_callback_cancels_is_not_called(rt: HostRuntime) {
         (1, true, 1)
     );
     assert_eq!(rt; (notes.count, notes.called[0]), (1, 1));
+}
+
+/// Two seats want to push at once: 0 is aimed at the empty list, and 1 is pushed before it.
+fn lose_once<R: Abort + Wait>(
+    rt: &R,
+    table: &LoopTable<()>,
+    seat: &mut Seat<()>,
+    other: &mut Seat<()>,
+)
+    requires handles { table.now.sizes.handles ≡ 4 }
+    requires seat { IsSeatOf table.now seat.old }
+    requires other { IsSeatOf table.now other.old }
+    requires rest { (seat.old.known.phase ≡ AtRest) × (other.old.known.phase ≡ AtRest) }
+    ensures other { IsSeatOf table.now other.new }
+    ensures first { other.new.known.first ≡ other.old.known.first }
+    ensures count { other.new.known.count ≡ other.old.known.count }
+    ensures stage { other.new.known.stage ≡ other.old.known.stage }
+    ensures rest { other.new.known.phase ≡ AtRest }
+{
+    let (_, owed) = table.announce(seat, 0, Kind::Sched);
+    let Some(owed) = owed else {
+        panic!(rt; "0 was pending");
+    };
+    let aimed = table.aim(seat, owed);
+    table.schedule(rt, other, 1);
+    match table.link(seat, aimed) {
+        Ok(()) => panic!(rt; "0 was pushed in front of a head that had moved on"),
+        Err(owed) => {
+            assert_eq!(rt; owed.bh(), 0);
+            if let Err(owed) = table.push_owed(seat, owed) {
+                panic!(rt; "{} is still owed", owed.bh());
+            }
+        }
+    }
+}
+
+#[test]
+fn a_push_that_lost_is_owed(rt: HostRuntime) -> Result<(), Fail> {
+    let Ok(built) = LoopTable::<()>::build(rt.alloc(), 4, 0, 0) else {
+        return Err(Fail::from("no memory"));
+    };
+    let Built {
+        table,
+        mut home,
+        mut seat,
+    } = built;
+    let mut notes = Notes::of(&rt);
+    lose_once(&rt, &table, &mut seat, &mut home.seat);
+    let polled = table.poll(&mut home, &mut notes);
+    assert_eq!(rt; (polled.ran, notes.count), (2, 2));
+    assert_eq!(rt; notes.called, [0, 1, 0, 0, 0, 0, 0, 0]);
+    Ok(())
 }
