@@ -11,6 +11,7 @@ use Rattle.aio_model.specs.LoopFrame.{is_of_callback, are_of_callback}
 use Rattle.aio_model.specs.InFlight.{Phase, AtRest, Announced}
 use Rattle.aio_core.specs.Known.{Known, Done, numbers_of}
 use Rattle.aio_core.specs.Standing.{Makes, Enqueues, Aims, Pushes, Cancels}
+use Rattle.aio_bh.specs.HomeSteps.{home_steps}
 use Rattle.aio_bh.specs.Running.{GivesBack}
 use Rattle.aio_bh.proofs.Entries.{entries_of-append, none_of_own}
 
@@ -23,6 +24,7 @@ pub record GoesThrough (made : History) (before after : Known) : Type 0 where
   pub mine : after.mine ≡ made ++ before.mine
   pub legal : IsLegal before.sizes after.seen
   pub rest : after ≡ record before { seen = after.seen; mine = after.mine; did = after.did; phase = after.phase; told = after.told }
+  pub steps : home_steps after.did ≡ home_steps before.did
 
 are_of_callback-append : (newer older : History) → are_of_callback newer ≡ true → are_of_callback older ≡ true → are_of_callback (newer ++ older) ≡ true
 are_of_callback-append [] older n o = o
@@ -41,11 +43,12 @@ GoesThrough-then older newer a b c first then =
       mine = then.mine ∙ ap (λ l. newer ++ l) first.mine ∙ sym (append_assoc newer older a.mine);
       legal = subst (λ s. IsLegal s c.seen) (ap (λ (k : Known). k.sizes) first.rest) then.legal;
       rest = then.rest ∙ ap (λ (k : Known). record k { seen = c.seen; mine = c.mine; did = c.did; phase = c.phase; told = c.told }) first.rest;
+      steps = then.steps ∙ first.steps;
     }
 
 -- one step that made an entry
-GoesThrough-made : (e : Entry) (a b : Known) → 0 < a.count → seat_of e ≡ a.first → is_of_callback e ≡ true → Makes e a b → b ≡ record a { seen = b.seen; mine = b.mine; did = b.did; phase = b.phase; told = b.told } → GoesThrough (e ∷ []) a b
-GoesThrough-made e a b some by_it fits makes rest =
+GoesThrough-made : (e : Entry) (a b : Known) → 0 < a.count → seat_of e ≡ a.first → is_of_callback e ≡ true → Makes e a b → b ≡ record a { seen = b.seen; mine = b.mine; did = b.did; phase = b.phase; told = b.told } → home_steps b.did ≡ home_steps a.did → GoesThrough (e ∷ []) a b
+GoesThrough-made e a b some by_it fits makes rest steps =
     let own : eqb (seat_of e) a.first ≡ true = eq-eqb (seat_of e) a.first by_it in
     let none : entries_of a.first makes.others ≡ [] = none_of_own (numbers_of a) makes.others some makes.not_own in
     record {
@@ -56,6 +59,7 @@ GoesThrough-made e a b some by_it fits makes rest =
       mine = makes.mine;
       legal = makes.legal;
       rest = rest;
+      steps = steps;
     }
 
 -- what a step of a seat changes, in that form
@@ -68,19 +72,19 @@ changed a b steps phase h =
 
 pub GoesThrough-enqueue : (i : ℕ) (asked : Asked) (flags : Flags) (a b : Known) → 0 < a.count → Enqueues i asked flags a b → GoesThrough (Enqueue i asked a.first flags ∷ []) a b
 GoesThrough-enqueue i asked flags a b some h =
-    GoesThrough-made (Enqueue i asked a.first flags) a b some refl refl h.makes (changed a b _ _ h.rest)
+    GoesThrough-made (Enqueue i asked a.first flags) a b some refl refl h.makes (changed a b _ _ h.rest) (ap (λ (k : Known). home_steps k.did) h.rest)
 
 pub GoesThrough-push : (i found : ℕ) (a b : Known) → 0 < a.count → Pushes i found a b → GoesThrough (Put i a.first ∷ []) a b
 GoesThrough-push i found a b some h =
-    GoesThrough-made (Put i a.first) a b some refl refl h.makes (changed a b _ _ h.rest)
+    GoesThrough-made (Put i a.first) a b some refl refl h.makes (changed a b _ _ h.rest) (ap (λ (k : Known). home_steps k.did) h.rest)
 
 pub GoesThrough-cancel : (i : ℕ) (flags : Flags) (a b : Known) → 0 < a.count → Cancels i flags a b → GoesThrough (Cancel i a.first flags ∷ []) a b
 GoesThrough-cancel i flags a b some h =
-    GoesThrough-made (Cancel i a.first flags) a b some refl refl h.makes (changed a b _ a.phase h.rest)
+    GoesThrough-made (Cancel i a.first flags) a b some refl refl h.makes (changed a b _ a.phase h.rest) (ap (λ (k : Known). home_steps k.did) h.rest)
 
 -- a step that makes no entry
-quiet : (a b : Known) (steps : List Done) (phase : Phase) → IsLegal a.sizes a.seen → b ≡ record a { did = steps; phase = phase } → GoesThrough [] a b
-quiet a b steps phase legal h =
+quiet : (a b : Known) (steps : List Done) (phase : Phase) → IsLegal a.sizes a.seen → b ≡ record a { did = steps; phase = phase } → home_steps steps ≡ home_steps a.did → GoesThrough [] a b
+quiet a b steps phase legal h none =
     let same_seen : b.seen ≡ a.seen = ap (λ (k : Known). k.seen) h in
     let same_mine : b.mine ≡ a.mine = ap (λ (k : Known). k.mine) h in
     record {
@@ -91,10 +95,11 @@ quiet a b steps phase legal h =
       mine = same_mine;
       legal = subst (IsLegal a.sizes) (sym same_seen) legal;
       rest = changed a b steps phase (h ∙ ap (λ l. record a { seen = l; did = steps; phase = phase }) (sym same_seen) ∙ ap (λ m. record a { seen = b.seen; mine = m; did = steps; phase = phase }) (sym same_mine));
+      steps = ap (λ (k : Known). home_steps k.did) h ∙ none;
     }
 
 pub GoesThrough-aim : (i found : ℕ) (a b : Known) → IsLegal a.sizes a.seen → Aims i found a b → GoesThrough [] a b
-GoesThrough-aim i found a b legal h = quiet a b _ _ legal h.rest
+GoesThrough-aim i found a b legal h = quiet a b _ _ legal h.rest refl
 
 -- back at rest
 pub GivesBack-of : (made : History) (a b : Known) → a.phase ≡ AtRest → b.phase ≡ AtRest → GoesThrough made a b → GivesBack made a b
@@ -106,11 +111,12 @@ GivesBack-of made a b rest still through = record {
   mine = through.mine;
   legal = through.legal;
   rest = through.rest ∙ ap (λ p. record a { seen = b.seen; mine = b.mine; did = b.did; phase = p; told = b.told }) (still ∙ sym rest);
+  steps = through.steps;
 }
 
 -- by what a call says that stands in the history
-pub GivesBack-stands : (made : History) (a b : Known) → are_of_callback made ≡ true → StandsInHistory a.sizes a.first made a.seen a.mine b.seen b.mine → b ≡ record a { seen = b.seen; mine = b.mine; did = b.did; told = b.told } → GivesBack made a b
-GivesBack-stands made a b fits stands rest = record {
+pub GivesBack-stands : (made : History) (a b : Known) → are_of_callback made ≡ true → StandsInHistory a.sizes a.first made a.seen a.mine b.seen b.mine → b ≡ record a { seen = b.seen; mine = b.mine; did = b.did; told = b.told } → home_steps b.did ≡ home_steps a.did → GivesBack made a b
+GivesBack-stands made a b fits stands rest steps = record {
   between = stands.rest;
   just_these = stands.just_these;
   of_callback = fits;
@@ -118,6 +124,7 @@ GivesBack-stands made a b fits stands rest = record {
   mine = stands.mine_grows;
   legal = stands.legal;
   rest = rest;
+  steps = steps;
 }
 
 -- an index was enqueued, and pushed
@@ -143,4 +150,4 @@ GivesBack-canceled i flags a b some rest cancels =
     GivesBack-of (Cancel i a.first flags ∷ []) a b rest (ap (λ (k : Known). k.phase) cancels.rest ∙ rest) (GoesThrough-cancel i flags a b some cancels)
 
 pub GivesBack-nothing : (a : Known) → IsLegal a.sizes a.seen → GivesBack [] a a
-GivesBack-nothing a legal = record { between = []; just_these = refl; of_callback = refl; seen = refl; mine = refl; legal = legal; rest = refl }
+GivesBack-nothing a legal = record { between = []; just_these = refl; of_callback = refl; seen = refl; mine = refl; legal = legal; rest = refl; steps = refl }

@@ -1,3 +1,4 @@
+pub mod HomeSteps
 pub mod Standing
 pub mod Trying
 pub mod Scheduled

@@ -10,10 +10,12 @@ use Rattle.aio_model.specs.LoopFrame.{Answer, Ended, Nests, Place, Entered, Make
 use Rattle.aio_model.proofs.Frames.{Runs-append, Turns-more, Frame-from}
 use Rattle.aio_core.specs.Known.{Known, Done, Stage}
 use Rattle.aio_bh.specs.declared.polled.Polled.{Polled}
+use Rattle.aio_bh.specs.HomeSteps.{home_steps, steps_for}
 use Rattle.aio_bh.specs.Running.{GivesBack, RunsOnce}
 use Rattle.aio_bh.specs.Polling.{counted, GoesOn}
 use Rattle.aio_bh.specs.SoFar.{Far, far, place_of, Counts, EntersSome, Goes, TakesNext, Calls, TakesAndSome, noted}
 use Rattle.aio_bh.proofs.Entries.{entries_of-append}
+use Rattle.aio_bh.proofs.HomeSteps.{added_up, none_added, more_added, steps_for-append, steps_for-callback}
 
 -- What the home's seat goes through.
 
@@ -29,7 +31,8 @@ changes a b steps stage h =
     h ∙ ap (λ d. record a { seen = b.seen; mine = b.mine; did = d; stage = stage }) (sym did_is) ∙ ap (λ s. record a { seen = b.seen; mine = b.mine; did = b.did; stage = s }) (sym stage_is) ∙ ap (λ t. record a { seen = b.seen; mine = b.mine; did = b.did; stage = b.stage; told = t }) (sym told_is)
 
 pub GoesOn-same : (a : Known) → IsLegal a.sizes a.seen → GoesOn a a
-GoesOn-same a legal = record { between = []; seen = refl; mine = refl; legal = legal; rest = refl }
+GoesOn-same a legal =
+    record { between = []; seen = refl; mine = refl; legal = legal; rest = refl; steps = omega arith }
 
 pub GoesOn-then : (a b c : Known) → GoesOn a b → GoesOn b c → GoesOn a c
 GoesOn-then a b c first then = record {
@@ -38,6 +41,7 @@ GoesOn-then a b c first then = record {
   mine = then.mine ∙ ap (λ l. entries_of home then.between ++ l) first.mine ∙ sym (append_assoc (entries_of home then.between) (entries_of home first.between) a.mine) ∙ ap (λ l. l ++ a.mine) (sym (entries_of-append home then.between first.between));
   legal = subst (λ s. IsLegal s c.seen) (same_sizes a b first) then.legal;
   rest = then.rest ∙ ap (λ (k : Known). record k { seen = c.seen; mine = c.mine; did = c.did; stage = c.stage; told = c.told }) first.rest;
+  steps = added_up (home_steps c.did) (home_steps b.did) (home_steps a.did) (steps_for (entries_of home then.between)) (steps_for (entries_of home first.between)) _ then.steps first.steps (ap steps_for (entries_of-append home then.between first.between) ∙ steps_for-append (entries_of home then.between) (entries_of home first.between));
 }
 
 -- Entries into the runner.
@@ -99,6 +103,7 @@ GoesOn-back made a b first back = record {
   mine = back.mine ∙ ap (λ l. l ++ a.mine) (sym back.just_these ∙ ap (λ n. entries_of n back.between) first);
   legal = back.legal;
   rest = back.rest ∙ ap (λ s. record a { seen = b.seen; mine = b.mine; did = b.did; stage = s; told = b.told }) (sym (ap (λ (k : Known). k.stage) back.rest));
+  steps = none_added (home_steps b.did) (home_steps a.did) _ back.steps (ap steps_for (ap (λ n. entries_of n back.between) (sym first) ∙ back.just_these) ∙ steps_for-callback made back.of_callback);
 }
 
 pub Goes-enter : {R : Type 0} (does : R → Entered → R → Type 0) (bh : ℕ) (job : Option ℕ) (first : Bool) (nests : ℕ) (answer : Answer) (a b : Known) (r s : R) (polled : Polled) → a.first ≡ 64 → RunsOnce does (lent_of bh job first nests) answer r a s b → Goes (Enters (lent_of bh job first nests) answer) does (far a r polled) (far b s (noted first answer nests polled))
@@ -153,6 +158,7 @@ GoesOn-next i ran a b p q next = record {
   mine = next.mine ∙ ap (λ (l : History). Dequeue i ran ∷ (l ++ a.mine)) (sym next.not_home);
   legal = next.legal;
   rest = next.rest;
+  steps = more_added (home_steps b.did) (home_steps a.did) 2 (steps_for (entries_of home next.others)) next.steps (ap steps_for next.not_home);
 }
 
 pub Goes-turn : {R : Type 0} (sizes : Sizes) (frame : Place → Place → Type 0) (nests i : ℕ) (ran : Bool) (does : R → Entered → R → Type 0) (a b c : Known) (r s : R) (p q t : Polled) → a.sizes ≡ sizes → TakesNext i ran a b p q → Goes (Calls frame nests i ran) does (far b r q) (far c s t) → Goes (Turn sizes frame nests) does (far a r p) (far c s t)

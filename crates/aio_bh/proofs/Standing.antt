@@ -9,6 +9,7 @@ use Rattle.aio_model.specs.InFlight.{Phase}
 use Rattle.aio_core.specs.Known.{Done, Known, numbers_of}
 use Rattle.aio_core.specs.Standing.{Makes, Enqueues, Aims}
 use Rattle.aio_core.proofs.Entries.{owns_first}
+use Rattle.aio_bh.specs.HomeSteps.{home_steps}
 use Rattle.aio_bh.specs.Enqueuing.{MissesOnce, PushesOnce, Tries, PushesAtLast, Schedules, SchedulesAtOnce, SchedulesLater, enqueue_entries, Stands}
 
 chosen : (b : Bool) (e : Entry) (xs ys zs : History) → zs ≡ xs ++ ys → cond b (e ∷ zs) zs ≡ cond b (e ∷ xs) xs ++ ys
@@ -67,6 +68,7 @@ pub record IsSame (v w : Known) : Type 0 where
   pub stage : w.stage ≡ v.stage
   pub sleep : w.sleep ≡ v.sleep
   pub told : w.told ≡ v.told
+  pub steps : home_steps w.did ≡ home_steps v.did
 
 -- a step that makes no entry
 pub record IsQuiet (v w : Known) : Type 0 where
@@ -80,15 +82,15 @@ same_rest v w h =
 
 pub same_then : (u v w : Known) → IsSame u v → IsSame v w → IsSame u w
 same_then u v w h k =
-    record { sizes = k.sizes ∙ h.sizes; first = k.first ∙ h.first; count = k.count ∙ h.count; stage = k.stage ∙ h.stage; sleep = k.sleep ∙ h.sleep; told = k.told ∙ h.told }
+    record { sizes = k.sizes ∙ h.sizes; first = k.first ∙ h.first; count = k.count ∙ h.count; stage = k.stage ∙ h.stage; sleep = k.sleep ∙ h.sleep; told = k.told ∙ h.told; steps = k.steps ∙ h.steps }
 
 pub quiet_then : (u v w : Known) → IsQuiet u v → IsQuiet v w → IsQuiet u w
 quiet_then u v w h k =
     record { same = same_then u v w h.same k.same; seen = k.seen ∙ h.seen; mine = k.mine ∙ h.mine }
 
 -- a change of what was seen, done and due alone
-changed : (v w : Known) (s m : History) (d : List Done) (p : Phase) → w ≡ record v { seen = s; mine = m; did = d; phase = p } → IsSame v w
-changed v w s m d p e =
+changed : (v w : Known) (s m : History) (d : List Done) (p : Phase) → w ≡ record v { seen = s; mine = m; did = d; phase = p } → home_steps d ≡ home_steps v.did → IsSame v w
+changed v w s m d p e none =
     record {
       sizes = ap (λ (k : Known). k.sizes) e;
       first = ap (λ (k : Known). k.first) e;
@@ -96,22 +98,23 @@ changed v w s m d p e =
       stage = ap (λ (k : Known). k.stage) e;
       sleep = ap (λ (k : Known). k.sleep) e;
       told = ap (λ (k : Known). k.told) e;
+      steps = ap (λ (k : Known). home_steps k.did) e ∙ none;
     }
 
-quieted : (v w : Known) (d : List Done) (p : Phase) → w ≡ record v { did = d; phase = p } → IsQuiet v w
-quieted v w d p e =
-    record { same = changed v w v.seen v.mine d p e; seen = ap (λ (k : Known). k.seen) e; mine = ap (λ (k : Known). k.mine) e }
+quieted : (v w : Known) (d : List Done) (p : Phase) → w ≡ record v { did = d; phase = p } → home_steps d ≡ home_steps v.did → IsQuiet v w
+quieted v w d p e none =
+    record { same = changed v w v.seen v.mine d p e none; seen = ap (λ (k : Known). k.seen) e; mine = ap (λ (k : Known). k.mine) e }
 
 aims_quiet : (i head : ℕ) (v w : Known) → Aims i head v w → IsQuiet v w
-aims_quiet i head v w aims = quieted v w _ _ aims.rest
+aims_quiet i head v w aims = quieted v w _ _ aims.rest refl
 
 missed_quiet : (i : ℕ) (v w : Known) → MissesOnce i v w → IsQuiet v w
 missed_quiet i v w once =
-    quiet_then v once.aimed w (aims_quiet i once.head v once.aimed once.aims) (quieted once.aimed w _ _ once.missed.misses.rest)
+    quiet_then v once.aimed w (aims_quiet i once.head v once.aimed once.aims) (quieted once.aimed w _ _ once.missed.misses.rest refl)
 
 quiet_refl : (v : Known) → IsQuiet v v
 quiet_refl v =
-    record { same = record { sizes = refl; first = refl; count = refl; stage = refl; sleep = refl; told = refl }; seen = refl; mine = refl }
+    record { same = record { sizes = refl; first = refl; count = refl; stage = refl; sleep = refl; told = refl; steps = refl }; seen = refl; mine = refl }
 
 tries_quiet : (i misses : ℕ) (v w : Known) → Tries i misses v w → IsQuiet v w
 tries_quiet i zero v w h = subst (IsQuiet v) (sym h) (quiet_refl v)
@@ -135,7 +138,7 @@ at_quiet v a w entries quiet h =
 pub pushes_once_stands : (i : ℕ) (v w : Known) → PushesOnce i v w → AtEnd v (Put i v.first ∷ []) w × IsSame v w
 pushes_once_stands i v w once =
     let aimed = aims_quiet i once.head v once.aimed once.aims in
-    (at_quiet v once.aimed w (λ n. Put i n ∷ []) aimed (makes_stand (Put i once.aimed.first) once.aimed w once.pushes.makes refl), same_then v once.aimed w aimed.same (changed once.aimed w _ _ _ _ once.pushes.rest))
+    (at_quiet v once.aimed w (λ n. Put i n ∷ []) aimed (makes_stand (Put i once.aimed.first) once.aimed w once.pushes.makes refl), same_then v once.aimed w aimed.same (changed once.aimed w _ _ _ _ once.pushes.rest refl))
 
 pub pushes_at_last_stands : (i : ℕ) (v w : Known) → PushesAtLast i v w → AtEnd v (Put i v.first ∷ []) w × IsSame v w
 pushes_at_last_stands i v w run =
@@ -146,7 +149,7 @@ pushes_at_last_stands i v w run =
 -- an enqueue, and then a push
 pub enqueue_then_push : (i : ℕ) (asked : Asked) (flags : Flags) (v a w : Known) → Enqueues i asked flags v a → AtEnd a (Put i a.first ∷ []) w × IsSame a w → AtEnd v (Put i v.first ∷ Enqueue i asked v.first flags ∷ []) w × IsSame v w
 enqueue_then_push i asked flags v a w enqueues push =
-    let same = changed v a _ _ _ _ enqueues.rest in
+    let same = changed v a _ _ _ _ enqueues.rest refl in
     let first = makes_stand (Enqueue i asked v.first flags) v a enqueues.makes refl in
     let one = subst (λ z. StandsAtTheEnd z a.first (Put i a.first ∷ []) a.seen a.mine w.seen w.mine) same.sizes push.0 in
     let second : StandsAtTheEnd v.sizes v.first (Put i v.first ∷ []) a.seen a.mine w.seen w.mine = subst (λ n. StandsAtTheEnd v.sizes n (Put i n ∷ []) a.seen a.mine w.seen w.mine) same.first one in
@@ -154,10 +157,10 @@ enqueue_then_push i asked flags v a w enqueues push =
 
 pub enqueue_alone : (i : ℕ) (asked : Asked) (flags : Flags) (v a : Known) → Enqueues i asked flags v a → AtEnd v (Enqueue i asked v.first flags ∷ []) a × IsSame v a
 enqueue_alone i asked flags v a enqueues =
-    (makes_stand (Enqueue i asked v.first flags) v a enqueues.makes refl, changed v a _ _ _ _ enqueues.rest)
+    (makes_stand (Enqueue i asked v.first flags) v a enqueues.makes refl, changed v a _ _ _ _ enqueues.rest refl)
 
 to_stands : (entries : History) (v w : Known) → AtEnd v entries w × IsSame v w → Stands entries v w
-to_stands entries v w h = record { stands = h.0; rest = same_rest v w h.1 }
+to_stands entries v w h = record { stands = h.0; rest = same_rest v w h.1; steps = h.1.steps }
 
 -- by whether the index was pending
 by_pending : (b : Bool) (i : ℕ) (asked : Asked) (flags : Flags) (v a w : Known) (P : Type 0) → Enqueues i asked flags v a → MatchBool b (w ≡ a) P → (P → AtEnd a (Put i a.first ∷ []) w × IsSame a w) → Stands (cond b (Enqueue i asked v.first flags ∷ []) (Put i v.first ∷ Enqueue i asked v.first flags ∷ [])) v w

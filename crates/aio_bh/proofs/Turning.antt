@@ -13,10 +13,12 @@ use Rattle.aio_core.specs.Known.{Known, empty_stage, numbers_of}
 use Rattle.aio_core.specs.Standing.{is_empty, Dequeues}
 use Rattle.aio_core.specs.Calls.{TableState, SeatState, IsSeatOf, HasTaken, HasLifted}
 use Rattle.aio_bh.specs.declared.polled.Polled.{Polled}
+use Rattle.aio_bh.specs.HomeSteps.{home_steps, steps_for}
 use Rattle.aio_bh.specs.Running.{GivesBack}
 use Rattle.aio_bh.specs.Polling.{GoesOn}
 use Rattle.aio_bh.specs.SoFar.{far, place_of, Goes, IsBetween, TakesNext, TakesAndSome}
 use Rattle.aio_bh.proofs.Entries.{none_of_home, out_beside, out_kept, empty_of}
+use Rattle.aio_bh.proofs.HomeSteps.{more_added, two_steps}
 use Rattle.aio_bh.proofs.Parts.{changes, EntersSome-same, some-none}
 
 -- The take.
@@ -31,6 +33,7 @@ GoesOn-take a b first count taken =
       mine = makes.mine ∙ ap (λ (l : History). Take ∷ (l ++ a.mine)) (sym none);
       legal = makes.legal;
       rest = changes a b _ _ taken.takes.rest;
+      steps = more_added (home_steps b.did) (home_steps a.did) 1 (steps_for (entries_of home makes.others)) (ap (λ (k : Known). home_steps k.did) taken.takes.rest) (ap steps_for none);
     }
 
 pub Goes-take : {R : Type 0} (sizes : Sizes) (frame : Place → Place → Type 0) (nests : ℕ) (does : R → Entered → R → Type 0) (a b : Known) (r : R) (p : Polled) → a.first ≡ 64 → a.count ≡ 1 → HasTaken a b → Goes (TakesAndSome sizes frame nests) does (far a r p) (far b r p)
@@ -88,6 +91,7 @@ TakesNext-of i was a b c p first count lifted dequeues =
       handle = subst (λ (z : Sizes). i < z.handles) same_sizes dequeues.handle;
       was_out = sym (out_beside a.seen makes.others none) ∙ out_of-dequeue (makes.others ++ a.seen) i (calls was) here.0.0 ∙ ap (λ h. i ∷ out_of h) (sym seen);
       rest = changes b c _ _ dequeues.rest ∙ ap (λ (k : Known). record k { seen = c.seen; mine = c.mine; did = c.did; stage = c.stage; told = c.told }) up;
+      steps = two_steps (home_steps c.did) (home_steps b.did) (home_steps a.did) (ap (λ (k : Known). home_steps k.did) dequeues.rest) (ap (λ (k : Known). home_steps k.did) up);
       progress = ap (λ b. record p { progress = p.progress || (calls was && not b) }) (ap (λ (f : Flags). f.idle) dequeues.were ∙ ap (λ h. is_idle i h) before);
     }
 

@@ -6,6 +6,7 @@ use Rattle.aio_model.specs.LoopSeats.{StandsAtTheEnd}
 use Rattle.aio_core.specs.Known.{Known}
 use Rattle.aio_core.specs.Standing.{Enqueues, Aims, Pushes}
 use Rattle.aio_core.specs.Calls.{IsMissed}
+use Rattle.aio_bh.specs.HomeSteps.{home_steps}
 
 -- one try that found another head than the one that it had loaded
 pub record MissesOnce (i : ℕ) (before after : Known) : Type 0 where
@@ -58,7 +59,9 @@ abbrev pub enqueue_entries : ℕ → Asked → ℕ → Flags → History
 enqueue_entries i asked seat flags =
     if flags.pending then Enqueue i asked seat flags ∷ [] else Put i seat ∷ Enqueue i asked seat flags ∷ []
 
--- just these entries of the seat stand in the history, and all else that it knows is as before
+-- just these entries of the seat stand in the history, and all else that it knows is as before; no step that is the home's alone was
+-- made
 pub record Stands (entries : History) (before after : Known) : Type 0 where
   pub stands : StandsAtTheEnd before.sizes before.first entries before.seen before.mine after.seen after.mine
   pub rest : after ≡ record before { seen = after.seen; mine = after.mine; did = after.did; phase = after.phase }
+  pub steps : home_steps after.did ≡ home_steps before.did

@@ -1,3 +1,4 @@
+pub mod HomeSteps
 pub mod Enqueuing
 pub mod Puts
 pub mod Running

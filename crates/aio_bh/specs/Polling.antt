@@ -1,25 +1,27 @@
 -- What a poll does.
-use Rattle.std.specs.Prelude.{◌≡◌, ℕ, min, ◌^◌, ◌-◌, List, [], ◌∷◌, ◌++◌}
+use Rattle.std.specs.Prelude.{◌≡◌, ℕ, min, ◌^◌, ◌-◌, ◌+◌, List, [], ◌∷◌, ◌++◌}
 use Rattle.aio_model.specs.LoopHistory.{Take, Dequeue, History}
 use Rattle.aio_model.specs.LoopLegal.{IsLegal}
 use Rattle.aio_model.specs.LoopLists.{out_of}
 use Rattle.aio_model.specs.LoopSeats.{home, entries_of}
 use Rattle.aio_model.specs.LoopFrame.{Entered, Place, Frame, start_of, Runs, ran_of, cut_nests_of}
 use Rattle.aio_core.specs.Known.{Known, empty_stage}
+use Rattle.aio_bh.specs.HomeSteps.{home_steps, steps_for}
 use Rattle.aio_bh.specs.declared.polled.Polled.{Polled}
 
 -- a count stays at the greatest u64
 abbrev pub counted : ℕ → ℕ
 counted n = min n (2 ^ 64 - 1)
 
--- The home's seat went on: what was seen is longer and legal, and of what came between it has its own. Its numbers, phase and sleep
--- are as before.
+-- The home's seat went on: what was seen is longer and legal, and of what came between it has its own, for which it made just the
+-- steps that they take. Its numbers, phase and sleep are as before.
 pub record GoesOn (before after : Known) : Type 0 where
   pub between : History
   pub seen : after.seen ≡ between ++ before.seen
   pub mine : after.mine ≡ entries_of home between ++ before.mine
   pub legal : IsLegal before.sizes after.seen
   pub rest : after ≡ record before { seen = after.seen; mine = after.mine; did = after.did; stage = after.stage; told = after.told }
+  pub steps : home_steps after.did ≡ home_steps before.did + steps_for (entries_of home between)
 
 -- the indices that were dequeued, in order
 abbrev pub dequeued_in : History → List ℕ

@@ -5,6 +5,7 @@ use Rattle.aio_model.specs.LoopLegal.{IsLegal}
 use Rattle.aio_model.specs.LoopSeats.{entries_of}
 use Rattle.aio_model.specs.LoopFrame.{Lent, Answer, Ended, Nests, Entered, are_of_callback}
 use Rattle.aio_core.specs.Known.{Known}
+use Rattle.aio_bh.specs.HomeSteps.{home_steps}
 use Rattle.aio_bh.specs.declared.turn.Turn.{Turn}
 use Rattle.aio_bh.specs.declared.turn.Turn.TheVariants.{Done, Nest}
 
@@ -13,7 +14,7 @@ answer_by Done = Ended
 answer_by Nest = Nests
 
 -- The seat that was lent came back with these entries more, which a callback may make, and with what others did in between. Its
--- numbers, phase, stage and sleep are as before.
+-- numbers, phase, stage and sleep are as before, and no step that is the home's alone was made.
 pub record GivesBack (made : History) (before after : Known) : Type 0 where
   pub between : History
   pub just_these : entries_of before.first between ≡ made
@@ -22,6 +23,7 @@ pub record GivesBack (made : History) (before after : Known) : Type 0 where
   pub mine : after.mine ≡ made ++ before.mine
   pub legal : IsLegal before.sizes after.seen
   pub rest : after ≡ record before { seen = after.seen; mine = after.mine; did = after.did; told = after.told }
+  pub steps : home_steps after.did ≡ home_steps before.did
 
 -- the runner was entered once with this, and answered this
 pub record RunsOnce {R : Type 0} (does : R → Entered → R → Type 0) (lent : Lent) (answer : Answer) (runner : R) (before : Known) (runner_after : R) (after : Known) : Type 0 where

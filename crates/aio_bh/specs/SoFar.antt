@@ -10,6 +10,7 @@ use Rattle.aio_model.specs.LoopFrame.{Answer, Entered, Place, Makes, Body, Turns
 use Rattle.aio_core.specs.Known.{Known}
 use Rattle.aio_core.specs.Standing.{is_empty}
 use Rattle.aio_core.specs.Calls.{TableState, SeatState, IsSeatOf}
+use Rattle.aio_bh.specs.HomeSteps.{home_steps}
 use Rattle.aio_bh.specs.declared.polled.Polled.{Polled}
 use Rattle.aio_bh.specs.Polling.{counted, GoesOn}
 
@@ -73,6 +74,7 @@ pub record TakesNext (i : ℕ) (ran : Bool) (before after : Known) (polled polle
   pub handle : i < before.sizes.handles
   pub was_out : out_of before.seen ≡ i ∷ out_of after.seen
   pub rest : after ≡ record before { seen = after.seen; mine = after.mine; did = after.did; stage = after.stage; told = after.told }
+  pub steps : home_steps after.did ≡ home_steps before.did + 2
   pub progress : polled_after ≡ record polled { progress = polled.progress || (ran && not (is_idle i (others ++ before.seen))) }
 
 -- what follows a dequeue of a handle in its turn
