@@ -1,4 +1,4 @@
-use Rattle.std.proofs.Common.{◌≡◌, ℕ, Bool, true, false, Option, [], ◌∷◌, None, Some, MatchOption, sym, ◌∙◌, subst, ap}
+use Rattle.std.proofs.Common.{◌≡◌, ℕ, Bool, true, false, Option, [], ◌∷◌, None, Some, MatchOption, sym, ◌∙◌, subst}
 use Rattle.aio_core.specs.Standing.{asked_by, Aims, Pushes}
 use Rattle.aio_model.specs.LoopHistory.{Enqueue, Put}
 use Rattle.aio_bh.proofs.GivingBack.{GivesBack-pending, GivesBack-pushed}

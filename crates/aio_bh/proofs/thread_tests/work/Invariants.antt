@@ -1,4 +1,3 @@
-use Rattle.std.proofs.Common.{◌≡◌}
 use Rattle.aio_bh.specs.Ready.{ComesBack}
 use Rattle.aio_bh.proofs.thread_tests.work.Given as goal
 
