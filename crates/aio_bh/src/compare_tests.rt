@@ -1,4 +1,5 @@
-//! The shared loop beside the plain loop of one thread, over calls that a small generator makes: each answers the same.
+//! What the calls on the shared loop answer: in worked lists of calls, and beside the plain loop of one thread, over lists that a
+//! small generator makes.
 ghost use Rattle.std.specs.Prelude.{◌≡◌, ◌<◌, IfSome};
 ghost use Rattle.aio_model.specs.InFlight.{AtRest};
 ghost use Rattle.aio_core.specs.Known.{empty_stage};
@@ -153,5 +154,91 @@ fn answers_as_the_plain_loop_does(rt: HostRuntime) -> Result<(), Fail> {
     for _ in 0..200 {
         number = compared(&rt, rt.alloc(), number)?;
     }
+    Ok(())
+}
+
+const BLANK: Flags = Flags {
+    pending: false,
+    scheduled: false,
+    deleted: false,
+    oneshot: false,
+    idle: false,
+};
+
+const TO_CALL: Flags = Flags {
+    pending: true,
+    scheduled: true,
+    ..BLANK
+};
+
+/// One poll: these are called, one after the other.
+fn polls(rt: &impl Abort, shared: &mut Shared, calls: &[u32], progress: bool) {
+    let mut notes = Notes::of(rt);
+    let polled = shared.poll(&mut notes);
+    assert_eq!(rt; polled.ran, calls.len() as u64);
+    assert_eq!(rt; (polled.progress, polled.cut_nests), (progress, 0));
+    assert_eq!(rt; notes.called.get(..notes.count), Some(calls));
+}
+
+#[test]
+fn the_newest_is_called_first_and_each_once(rt: HostRuntime) -> Result<(), Fail> {
+    let mut shared = Shared::build(rt.alloc())?;
+    assert_eq!(rt; shared.schedule(&rt, 0), BLANK);
+    assert_eq!(rt; shared.schedule(&rt, 1), BLANK);
+    assert_eq!(rt; shared.schedule(&rt, 2), BLANK);
+    polls(&rt, &mut shared, &[2, 1, 0], true);
+    assert_eq!(rt; shared.schedule(&rt, 0), BLANK);
+    assert_eq!(rt; shared.schedule(&rt, 0), TO_CALL);
+    polls(&rt, &mut shared, &[0], true);
+    polls(&rt, &mut shared, &[], false);
+    Ok(())
+}
+
+#[test]
+fn a_canceled_one_is_called_once_it_is_scheduled_again(rt: HostRuntime) -> Result<(), Fail> {
+    let mut shared = Shared::build(rt.alloc())?;
+    assert_eq!(rt; shared.schedule(&rt, 0), BLANK);
+    assert_eq!(rt; shared.cancel(0), TO_CALL);
+    polls(&rt, &mut shared, &[], false);
+    assert_eq!(rt; shared.schedule(&rt, 0), BLANK);
+    assert_eq!(rt; shared.cancel(0), TO_CALL);
+    let canceled = Flags {
+        pending: true,
+        ..BLANK
+    };
+    assert_eq!(rt; shared.schedule(&rt, 0), canceled);
+    polls(&rt, &mut shared, &[0], true);
+    Ok(())
+}
+
+#[test]
+fn a_deleted_one_is_not_called_again(rt: HostRuntime) -> Result<(), Fail> {
+    let mut shared = Shared::build(rt.alloc())?;
+    let deleted = Flags {
+        deleted: true,
+        ..BLANK
+    };
+    let deleting = Flags {
+        pending: true,
+        ..deleted
+    };
+    assert_eq!(rt; shared.delete(&rt, 0), BLANK);
+    assert_eq!(rt; shared.schedule(&rt, 0), deleting);
+    polls(&rt, &mut shared, &[], false);
+    assert_eq!(rt; shared.schedule(&rt, 0), deleted);
+    polls(&rt, &mut shared, &[], false);
+    Ok(())
+}
+
+#[test]
+fn a_schedule_after_an_idle_one_is_no_progress(rt: HostRuntime) -> Result<(), Fail> {
+    let mut shared = Shared::build(rt.alloc())?;
+    assert_eq!(rt; shared.schedule_idle(&rt, 0), BLANK);
+    let idle = Flags {
+        idle: true,
+        ..TO_CALL
+    };
+    assert_eq!(rt; shared.schedule(&rt, 0), idle);
+    polls(&rt, &mut shared, &[0], false);
     Ok(())
 }

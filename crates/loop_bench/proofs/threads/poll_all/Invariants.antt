@@ -1,0 +1,8 @@
+use Rattle.std.proofs.Common.{◌≡◌}
+use Rattle.aio_core.specs.Known.{empty_stage}
+use Rattle.aio_bh.specs.Ready.{IsReady}
+use Rattle.loop_bench.proofs.threads.poll_all.Given as goal
+
+abbrev pub invariant-loop : goal.invariant-loop
+invariant-loop l =
+    IsReady l.table l.home.seat × (l.home.seat.known.stage ≡ empty_stage)

@@ -1,0 +1,30 @@
+//! Rounds of bottom halves, to be measured from outside: it prints counts alone. With a word it does one part, else the three
+//! of the shared loop.
+#![tactic(auto)]
+
+mod calls;
+mod part;
+mod plain;
+mod shared;
+mod threads;
+
+use crate::part::Part;
+use std::{env, io};
+
+fn main(rt: HostRuntime) -> io::Result<()> {
+    let alloc = rt.alloc();
+    let Some(word) = env::args(&rt)?.nth(1) else {
+        shared::one_handle(&rt, alloc)?;
+        shared::many_handles(&rt, alloc)?;
+        return threads::two_threads(&rt, alloc);
+    };
+    match Part::of(word.as_str()) {
+        Some(Part::Nothing) => Ok(()),
+        Some(Part::OneHandle) => shared::one_handle(&rt, alloc),
+        Some(Part::ManyHandles) => shared::many_handles(&rt, alloc),
+        Some(Part::TwoThreads) => threads::two_threads(&rt, alloc),
+        Some(Part::PlainOne) => plain::one_handle(&rt, alloc),
+        Some(Part::PlainMany) => plain::many_handles(&rt, alloc),
+        None => println!(rt; "no such part"),
+    }
+}

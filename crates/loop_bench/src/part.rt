@@ -1,0 +1,25 @@
+/// What is to be measured.
+pub enum Part {
+    /// What starting the program costs.
+    Nothing,
+    OneHandle,
+    ManyHandles,
+    TwoThreads,
+    /// The rounds of one handle on the plain loop of one thread.
+    PlainOne,
+    PlainMany,
+}
+
+impl Part {
+    pub fn of(word: &str) -> Option<Part> {
+        match word {
+            "nothing" => Some(Part::Nothing),
+            "one" => Some(Part::OneHandle),
+            "many" => Some(Part::ManyHandles),
+            "threads" => Some(Part::TwoThreads),
+            "plain-one" => Some(Part::PlainOne),
+            "plain-many" => Some(Part::PlainMany),
+            _ => None,
+        }
+    }
+}
