@@ -1,11 +1,12 @@
 -- The home's entries in what came between, and what others leave as it is.
-use Rattle.std.proofs.Common.{◌≡◌, ℕ, ◌+◌, ◌<◌, Bool, true, false, cond, eqb, List, [], ◌∷◌, ◌++◌, drop, refl, sym, ap, ◌∙◌, subst, arith}
-use Rattle.std.proofs.lemmas.Bool.{and_parts, and_from, not_from_false, le-ltb, lt-ltb, eqb-true, false≢true}
+use Rattle.std.proofs.Common.{◌≡◌, ℕ, ◌<◌, Bool, true, false, cond, eqb, List, [], ◌∷◌, ◌++◌, drop, refl, sym, ap, ◌∙◌, subst}
+use Rattle.std.proofs.lemmas.Bool.{and_parts, eqb-true, false≢true}
 use Rattle.aio_model.specs.LoopHistory.{Entry, New, Enqueue, Put, Cancel, Take, Dequeue, Free, SetEvent, ClearEvent, History}
 use Rattle.aio_model.specs.LoopLists.{seat_of, taken_of, dequeue_count, out_of}
 use Rattle.aio_model.specs.LoopSeats.{Numbers, owns, home, entries_by, entries_of, own_entries}
 use Rattle.aio_model.specs.LoopFrame.{are_of_callback}
 use Rattle.aio_core.specs.Standing.{is_empty}
+use Rattle.aio_core.proofs.Entries.{owns_first}
 
 chosen-append : (b : Bool) (e : Entry) (xs xs' ys : History) → xs' ≡ xs ++ ys → cond b (e ∷ xs') xs' ≡ cond b (e ∷ xs) xs ++ ys
 chosen-append true e xs xs' ys h = ap (λ l. e ∷ l) h
@@ -41,7 +42,7 @@ none_of_home numbers others first count h =
 
 first_is_owned : (numbers : Numbers) → 0 < numbers.count → (n : ℕ) → eqb n numbers.first ≡ true → owns numbers n ≡ true
 first_is_owned numbers some n is =
-    subst (λ m. owns numbers m ≡ true) (sym (eqb-true n numbers.first is)) (and_from _ _ (not_from_false _ (le-ltb numbers.first numbers.first (omega arith))) (lt-ltb numbers.first (numbers.first + numbers.count) (omega arith)))
+    subst (λ m. owns numbers m ≡ true) (sym (eqb-true n numbers.first is)) (owns_first numbers some)
 
 -- none of a seat's own number
 pub none_of_own : (numbers : Numbers) (others : History) → 0 < numbers.count → own_entries numbers others ≡ [] → entries_of numbers.first others ≡ []

@@ -1,36 +1,16 @@
 -- Steps of one seat, one after another, stand in the history.
-use Rattle.std.proofs.Common.{◌≡◌, ℕ, zero, suc, ◌<◌, Bool, true, false, cond, eqb, MatchBool, List, [], ◌∷◌, ◌++◌, refl, sym, ap, ◌∙◌, subst, append_assoc}
-use Rattle.std.proofs.lemmas.Bool.{cond-true, eqb-true, eq-eqb}
+use Rattle.std.proofs.Common.{◌≡◌, ℕ, zero, suc, Bool, true, false, cond, eqb, MatchBool, List, [], ◌∷◌, ◌++◌, refl, sym, ap, ◌∙◌, subst, append_assoc}
+use Rattle.std.proofs.lemmas.Bool.{cond-true, eq-eqb}
 use Rattle.aio_model.specs.declared.flags.Flags.{Flags}
 use Rattle.aio_model.specs.LoopHistory.{Sizes, Asked, Entry, Enqueue, Put, History}
 use Rattle.aio_model.specs.LoopLists.{seat_of}
-use Rattle.aio_model.specs.LoopSeats.{Numbers, owns, own_entries, entries_of, newest_of, StandsInHistory, StandsAtTheEnd}
+use Rattle.aio_model.specs.LoopSeats.{entries_of, newest_of, StandsInHistory, StandsAtTheEnd}
 use Rattle.aio_model.specs.InFlight.{Phase}
 use Rattle.aio_core.specs.Known.{Done, Known, numbers_of}
 use Rattle.aio_core.specs.Standing.{Makes, Enqueues, Aims}
-use Rattle.aio_core.proofs.Entries.{owns_first}
+use Rattle.aio_bh.proofs.Entries.{entries_of-append, none_of_own}
 use Rattle.aio_bh.specs.HomeSteps.{home_steps}
 use Rattle.aio_bh.specs.Enqueuing.{MissesOnce, PushesOnce, Tries, PushesAtLast, Schedules, SchedulesAtOnce, SchedulesLater, enqueue_entries, Stands}
-
-chosen : (b : Bool) (e : Entry) (xs ys zs : History) → zs ≡ xs ++ ys → cond b (e ∷ zs) zs ≡ cond b (e ∷ xs) xs ++ ys
-chosen true e xs ys zs h = ap (λ (l : History). e ∷ l) h
-chosen false e xs ys zs h = h
-
-pub entries_of-append : (n : ℕ) (xs ys : History) → entries_of n (xs ++ ys) ≡ entries_of n xs ++ entries_of n ys
-entries_of-append n [] ys = refl
-entries_of-append n (e ∷ xs) ys =
-    chosen (eqb (seat_of e) n) e (entries_of n xs) (entries_of n ys) (entries_of n (xs ++ ys)) (entries_of-append n xs ys)
-
-none_more : (b c : Bool) (e : Entry) (xs ys : History) → (c ≡ true → b ≡ true) → (xs ≡ [] → ys ≡ []) → cond b (e ∷ xs) xs ≡ [] → cond c (e ∷ ys) ys ≡ []
-none_more true c e xs ys k l h = absurd cc
-none_more false true e xs ys k l h = absurd (let no : false ≡ true = k refl in cc)
-none_more false false e xs ys k l h = l h
-
--- what none of a seat's numbers made its own number didn't make
-pub not_by_it : (n : Numbers) (xs : History) → 0 < n.count → own_entries n xs ≡ [] → entries_of n.first xs ≡ []
-not_by_it n [] full h = refl
-not_by_it n (e ∷ xs) full h =
-    none_more (owns n (seat_of e)) (eqb (seat_of e) n.first) e (own_entries n xs) (entries_of n.first xs) (λ is. subst (λ k. owns n k ≡ true) (sym (eqb-true (seat_of e) n.first is)) (owns_first n full)) (not_by_it n xs full) h
 
 -- one entry
 pub makes_stand : (e : Entry) (v w : Known) → Makes e v w → seat_of e ≡ v.first → StandsAtTheEnd v.sizes v.first (e ∷ []) v.seen v.mine w.seen w.mine
@@ -41,7 +21,7 @@ makes_stand e v w makes by_it =
         rest = e ∷ makes.others;
         longer = makes.seen;
         legal = makes.legal;
-        just_these = cond-true (eqb (seat_of e) v.first) (e ∷ entries_of v.first makes.others) (entries_of v.first makes.others) same ∙ ap (λ (l : History). e ∷ l) (not_by_it (numbers_of v) makes.others makes.numbered makes.not_own);
+        just_these = cond-true (eqb (seat_of e) v.first) (e ∷ entries_of v.first makes.others) (entries_of v.first makes.others) same ∙ ap (λ (l : History). e ∷ l) (none_of_own (numbers_of v) makes.others makes.numbered makes.not_own);
         mine_grows = makes.mine;
       };
       ends = ap newest_of makes.seen;
