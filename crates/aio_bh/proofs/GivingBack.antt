@@ -6,7 +6,7 @@ use Rattle.aio_model.specs.LoopHistory.{Entry, Enqueue, Put, Cancel, History}
 use Rattle.aio_model.specs.LoopHistory.{Asked}
 use Rattle.aio_model.specs.LoopLists.{seat_of}
 use Rattle.aio_model.specs.LoopLegal.{IsLegal}
-use Rattle.aio_model.specs.LoopSeats.{entries_of, StandsInHistory}
+use Rattle.aio_model.specs.LoopSeats.{entries_of}
 use Rattle.aio_model.specs.LoopFrame.{is_of_callback, are_of_callback}
 use Rattle.aio_model.specs.InFlight.{Phase, AtRest, Announced}
 use Rattle.aio_core.specs.Known.{Known, Done, numbers_of}
@@ -114,19 +114,6 @@ GivesBack-of made a b rest still through = record {
   steps = through.steps;
 }
 
--- by what a call says that stands in the history
-pub GivesBack-stands : (made : History) (a b : Known) → are_of_callback made ≡ true → StandsInHistory a.sizes a.first made a.seen a.mine b.seen b.mine → b ≡ record a { seen = b.seen; mine = b.mine; did = b.did; told = b.told } → home_steps b.did ≡ home_steps a.did → GivesBack made a b
-GivesBack-stands made a b fits stands rest steps = record {
-  between = stands.rest;
-  just_these = stands.just_these;
-  of_callback = fits;
-  seen = stands.longer;
-  mine = stands.mine_grows;
-  legal = stands.legal;
-  rest = rest;
-  steps = steps;
-}
-
 -- an index was enqueued, and pushed
 pub GivesBack-pushed : (i aimed pushed : ℕ) (asked : Asked) (flags : Flags) (a b c d : Known) → 0 < a.count → a.phase ≡ AtRest → Enqueues i asked flags a b → Aims i aimed b c → Pushes i pushed c d → GivesBack (Put i a.first ∷ (Enqueue i asked a.first flags ∷ [])) a d
 GivesBack-pushed i aimed pushed asked flags a b c d some rest enqueues aims pushes =
@@ -148,6 +135,3 @@ GivesBack-pending i asked flags a b some rest pending enqueues =
 pub GivesBack-canceled : (i : ℕ) (flags : Flags) (a b : Known) → 0 < a.count → a.phase ≡ AtRest → Cancels i flags a b → GivesBack (Cancel i a.first flags ∷ []) a b
 GivesBack-canceled i flags a b some rest cancels =
     GivesBack-of (Cancel i a.first flags ∷ []) a b rest (ap (λ (k : Known). k.phase) cancels.rest ∙ rest) (GoesThrough-cancel i flags a b some cancels)
-
-pub GivesBack-nothing : (a : Known) → IsLegal a.sizes a.seen → GivesBack [] a a
-GivesBack-nothing a legal = record { between = []; just_these = refl; of_callback = refl; seen = refl; mine = refl; legal = legal; rest = refl; steps = refl }

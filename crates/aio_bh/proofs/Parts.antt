@@ -30,10 +30,6 @@ changes a b steps stage h =
     let told_is : b.told ≡ a.told = ap (λ (k : Known). k.told) h in
     h ∙ ap (λ d. record a { seen = b.seen; mine = b.mine; did = d; stage = stage }) (sym did_is) ∙ ap (λ s. record a { seen = b.seen; mine = b.mine; did = b.did; stage = s }) (sym stage_is) ∙ ap (λ t. record a { seen = b.seen; mine = b.mine; did = b.did; stage = b.stage; told = t }) (sym told_is)
 
-pub GoesOn-same : (a : Known) → IsLegal a.sizes a.seen → GoesOn a a
-GoesOn-same a legal =
-    record { between = []; seen = refl; mine = refl; legal = legal; rest = refl; steps = omega arith }
-
 pub GoesOn-then : (a b c : Known) → GoesOn a b → GoesOn b c → GoesOn a c
 GoesOn-then a b c first then = record {
   between = then.between ++ first.between;

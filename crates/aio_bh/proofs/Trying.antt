@@ -1,8 +1,8 @@
 -- Tries in a loop.
-use Rattle.std.proofs.Common.{◌≡◌, ℕ, suc, refl, ◌∙◌, subst}
+use Rattle.std.proofs.Common.{◌≡◌, ℕ, suc, ◌∙◌, subst}
 use Rattle.aio_model.specs.InFlight.{Announced}
 use Rattle.aio_core.specs.Calls.{TableState, SeatState, IsSeatOf}
-use Rattle.aio_bh.specs.Enqueuing.{MissesOnce, PushesOnce, Tries, PushesAtLast}
+use Rattle.aio_bh.specs.Enqueuing.{MissesOnce, Tries}
 
 -- so far each try has missed
 pub record IsTrying (table : TableState) (i : ℕ) (start now : SeatState) (owed : ℕ) : Type 0 where
@@ -11,10 +11,6 @@ pub record IsTrying (table : TableState) (i : ℕ) (start now : SeatState) (owed
   pub same : owed ≡ i
   pub misses : ℕ
   pub tries : Tries i misses start.known now.known
-
-pub trying_from : (table : TableState) (i : ℕ) (start : SeatState) → IsSeatOf table start → start.known.phase ≡ Announced i → IsTrying table i start start i
-trying_from table i start seat phase =
-    record { seat = seat; phase = phase; same = refl; misses = 0; tries = refl }
 
 pub trying_on : (table : TableState) (i : ℕ) (start now next : SeatState) (owed again : ℕ) → IsTrying table i start now owed → IsSeatOf table next → again ≡ owed → MissesOnce owed now.known next.known → next.known.phase ≡ Announced again → IsTrying table i start next again
 trying_on table i start now next owed again h seat is misses phase =
@@ -25,7 +21,3 @@ trying_on table i start now next owed again h seat is misses phase =
       misses = suc h.misses;
       tries = (now.known, h.tries, subst (λ k. MissesOnce k now.known next.known) h.same misses);
     }
-
-pub tried_enough : (table : TableState) (i : ℕ) (start now next : SeatState) (owed : ℕ) → IsTrying table i start now owed → PushesOnce owed now.known next.known → PushesAtLast i start.known next.known
-tried_enough table i start now next owed h pushes =
-    record { misses = h.misses; last = now.known; tries = h.tries; pushes = subst (λ k. PushesOnce k now.known next.known) h.same pushes }

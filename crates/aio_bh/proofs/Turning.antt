@@ -1,5 +1,5 @@
 -- What the calls of the home's seat tell a poll: its take, its next dequeue, and an entry into a callback.
-use Rattle.std.proofs.Common.{◌≡◌, ℕ, ◌<◌, Bool, not, ◌&&◌, ◌||◌, [], ◌∷◌, ◌++◌, refl, sym, ap, ◌∙◌, subst}
+use Rattle.std.proofs.Common.{◌≡◌, ℕ, ◌<◌, Bool, not, ◌&&◌, ◌||◌, ◌∷◌, ◌++◌, refl, sym, ap, ◌∙◌, subst}
 use Rattle.aio_model.specs.declared.flags.Flags.{Flags}
 use Rattle.aio_model.specs.LoopHistory.{Sizes, Take, Dequeue, History}
 use Rattle.aio_model.specs.LoopFlags.{is_idle}
@@ -17,7 +17,7 @@ use Rattle.aio_bh.specs.HomeSteps.{home_steps, steps_for}
 use Rattle.aio_bh.specs.Running.{GivesBack}
 use Rattle.aio_bh.specs.Polling.{GoesOn}
 use Rattle.aio_bh.specs.SoFar.{far, place_of, Goes, IsBetween, TakesNext, TakesAndSome}
-use Rattle.aio_bh.proofs.Entries.{none_of_home, out_beside, out_kept, empty_of}
+use Rattle.aio_bh.proofs.Entries.{none_of_home, out_beside, out_kept}
 use Rattle.aio_bh.proofs.HomeSteps.{more_added, two_steps}
 use Rattle.aio_bh.proofs.Parts.{changes, EntersSome-same, some-none}
 
@@ -64,10 +64,6 @@ between-take table a b of rest empty taken =
 
 -- The next dequeue.
 
-pub none_left : (table : TableState) (seat : SeatState) → IsBetween table seat → seat.known.stage.slices ≡ [] → out_of seat.known.seen ≡ []
-none_left table seat between none =
-    empty_of (out_of seat.known.seen) (sym between.left ∙ ap is_empty none)
-
 abbrev pub calls : Flags → Bool
 calls was = was.scheduled && not was.deleted
 
@@ -93,17 +89,6 @@ TakesNext-of i was a b c p first count lifted dequeues =
       rest = changes b c _ _ dequeues.rest ∙ ap (λ (k : Known). record k { seen = c.seen; mine = c.mine; did = c.did; stage = c.stage; told = c.told }) up;
       steps = two_steps (home_steps c.did) (home_steps b.did) (home_steps a.did) (ap (λ (k : Known). home_steps k.did) dequeues.rest) (ap (λ (k : Known). home_steps k.did) up);
       progress = ap (λ b. record p { progress = p.progress || (calls was && not b) }) (ap (λ (f : Flags). f.idle) dequeues.were ∙ ap (λ h. is_idle i h) before);
-    }
-
-pub between-next : (table : TableState) (i : ℕ) (was : Flags) (a b c : SeatState) → IsSeatOf table c → IsBetween table a → HasLifted i a.known b.known → Dequeues i was b.known c.known → IsBetween table c
-between-next table i was a b c of between lifted dequeues =
-    let up = lifted.lifts.rest in
-    record {
-      of_table = of;
-      rest = ap (λ (k : Known). k.phase) dequeues.rest ∙ ap (λ (k : Known). k.phase) up ∙ between.rest;
-      legal = subst (λ s. IsLegal s c.known.seen) (sym (ap (λ (k : Known). k.sizes) dequeues.rest) ∙ of.sizes) dequeues.makes.legal;
-      hand = ap (λ (k : Known). k.stage.hand) dequeues.rest;
-      left = dequeues.left;
     }
 
 -- An entry into a callback.

@@ -1,5 +1,5 @@
 -- Circles of neighbours: one index more, and one less.
-use Rattle.std.proofs.Common.{◌≡◌, ◌⊎◌, ℕ, ◌+◌, ◌<◌, ◌≤◌, true, false, ◌||◌, eqb, List, [], ◌∷◌, ◌++◌, length, refl, sym, ◌∙◌, ap, subst, inl, inr, arith}
+use Rattle.std.proofs.Common.{◌≡◌, ℕ, ◌+◌, ◌<◌, ◌≤◌, true, false, ◌||◌, eqb, List, [], ◌∷◌, ◌++◌, length, refl, sym, ◌∙◌, ap, subst, inl, inr, arith}
 use Rattle.std.proofs.lemmas.Bool.{false≢true, cases_Bool, both_ways, eq-eqb, ne_eqb, eqb-true, or_parts, or_from, or_left, or_right, or_cases}
 use Rattle.std.proofs.lemmas.List.{append_assoc}
 use Rattle.aio_chain.specs.declared.links.Node.{Node}
@@ -87,11 +87,6 @@ module _ (next prev : ℕ → ℕ) (end : ℕ) (items : List ℕ) (circle : IsCi
   pub circle_sources : sources end (items ++ end ∷ []) ≡ end ∷ items
   circle_sources = sources-push end items end
 
-  -- an index that isn't in the list is no source either, and the other way round
-  pub absent_source : (k : ℕ) → k < end → contains k items ≡ false → contains k (sources end (items ++ end ∷ [])) ≡ false
-  absent_source k below absent =
-      ap (contains k) circle_sources ∙ or_from _ _ (ne_eqb k end (λ e. omega arith)) absent
-
   pub absent_round : (k : ℕ) → k < end → contains k items ≡ false → contains k (items ++ end ∷ []) ≡ false
   absent_round k below absent =
       absent_from k items (end ∷ []) absent (or_from _ _ (ne_eqb k end (λ e. omega arith)) refl)
@@ -129,14 +124,6 @@ module _ (next prev : ℕ → ℕ) (end : ℕ) (items : List ℕ) (circle : IsCi
   absent_cut k below absent =
       ap (contains k) (sym is) ∙ absent_round next prev end items circle k below absent
 
-  pub at_end_or_in : (k : ℕ) → contains k (front ++ at ∷ back) ≡ true → (k ≡ end) ⊎ (contains k items ≡ true)
-  at_end_or_in k h =
-      elim (or_cases _ _ (sym (contains-append k items (end ∷ [])) ∙ ap (contains k) is ∙ h)) [
-        | inl in_items ↦ inr in_items
-        | inr at_end ↦
-            elim (or_cases (eqb k end) false at_end) [ inl e ↦ inl (eqb-true k end e) | inr no_more ↦ absurd (false≢true no_more) ]
-      ]
-
   -- the index before the cut
   pub before_cut : last_of end front ≤ end
   before_cut =
@@ -146,12 +133,6 @@ module _ (next prev : ℕ → ℕ) (end : ℕ) (items : List ℕ) (circle : IsCi
         | inl e ↦ omega (arith, eqb-true (last_of end front) end e)
         | inr h ↦ omega (arith, circle.below (last_of end front) h)
       ]
-
-  pub at_cut : at ≤ end
-  at_cut = elim (at_end_or_in at (contains-middle at front back)) [
-    | inl e ↦ omega arith
-    | inr h ↦ omega (arith, circle.below at h)
-  ]
 
 -- a path with one index more
 module _ (next prev next' prev' : ℕ → ℕ) (end : ℕ) (front : List ℕ) (at : ℕ) (back : List ℕ) (cut : Cut next prev end front at back)

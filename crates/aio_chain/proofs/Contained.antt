@@ -13,9 +13,6 @@ eqb-false_comm a b h = ne_eqb b a (λ e. eqb-false a b h (sym e))
 pub contains-append : (i : ℕ) (xs ys : List ℕ) → contains i (xs ++ ys) ≡ (contains i xs || contains i ys)
 contains-append i xs ys = list_any-append (eqb i) xs ys
 
-pub contains-left : (i : ℕ) (xs ys : List ℕ) → contains i xs ≡ true → contains i (xs ++ ys) ≡ true
-contains-left i xs ys h = contains-append i xs ys ∙ or_left _ _ h
-
 pub contains-right : (i : ℕ) (xs ys : List ℕ) → contains i ys ≡ true → contains i (xs ++ ys) ≡ true
 contains-right i xs ys h = contains-append i xs ys ∙ or_right (contains i xs) _ h
 

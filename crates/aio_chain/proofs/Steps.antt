@@ -1,5 +1,5 @@
 -- The steps on a list of indices, where it is cut at an index.
-use Rattle.std.proofs.Common.{◌≡◌, ℕ, true, false, ◌||◌, eqb, List, [], ◌∷◌, ◌++◌, length, ◌<◌, ◌≤◌, Some, None, refl, sym, ◌∙◌, ap, inl, inr, arith}
+use Rattle.std.proofs.Common.{◌≡◌, ℕ, true, false, ◌||◌, eqb, List, [], ◌∷◌, ◌++◌, length, ◌<◌, ◌≤◌, Some, refl, sym, ◌∙◌, ap, inl, inr, arith}
 use Rattle.std.proofs.lemmas.Bool.{cases_Bool, both_ways, eq-eqb, eqb-true, or_parts, or_from}
 use Rattle.aio_chain.specs.LinkList.{contains, first_of, next_after, put_before, without}
 
@@ -50,9 +50,6 @@ length-without-le i (x ∷ xs) = elim (cases_Bool (eqb i x)) [
   | inr ne ↦ rw ne (omega (arith, length-without-le i xs))
 ]
 
-pub without-first : (x : ℕ) (xs : List ℕ) → contains x xs ≡ false → without x (x ∷ xs) ≡ xs
-without-first x xs absent = let x_x = eq-eqb x x refl in rw x_x (without-absent x xs absent)
-
 -- a list is shorter without its first index
 pub length-without_first : (x : ℕ) (xs : List ℕ) → first_of xs ≡ Some x → length (without x xs) < length xs
 length-without_first x [] e = absurd (cc)
@@ -60,10 +57,6 @@ length-without_first x (y ∷ xs) e =
     let same : x ≡ y = cc in
     let here : eqb x y ≡ true = eq-eqb x y same in
     rw here (omega (arith, length-without-le x xs))
-
-pub nil_from_first : (xs : List ℕ) → first_of xs ≡ None → xs ≡ []
-nil_from_first [] e = refl
-nil_from_first (x ∷ xs) e = absurd (cc)
 
 pub contains-from_without : (k i : ℕ) (xs : List ℕ) → contains k (without i xs) ≡ true → contains k xs ≡ true
 contains-from_without k i xs h = elim (cases_Bool (eqb k i)) [

@@ -7,7 +7,7 @@ use Rattle.aio_model.specs.declared.loop_scripts.ActKind.TheVariants.{Cancel as 
 use Rattle.aio_model.specs.LoopHistory.{Asked}
 use Rattle.aio_model.specs.LoopState.{LoopState, StandsFor, Follows, no_flags}
 use Rattle.aio_model.specs.LoopLog.{flags_before, enqueued_log, canceled_log}
-use Rattle.aio_model.specs.LoopActs.{enqueue_made, made_by, is_nest, before_nest, behind_nest}
+use Rattle.aio_model.specs.LoopActs.{enqueue_made, made_by, is_nest, before_nest}
 use Rattle.aio_model.specs.LoopReplies.{made_log}
 use Rattle.aio_cli.specs.Bells.{Acts, ActsAll}
 use Rattle.aio_cli.proofs.Logs.{enqueued-made, made_log-append}
@@ -25,9 +25,6 @@ Acts-cancel i old new answer follows = record { at = λ log stands. (flags_befor
 pub Acts-nest : (old new : LoopState) → new ≡ old → Acts Nest old new
 Acts-nest old new same = record { at = λ log stands. (no_flags, subst (λ s. StandsFor s log) (sym same) stands) }
 
-pub ActsAll-none : (old new : LoopState) → new ≡ old → ActsAll [] old new
-ActsAll-none old new same = record { at = λ log stands. ([], refl, subst (λ s. StandsFor s log) (sym same) stands) }
-
 -- one, and then the others
 pub ActsAll-more : (what : ActKind) (todo : List ActKind) (old mid new : LoopState) → Acts what old mid → ActsAll todo mid new → ActsAll (what ∷ todo) old new
 ActsAll-more what todo old mid new one others = record {
@@ -43,9 +40,6 @@ ActsAll-at todo todo' old new same all = subst (λ t. ActsAll t old new) (sym sa
 -- an action that is no nest stands before the next one
 pub before_nest-more : (what : ActKind) (later : List ActKind) → is_nest what ≡ false → before_nest (what ∷ later) ≡ what ∷ before_nest later
 before_nest-more what later h = rw h refl
-
-pub behind_nest-more : (what : ActKind) (later : List ActKind) → is_nest what ≡ false → behind_nest (what ∷ later) ≡ behind_nest later
-behind_nest-more what later h = rw h refl
 
 pub Acts-at : (what what' : ActKind) (old new : LoopState) → what' ≡ what → Acts what old new → Acts what' old new
 Acts-at what what' old new same acts = subst (λ w. Acts w old new) (sym same) acts

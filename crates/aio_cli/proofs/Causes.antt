@@ -14,7 +14,7 @@ use Rattle.aio_script.specs.Grammar.{script_said}
 use Rattle.aio_script.specs.LoopGrammar.{loop_script_said}
 use Rattle.aio_cli.specs.declared.answer.Answer.{Answer}
 use Rattle.aio_cli.specs.declared.answer.Answer.TheVariants.{Done, Errors, Usage, BadScript, TooLong, TooLarge, ReadFault, WriteFault, NoMemory, DeviceFault}
-use Rattle.aio_cli.specs.Answers.{IsLengthRefusal, IsOfLoop, IsRefusal, IsWhole, OnBadScript, OnCut, OnDeviceFault, OnRun, OnTooLarge, OnTooLong, OnWritten}
+use Rattle.aio_cli.specs.Answers.{IsOfLoop, IsRefusal, IsWhole, OnBadScript, OnCut, OnDeviceFault, OnRun, OnTooLarge, OnTooLong, OnWritten}
 use Rattle.aio_cli.specs.BellsRun.{RingsSaid}
 use Rattle.aio_cli.specs.declared.words.Mode.{Mode}
 use Rattle.aio_cli.specs.declared.words.Mode.TheVariants.{Image, Bells}
@@ -42,14 +42,8 @@ module _ (before now : Option (List ℕ)) (bytes : List ℕ) (told : before ≡ 
   says-whole : (script : Script) → Says before now script → script_said bytes ≡ Ok script
   says-whole script said = ap script_said (whole-text said.text said.read) ∙ said.says
 
-  says-few : (script : Script) → Says before now script → length bytes ≤ longest_script
-  says-few script said = subst (λ text. length text ≤ longest_script) (sym (whole-text said.text said.read)) said.read.few
-
   refuses-whole : (refusal : ScriptRefusal) → Refuses before now refusal → script_said bytes ≡ Err refusal
   refuses-whole refusal refused = ap script_said (whole-text refused.text refused.read) ∙ refused.says
-
-  refuses-few : (refusal : ScriptRefusal) → Refuses before now refusal → length bytes ≤ longest_script
-  refuses-few refusal refused = subst (λ text. length text ≤ longest_script) (sym (whole-text refused.text refused.read)) refused.read.few
 
   too_long-longer : IsTooLong before now → longest_script < length bytes
   too_long-longer long = omega (arith, longer now long.text long.taken, long.long)
@@ -94,22 +88,6 @@ module _ (before now : Option (List ℕ)) (bytes : List ℕ) (told : before ≡ 
   refused_loop-only W V DeviceFault of fault bad long written cut few refusal says = absurd of
 
   module _ (extent size_before size_now : ℕ) where
-    pub long-only : (answer : Answer) → (answer ≡ Usage → ⊥) → (answer ≡ ReadFault → ⊥)
-        → OnBadScript answer (Refuses before now) → OnRun answer (SaysFitting before now extent)
-        → OnTooLarge answer (λ image size. SaysImage before now image × (size ≡ extent) × (size < image))
-        → OnDeviceFault answer (HasRisen size_before size_now × SaysSome before now)
-        → longest_script < length bytes → IsLengthRefusal answer
-    long-only Done usage fault bad ran large size long = absurd (omega (arith, long, says-few ran.script ran.said))
-    long-only (Errors n) usage fault bad ran large size long = absurd (omega (arith, long, says-few ran.script ran.said))
-    long-only Usage usage fault bad ran large size long = absurd (usage refl)
-    long-only (BadScript refusal) usage fault bad ran large size long = absurd (omega (arith, long, refuses-few refusal bad))
-    long-only TooLong usage fault bad ran large size long = tt
-    long-only (TooLarge i d) usage fault bad ran large size long = absurd (omega (arith, long, says-few large.0.script large.0.said))
-    long-only ReadFault usage fault bad ran large size long = absurd (fault refl)
-    long-only WriteFault usage fault bad ran large size long = absurd (omega (arith, long, says-few ran.script ran.said))
-    long-only NoMemory usage fault bad ran large size long = tt
-    long-only DeviceFault usage fault bad ran large size long = absurd (omega (arith, long, says-few size.1.script size.1.said))
-
     pub refused-only : (answer : Answer) → (answer ≡ Usage → ⊥) → (answer ≡ ReadFault → ⊥)
         → OnBadScript answer (Refuses before now) → OnTooLong answer (IsTooLong before now) → OnRun answer (SaysFitting before now extent)
         → OnTooLarge answer (λ image size. SaysImage before now image × (size ≡ extent) × (size < image))

@@ -3,20 +3,19 @@ use Rattle.std.proofs.Common.{◌≡◌, ℕ, zero, suc, ◌+◌, ◌-◌, ◌<�
 use Rattle.std.proofs.lemmas.Bool.{eq-eqb, false≢true, not-true, cases_eq, ltb-false}
 use Rattle.std.proofs.lemmas.List.{append-nil, length-take-le}
 use Rattle.aio_model.specs.declared.flags.Flags.{Flags}
-use Rattle.aio_model.specs.declared.commits.Commit.{Commit}
 use Rattle.aio_model.specs.declared.loop_scripts.ActKind.{ActKind}
 use Rattle.aio_model.specs.declared.loop_scripts.Command.{Command}
-use Rattle.aio_model.specs.declared.loop_scripts.Command.TheVariants.{Schedule, Idle, Delete, Cancel, Poll, Commit as CommitNow, Set, Clear}
+use Rattle.aio_model.specs.declared.loop_scripts.Command.TheVariants.{Schedule, Idle, Delete, Cancel, Poll, Set}
 use Rattle.aio_model.specs.declared.loop_replies.LoopReply.{LoopReply}
-use Rattle.aio_model.specs.declared.loop_replies.LoopReply.TheVariants.{Flagged, Ran, Committed, WasSet, Cleared}
+use Rattle.aio_model.specs.declared.loop_replies.LoopReply.TheVariants.{Flagged, Ran, WasSet}
 use Rattle.aio_model.specs.LoopHistory.{Asked, ToCall, ToCallIdle, ToDelete, ToCallOnce, New, Sizes, History}
 use Rattle.aio_model.specs.LoopFlags.{is_lot, lives}
 use Rattle.aio_model.specs.LoopLists.{job_of}
 use Rattle.aio_model.specs.LoopLegal.{IsLegal}
 use Rattle.aio_model.specs.LoopState.{LoopState, StandsFor, Follows, KeepsUp}
-use Rattle.aio_model.specs.LoopLog.{Made, Log, history_of, first_from, flags_before, enqueued_log, canceled_log, vacant_of, begun_from, begun_log, once_log, set_log, is_set_in, cleared_log, commit_from, commit_of, committed_log}
+use Rattle.aio_model.specs.LoopLog.{Made, Log, history_of, first_from, flags_before, enqueued_log, canceled_log, vacant_of, begun_from, begun_log, once_log, set_log}
 use Rattle.aio_model.specs.LoopFrame.{Place, Entered, Frame, Runs, called_of, cut_nests_of}
-use Rattle.aio_model.specs.LoopLines.{HasLine, HasNoDeadline}
+use Rattle.aio_model.specs.LoopLines.{HasLine}
 use Rattle.aio_model.specs.LoopActs.{Waiting, DoesActs, acts_called, acts_of, enqueue_made}
 use Rattle.aio_model.specs.LoopReplies.{called_as, counted, made_log, named_most, sizes_of}
 use Rattle.aio_model.proofs.Indices.{by_query}
@@ -104,38 +103,6 @@ module _ (lists : List (List ActKind)) (old : Bells) (one_loop : LoopState) (siz
       keeps = Keeps-same old one_loop log (set_log e 64 log) (follows 64 log keeps.loop) sizes (λ lot. refl) (λ lot. refl) keeps;
     };
   }
-
-  pub Answers-clear : (e : ℕ) (was : Bool) → Follows old.one_loop one_loop was (is_set_in e) (cleared_log e) → Answers lists (Clear e) (Cleared e was) old (record old { one_loop = one_loop })
-  Answers-clear e was follows = record {
-    at = λ script log of keeps.
-        let f = follows log keeps.loop in
-        record {
-          after = cleared_log e log;
-          does = (refl, ap (Cleared e) f.0);
-          keeps = Keeps-same old one_loop log (cleared_log e log) f.1 sizes (λ lot. refl) (λ lot. refl) keeps;
-        };
-  }
-
-  pub Answers-commit : (commit : Commit) → Follows old.one_loop one_loop commit (commit_of old.one_loop.sizes) committed_log → Answers lists CommitNow (Committed commit) old (record old { one_loop = one_loop })
-  Answers-commit commit follows = record {
-    at = λ script log of keeps.
-        let f = follows log keeps.loop in
-        record {
-          after = committed_log log;
-          does = (refl, ap Committed (f.0 ∙ ap (λ s. commit_of s log) (sym of.sizes_are)));
-          keeps = Keeps-same old one_loop log (committed_log log) f.1 sizes (λ lot. refl) (λ lot. refl) keeps;
-        };
-  }
-
-no_deadline : (urgent event : Option ℕ) (rung due : Bool) → HasNoDeadline (commit_from urgent event rung due)
-no_deadline (Some i) event rung due = tt
-no_deadline None (Some e) rung due = tt
-no_deadline None None true due = tt
-no_deadline None None false true = tt
-no_deadline None None false false = tt
-
-pub commit_line : (sizes : Sizes) (commit : Commit) (log : Log) → commit ≡ commit_of sizes log → HasNoDeadline commit
-commit_line sizes commit log is = subst HasNoDeadline (sym is) (no_deadline _ _ _ _)
 
 -- A poll.
 

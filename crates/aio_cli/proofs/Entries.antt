@@ -39,12 +39,6 @@ module _ (old mid : Bells) (rest : mid ≡ record old { ran = mid.ran; more = mi
   cut_same : mid.cut ≡ old.cut
   cut_same = ap (λ (b : Bells). b.cut) rest
 
-  progress_same : mid.progress ≡ old.progress
-  progress_same = ap (λ (b : Bells). b.progress) rest
-
-  tags_keep : (P : Bells → Type 0) → P (record old { ran = mid.ran; more = mid.more }) → P mid
-  tags_keep P h = subst P (sym rest) h
-
 -- what the entry makes keeps the tags
 Keeps-made : (old : Bells) (one_loop : LoopState) (ran : List Called) (more cut : ℕ) (log : Log) (made : History) → Quiet made (history_of log) → StandsFor one_loop (made_log made log) → one_loop.sizes ≡ old.one_loop.sizes → Keeps old log → Keeps (record old { one_loop = one_loop; ran = ran; more = more; cut = cut }) (made_log made log)
 Keeps-made old one_loop ran more cut log made q stands_for sizes keeps = record {
@@ -119,9 +113,6 @@ module _ (frame : Place → Place → Type 0) (nests : ℕ) (acts : ℕ → List
     (living : (half_at lot old.one_loop).lives ≡ true) where
   abbrev freed : Bells
   freed = record old { one_loop = one_loop; ran = ran; more = more }
-
-  job_at : (log : Log) → Option ℕ
-  job_at log = cond (is_lot old.one_loop.sizes lot) (job_of lot (history_of log)) None
 
   job_is : (log : Log) (entered : List Entered) → Stands old log entered → cond (is_lot old.one_loop.sizes lot) (job_of lot (history_of log)) None ≡ Some (slice_index old.tags.items lot)
   job_is log entered stands =

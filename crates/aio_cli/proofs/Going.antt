@@ -13,14 +13,15 @@ use Rattle.aio_model.specs.Asked.{is_ask}
 use Rattle.aio_model.specs.Serving.{length_of}
 use Rattle.aio_model.specs.SerialHistory.{is_eio, eios_of}
 use Rattle.aio_words.specs.Faults.{HasRisenBy}
+use Rattle.aio_words.proofs.FaultLemmas.{HasRisenBy-add}
 use Rattle.img_requests.specs.declared.journal.Entry.{Entry}
 use Rattle.img_requests.specs.ImageState.{ImageState}
 use Rattle.img_requests.specs.Journal.{entries_of}
 use Rattle.img_requests.specs.Progress.{Replied}
-use Rattle.aio_cli.specs.Buffers.{HasRoomFor, RoomsFor}
+use Rattle.aio_cli.specs.Buffers.{RoomsFor}
 use Rattle.aio_cli.specs.Streams.{AreCounted, IsOneOf, IsSmall}
 use Rattle.aio_cli.proofs.Streams.{requests_of-due}
-use Rattle.aio_cli.proofs.SoFar.{SoFar, SoFar-begin, SoFar-more, SoFar-skip}
+use Rattle.aio_cli.proofs.SoFar.{SoFar, SoFar-more, SoFar-skip}
 use Rattle.aio_cli.proofs.Rooms.{RoomsFor-next}
 
 pub record Going {D : Type 0} (bytes : D → Option (List ℕ)) (faults size_faults extent : D → ℕ) (lines : List Step) (first : ImageState D)
@@ -44,29 +45,10 @@ eios_of-push served placed =
     let one : eios_of (placed ∷ []) ≡ counted placed + 0 = sum_by-cons counted placed [] in
     sum_by-append counted served (placed ∷ []) ∙ omega (arith, one)
 
-risen-more : (n m a b c : ℕ) → HasRisenBy n a b → HasRisenBy m b c → HasRisenBy (n + m) a c
-risen-more n m a b c first second = omega arith
-
 module _ {D : Type 0} (bytes : D → Option (List ℕ)) (faults size_faults extent : D → ℕ) (lines : List Step) (first : ImageState D) where
-  pub Going-begin : (buffers : List (List ℕ)) → first.journal ≡ [] → RoomsFor lines buffers
-      → Going bytes faults size_faults extent lines first 0 first [] buffers
-  Going-begin buffers empty rooms = record {
-    so_far = subst (λ journal. SoFar first.size lines 0 (bytes first.device) (bytes first.device) journal []) (sym empty) (SoFar-begin first.size lines (bytes first.device));
-    frame = refl;
-    rooms = rooms;
-    counted = omega arith;
-    eios = omega arith;
-    sizes = refl;
-    extents = refl;
-    few = omega arith;
-  }
-
   module _ (k : ℕ) (step : Step) (image : ImageState D) (served : List Placed) (bytes_here : List ℕ) (buffers : List (List ℕ))
       (inside : k < length lines) (here : step ≡ get_or lines k step)
       (going : Going bytes faults size_faults extent lines first k image served (bytes_here ∷ buffers)) where
-    pub room-here : HasRoomFor step.what bytes_here
-    room-here = (RoomsFor-next lines k step (bytes_here ∷ buffers) inside here going.rooms).0
-
     -- the stream has a request left
     pub due-here : AreCounted first.requests lines → is_ask step.what ≡ true → entries_of step.stream image.journal < slice_index image.requests step.stream
     due-here due asks =
@@ -103,7 +85,7 @@ module _ {D : Type 0} (bytes : D → Option (List ℕ)) (faults size_faults exte
           rooms = (RoomsFor-next lines k step (bytes_here ∷ buffers) inside here going.rooms).1;
           counted = omega (arith, going.counted);
           eios = subst (λ n. HasRisenBy n (faults first.device) (faults next.device)) (sym (eios_of-push served placed))
-              (risen-more (eios_of served) (cond (is_eio placed.reply) 1 0) (faults first.device) (faults image.device) (faults next.device) going.eios eios);
+              (HasRisenBy-add (eios_of served) (cond (is_eio placed.reply) 1 0) (faults first.device) (faults image.device) (faults next.device) going.eios eios);
           sizes = sizes ∙ going.sizes;
           extents = extents ∙ going.extents;
           few = omega (arith, length_push served placed, going.few);

@@ -13,4 +13,3 @@ pub mod Rooms
 pub mod Served
 pub mod SoFar
 pub mod Streams
-pub mod Taken

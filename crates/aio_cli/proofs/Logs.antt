@@ -13,7 +13,7 @@ use Rattle.aio_model.specs.LoopActs.{Waiting, DoesActs, Add, enqueue_made, made_
 use Rattle.aio_model.specs.LoopReplies.{made_log}
 use Rattle.aio_model.proofs.Frames.{Runs-append}
 use Rattle.aio_cli.specs.declared.bells.Bells.{Bells}
-use Rattle.aio_cli.specs.Bells.{Grows, EntersSome, Goes, Alive, same}
+use Rattle.aio_cli.specs.Bells.{Grows, EntersSome, Goes, Alive}
 
 pub history_of-made : (added : History) (log : Log) → history_of (made_log added log) ≡ added ++ history_of log
 history_of-made [] log = refl
@@ -79,21 +79,6 @@ Goes-as R T acts f g old new as_other first = record {
         stands = a.stands;
         grows = a.grows;
         enters = a.enters;
-      };
-}
-
--- with more waiting below
-pub Goes-above : (R : Place → Place → Type 0) (acts : ℕ → List ActKind) (k : Waiting → Waiting) (old new : Bells) → Goes R acts same same old new → Goes R acts k k old new
-Goes-above R acts k old new first = record {
-  at = λ log entered stands.
-      let a = first.at log entered stands in
-      record {
-        log_after = a.log_after;
-        entered_after = a.entered_after;
-        goes = a.goes;
-        stands = a.stands;
-        grows = a.grows;
-        enters = λ below. a.enters (k below);
       };
 }
 

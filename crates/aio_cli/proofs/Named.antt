@@ -2,11 +2,7 @@
 use Rattle.std.proofs.Common.{◌≡◌, ℕ, ◌+◌, ◌-◌, ◌^◌, min, ◌<◌, ◌≤◌, List, [], ◌∷◌, ◌++◌, length, sym, ◌∙◌, ap, arith, length-append}
 use Rattle.std.proofs.lemmas.List.{take-append-le, take_all, length-take}
 use Rattle.aio_model.specs.declared.ran_lists.Called.{Called}
-use Rattle.aio_model.specs.LoopReplies.{counted}
 use Rattle.aio_cli.specs.Bells.{Names}
-
-counted-more : (n : ℕ) → min (counted n + 1) (2 ^ 64 - 1) ≡ counted (n + 1)
-counted-more n = omega arith
 
 -- the row is full, and one more is counted
 pub Names-full : (ran : List Called) (more more' : ℕ) (calls : List Called) (called : Called) → 256 ≤ length ran → more' ≡ min (more + 1) (2 ^ 64 - 1) → Names ran more calls → Names ran more' (calls ++ called ∷ [])

@@ -8,7 +8,7 @@ use Rattle.aio_model.proofs.Along.{bytes_left-keeps, IsSerialHistory-in_order}
 use Rattle.aio_model.specs.declared.scripts.Step.{Step}
 use Rattle.aio_cli.specs.declared.answer.Answer.{Answer}
 use Rattle.aio_cli.specs.declared.answer.Answer.TheVariants.{Done, Errors, Usage, BadScript, TooLong, TooLarge, ReadFault, WriteFault, NoMemory, DeviceFault}
-use Rattle.aio_cli.specs.Answers.{IsOfRun, IsOfServing, OnCut, OnDeviceFault, OnRun, OnTooLarge, OnUnserved, OnWritten}
+use Rattle.aio_cli.specs.Answers.{OnCut, OnWritten}
 use Rattle.aio_cli.specs.Run.{Serves}
 
 past-kept : (script : Script) (before : Option (List ℕ)) (served : List Placed)
@@ -76,76 +76,3 @@ OnCut-both ReadFault P Q p q = tt
 OnCut-both WriteFault P Q p q = (p, q)
 OnCut-both NoMemory P Q p q = tt
 OnCut-both DeviceFault P Q p q = tt
-
-pub OnUnserved-map : (answer : Answer) (P Q : Type 0) → (P → Q) → OnUnserved answer P → OnUnserved answer Q
-OnUnserved-map Done P Q f p = tt
-OnUnserved-map (Errors n) P Q f p = tt
-OnUnserved-map Usage P Q f p = f p
-OnUnserved-map (BadScript refusal) P Q f p = f p
-OnUnserved-map TooLong P Q f p = f p
-OnUnserved-map (TooLarge i d) P Q f p = f p
-OnUnserved-map ReadFault P Q f p = f p
-OnUnserved-map WriteFault P Q f p = tt
-OnUnserved-map NoMemory P Q f p = f p
-OnUnserved-map DeviceFault P Q f p = f p
-
-pub OnRun-map : (answer : Answer) (P Q : Type 0) → (P → Q) → OnRun answer P → OnRun answer Q
-OnRun-map Done P Q f p = f p
-OnRun-map (Errors n) P Q f p = f p
-OnRun-map Usage P Q f p = tt
-OnRun-map (BadScript refusal) P Q f p = tt
-OnRun-map TooLong P Q f p = tt
-OnRun-map (TooLarge i d) P Q f p = tt
-OnRun-map ReadFault P Q f p = tt
-OnRun-map WriteFault P Q f p = f p
-OnRun-map NoMemory P Q f p = tt
-OnRun-map DeviceFault P Q f p = tt
-
--- what an answer says that can come once the device is known to hold the image
-pub serving-run : (answer : Answer) → IsOfServing answer → IsOfRun answer
-serving-run Done of = tt
-serving-run (Errors n) of = tt
-serving-run Usage of = absurd of
-serving-run (BadScript refusal) of = absurd of
-serving-run TooLong of = absurd of
-serving-run (TooLarge i d) of = absurd of
-serving-run ReadFault of = absurd of
-serving-run WriteFault of = tt
-serving-run NoMemory of = tt
-serving-run DeviceFault of = absurd of
-
-pub serving-large : (answer : Answer) (P : ℕ → ℕ → Type 0) → IsOfServing answer → OnTooLarge answer P
-serving-large Done P of = tt
-serving-large (Errors n) P of = tt
-serving-large Usage P of = tt
-serving-large (BadScript refusal) P of = tt
-serving-large TooLong P of = tt
-serving-large (TooLarge i d) P of = absurd of
-serving-large ReadFault P of = tt
-serving-large WriteFault P of = tt
-serving-large NoMemory P of = tt
-serving-large DeviceFault P of = tt
-
-pub serving-told : (answer : Answer) (P : Type 0) → IsOfServing answer → OnDeviceFault answer P
-serving-told Done P of = tt
-serving-told (Errors n) P of = tt
-serving-told Usage P of = tt
-serving-told (BadScript refusal) P of = tt
-serving-told TooLong P of = tt
-serving-told (TooLarge i d) P of = tt
-serving-told ReadFault P of = tt
-serving-told WriteFault P of = tt
-serving-told NoMemory P of = tt
-serving-told DeviceFault P of = absurd of
-
-pub serving-ran : (answer : Answer) (P : Type 0) → P → OnRun answer P
-serving-ran Done P p = p
-serving-ran (Errors n) P p = p
-serving-ran Usage P p = tt
-serving-ran (BadScript refusal) P p = tt
-serving-ran TooLong P p = tt
-serving-ran (TooLarge i d) P p = tt
-serving-ran ReadFault P p = tt
-serving-ran WriteFault P p = p
-serving-ran NoMemory P p = tt
-serving-ran DeviceFault P p = tt

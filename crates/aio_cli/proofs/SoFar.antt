@@ -1,6 +1,6 @@
 -- What holds while the requests of a script are served in the order of its lines.
-use Rattle.std.proofs.Common.{◌≡◌, ℕ, ◌+◌, ◌<◌, ◌≤◌, ◌==◌, ◌&&◌, false, cond, List, [], ◌∷◌, ◌++◌, length, map, take, get_or, Option, Some, None, option_map, refl, sym, ◌∙◌, ap, subst, arith}
-use Rattle.std.proofs.lemmas.List.{append-nil, map_push, take_all}
+use Rattle.std.proofs.Common.{◌≡◌, ℕ, ◌+◌, ◌<◌, ◌==◌, ◌&&◌, false, cond, List, [], ◌∷◌, ◌++◌, length, map, take, get_or, Option, Some, None, option_map, refl, sym, ◌∙◌, ap, subst, arith}
+use Rattle.std.proofs.lemmas.List.{append-nil, map_push}
 use Rattle.std.proofs.lemmas.List.Sums.{sum_by-append, sum_by-cons}
 use Rattle.aio_model.specs.declared.requests.Request.{Request}
 use Rattle.aio_model.specs.declared.replies.Placed.{Placed}
@@ -101,12 +101,6 @@ module _ (size : ℕ) (lines : List Step) (k : ℕ) (step : Step) (request : Req
         ∙ sym (told_left-push (asked lines) served placed request told named);
     counted = next_counted;
   }
-
--- all lines were served
-pub SoFar-names : (size : ℕ) (lines : List Step) (k : ℕ) (told now : Option (List ℕ)) (journal : List Entry) (served : List Placed)
-    → SoFar size lines k told now journal served → length lines ≤ k → map placed_name served ≡ map asked_name (asked lines)
-SoFar-names size lines k told now journal served so_far all =
-    so_far.names ∙ ap (λ some. map asked_name (asked some)) (take_all k lines all)
 
 -- a line that asks nothing
 skipped : (stream index : ℕ) (what : What) → is_ask what ≡ false → asked_by stream index what ≡ []

@@ -1,9 +1,9 @@
 -- The requests of a script's lines, counted stream by stream.
-use Rattle.std.proofs.Common.{◌≡◌, ℕ, zero, suc, ◌+◌, ◌<◌, ◌≤◌, ◌==◌, ◌&&◌, ◌||◌, Bool, true, false, cond, sum, inl, inr, List, [], ◌∷◌, ◌++◌, length, map, set, take, drop, get_or, slice_index, refl, sym, ◌∙◌, ap, arith, get_or-set_same, get_or-set_other, length-append}
+use Rattle.std.proofs.Common.{◌≡◌, ℕ, zero, suc, ◌+◌, ◌<◌, ◌==◌, ◌&&◌, ◌||◌, Bool, true, false, cond, sum, inl, inr, List, [], ◌∷◌, ◌++◌, length, map, take, drop, get_or, slice_index, refl, sym, ◌∙◌, ap, arith, length-append}
 use Rattle.std.specs.List.{AllByRecursion}
-use Rattle.std.proofs.lemmas.Bool.{cases_eq, cases_Bool, eqb-true, eq-eqb, ne_eqb, and_from, and_left, cond-true, cond-false}
+use Rattle.std.proofs.lemmas.Bool.{cases_Bool, eqb-true, eq-eqb, and_from, cond-true}
 use Rattle.std.proofs.lemmas.List.{length-map, take-append-drop, take_more}
-use Rattle.std.proofs.lemmas.List.Sums.{sum_by-append, sum_by-cons, sum_by_push}
+use Rattle.std.proofs.lemmas.List.Sums.{sum_by-append, sum_by-cons}
 use Rattle.aio_model.specs.declared.replies.Placed.{Placed}
 use Rattle.aio_model.specs.declared.scripts.Script.{Script}
 use Rattle.aio_model.specs.declared.scripts.Step.{Step}
@@ -15,47 +15,7 @@ use Rattle.aio_model.specs.SerialHistory.{asked_name, placed_name}
 use Rattle.aio_model.proofs.Names.{requests_of-push}
 use Rattle.aio_script.specs.Bounds.{AsksLittle, IsAtHome, IsBounded, IsWithin}
 use Rattle.aio_script.specs.Grammar.{has_stream}
-use Rattle.aio_cli.specs.Streams.{AreCounted, IsOneOf, IsSmall, asks_of}
-
--- one line more
-pub asks_of-push : (lines : List Step) (step : Step) → asks_of (lines ++ step ∷ []) ≡ asks_of lines + cond (is_ask step.what) 1 0
-asks_of-push lines step = sum_by_push (λ (s : Step). cond (is_ask s.what) 1 0) lines step
-
-pub AreCounted-ask : (requests : List ℕ) (lines : List Step) (step : Step) → step.stream < length requests → is_ask step.what ≡ true
-    → AreCounted requests lines → AreCounted (set requests step.stream (slice_index requests step.stream + 1)) (lines ++ step ∷ [])
-AreCounted-ask requests lines step known asks counted stream =
-    let n = slice_index requests step.stream + 1 in
-    elim (cases_eq stream step.stream) [
-      | inl e ↦
-          ap (slice_index (set requests step.stream n)) e
-          ∙ get_or-set_same requests step.stream n 0 known
-          ∙ ap (λ k. k + 1) (ap (slice_index requests) (sym e) ∙ counted stream)
-          ∙ ap (λ k. requests_of stream lines + k) (sym (cond-true (step.stream == stream && is_ask step.what) 1 0 (and_from _ _ (eq-eqb step.stream stream (sym e)) asks)))
-          ∙ sym (requests_of-push stream lines step)
-      | inr ne ↦
-          get_or-set_other requests step.stream stream n 0 ne
-          ∙ counted stream
-          ∙ omega (
-            arith,
-            cond-false {A = ℕ} (step.stream == stream && is_ask step.what) 1 0 (and_left _ _ (ne_eqb step.stream stream (λ e. ne (sym e)))),
-            requests_of-push stream lines step,
-          )
-    ]
-
-and-false : (b : Bool) → ◌≡◌ {A = ℕ} (cond (b && false) 1 0) 0
-and-false true = refl
-and-false false = refl
-
-pub AreCounted-silent : (requests : List ℕ) (lines : List Step) (step : Step) → is_ask step.what ≡ false
-    → AreCounted requests lines → AreCounted requests (lines ++ step ∷ [])
-AreCounted-silent requests lines step silent counted stream =
-    counted stream
-    ∙ omega (
-      arith,
-      ap {B = ℕ} (λ (asks : Bool). cond (step.stream == stream && asks) 1 0) silent,
-      and-false (step.stream == stream),
-      requests_of-push stream lines step,
-    )
+use Rattle.aio_cli.specs.Streams.{IsOneOf, IsSmall, asks_of}
 
 -- numbers of which the sum is 0 are all 0
 pub all-zero : (numbers : List ℕ) → sum numbers ≡ 0 → (i : ℕ) → slice_index numbers i ≡ 0
@@ -78,13 +38,6 @@ requests_of-due lines k step inside here asks =
     let whole : requests_of s lines ≡ requests_of s (take (k + 1) lines) + requests_of s (drop (k + 1) lines) =
     ap (requests_of s) (sym (take-append-drop (k + 1) lines)) ∙ parts in
     omega (arith, one, ap (requests_of s) upto, whole)
-
--- no more lines ask above a line than in all
-pub asks_of-take : (lines : List Step) (k : ℕ) → asks_of (take k lines) ≤ asks_of lines
-asks_of-take lines k =
-    let counted : Step → ℕ = λ (other : Step). cond (is_ask other.what) 1 0 in
-    let parts : asks_of (take k lines ++ drop k lines) ≡ asks_of (take k lines) + asks_of (drop k lines) = sum_by-append counted (take k lines) (drop k lines) in
-    omega (arith, parts, ap asks_of (take-append-drop k lines))
 
 length-asked_by : (stream index : ℕ) (what : What) → length (asked_by stream index what) ≡ cond (is_ask what) 1 0
 length-asked_by stream index (Ask request) = refl

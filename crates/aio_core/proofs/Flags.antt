@@ -27,9 +27,6 @@ read_here words k x below = get_or-set_same words k x 0 below
 pub read_else : (words : List ℕ) (k j x : ℕ) → j ≢ k → slice_index (set words k x) j ≡ slice_index words j
 read_else words k j x other = get_or-set_other words k j x 0 other
 
-pub flags_at_within : (sizes : Sizes) (i : ℕ) → i < index_count sizes → flags_at i < word_count sizes
-flags_at_within sizes i below = omega arith
-
 -- Flags after an entry.
 
 pub flags_of-enqueue : (i s : ℕ) (asked : Asked) (was : Flags) (h : History) → flags_of i (Enqueue i asked s was ∷ h) ≡ enqueued_flags asked (flags_of i h)

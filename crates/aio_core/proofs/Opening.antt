@@ -1,13 +1,12 @@
 -- A new table meets the rule, over a history with no entry.
 use Rattle.std.proofs.Common.{◌≡◌, ℕ, zero, suc, ◌<◌, ◌≤◌, List, [], ◌∷◌, length, slice_index, refl, sym, subst, arith}
 use mathlib.Core.Option.{some-injective, some-ne-none}
-use Rattle.atomic_table.specs.Table.{opening}
 use Rattle.aio_model.specs.LoopHistory.{Sizes}
 use Rattle.aio_core.specs.Words.{head_at, flags_at, index_count, word_count, flags_word}
 use Rattle.aio_core.specs.Known.{Known, first_known}
 use Rattle.aio_core.specs.Opening.{AreFirst}
 use Rattle.aio_core.proofs.Flags.{lot_is_free}
-use Rattle.aio_core.specs.Rule.{EachView, AreApart, IsSeat, Owes, HasOut, Stands, Kept}
+use Rattle.aio_core.specs.Rule.{EachView, AreApart, IsSeat, Owes, HasOut, Stands}
 
 each_alone : (P : Known → Type 0) (v : Known) → P v → EachView P (v ∷ [])
 each_alone P v h zero u e = subst P (some-injective v u e) h
@@ -36,6 +35,3 @@ opening_stands sizes words first =
       flags = record { each = first.flags; no_lots = λ i lot. lot_is_free sizes i lot };
       lists = record { stack = first.head; owed = each_alone (λ u. Owes sizes words [] u.first u.phase) v tt; out = each_alone (HasOut words []) v (λ own. (refl, tt)) };
     }
-
-pub opening_kept : {S : Type 0} (sizes : Sizes) (words : List ℕ) (slots : List S) → AreFirst sizes words → Kept {S = S} sizes (opening words slots (first_known sizes))
-opening_kept sizes words slots first = ([], opening_stands sizes words first)

@@ -1,5 +1,5 @@
 -- From what a step tells to what a call says.
-use Rattle.std.proofs.Common.{◌≡◌, ◌<◌, ℕ, false, refl, sym, ap, ◌∙◌, subst}
+use Rattle.std.proofs.Common.{◌≡◌, ℕ, false, refl, sym, ap, ◌∙◌, subst}
 use Rattle.aio_model.specs.declared.flags.Flags.{Flags}
 use Rattle.aio_model.specs.declared.kinds.Kind as asking
 use Rattle.aio_model.specs.declared.kinds.Kind.TheVariants.{Sched, Idle, Del}
@@ -10,7 +10,7 @@ use Rattle.aio_model.proofs.FlagsWords.{flags_in-word_of}
 use Rattle.aio_core.specs.Known.{Known}
 use Rattle.aio_core.specs.Standing.{asked_by, mask_of, Enqueues, Dequeues}
 use Rattle.aio_core.specs.Plays.{Enqueued, Dequeued}
-use Rattle.aio_core.proofs.Masks.{asked_with-mask_of, word_of-below}
+use Rattle.aio_core.proofs.Masks.{asked_with-mask_of}
 
 pub asked_is_of_handle : (kind : asking.Kind) → is_once (asked_by kind) ≡ false
 asked_is_of_handle Sched = refl
@@ -23,12 +23,6 @@ enqueues_told i found asked f v w told is =
     let same : told.flags ≡ f = sym (flags_in-word_of told.flags) ∙ ap flags_in (sym told.found_is) ∙ sym is in
     subst (λ g. Enqueues i asked g v w) same (subst (λ a. Enqueues i a told.flags v w) (asked_with-mask_of asked) told.enqueues)
 
-pub found_below : (i mask found : ℕ) (v w : Known) → Enqueued i mask found v w → found < 32
-found_below i mask found v w told = subst (λ n. n < 32) (sym told.found_is) (word_of-below told.flags)
-
 pub dequeues_told : (i found : ℕ) (f : Flags) (v w : Known) → Dequeued i found v w → f ≡ flags_in found → Dequeues i f v w
 dequeues_told i found f v w told is =
     subst (λ g. Dequeues i g v w) (sym (flags_in-word_of told.flags) ∙ ap flags_in (sym told.found_is) ∙ sym is) told.dequeues
-
-pub dequeued_below : (i found : ℕ) (v w : Known) → Dequeued i found v w → found < 32
-dequeued_below i found v w told = subst (λ n. n < 32) (sym told.found_is) (word_of-below told.flags)

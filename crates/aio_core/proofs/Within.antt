@@ -1,10 +1,10 @@
 -- What home has taken stays among the indices of the table.
-use Rattle.std.proofs.Common.{◌≡◌, ℕ, ◌<◌, ◌≤◌, Bool, true, false, cond, ◌&&◌, eqb, ltb, leb, List, [], ◌∷◌, ◌++◌, drop, refl, sym, ap, ◌∙◌, subst, arith}
-use Rattle.std.proofs.lemmas.Bool.{and_parts, and_from, ltb-true, leb-true, lt-ltb, le-leb, eqb-false}
+use Rattle.std.proofs.Common.{◌≡◌, ℕ, ◌<◌, ◌≤◌, Bool, true, false, cond, ◌&&◌, eqb, ltb, leb, List, [], ◌∷◌, ◌++◌, refl, sym, ap, ◌∙◌, subst, arith}
+use Rattle.std.proofs.lemmas.Bool.{and_parts, and_from, lt-ltb, le-leb, eqb-false}
 use Rattle.aio_model.specs.LoopHistory.{Sizes}
 use Rattle.aio_core.specs.Words.{index_count}
 use Rattle.aio_core.specs.Known.{Known}
-use Rattle.aio_core.specs.Standing.{with_slice, without_first, Takes, Lifts}
+use Rattle.aio_core.specs.Standing.{with_slice, Takes}
 use Rattle.aio_core.specs.HomeState.{are_within, is_within}
 
 within_back : (sizes : Sizes) (slices : List ℕ) (word : ℕ) → are_within sizes slices ≡ true → 0 < word → word ≤ index_count sizes → are_within sizes (slices ++ word ∷ []) ≡ true
@@ -20,19 +20,6 @@ within_push sizes slices word true is h high = h
 within_push sizes slices word false is h high =
     within_back sizes slices word h (let no = eqb-false word 0 is in omega arith) high
 
-within_first : (sizes : Sizes) (more : List ℕ) (word : ℕ) (b : Bool) → eqb word 0 ≡ b → are_within sizes more ≡ true → word ≤ index_count sizes → are_within sizes (cond b more (word ∷ more)) ≡ true
-within_first sizes more word true is h high = h
-within_first sizes more word false is h high =
-    and_from _ _ (lt-ltb 0 word (let no = eqb-false word 0 is in omega arith)) (and_from _ _ (le-leb word (index_count sizes) high) h)
-
--- the first word leads to an index, and the others do
-pub first_within : (sizes : Sizes) (slices : List ℕ) (word : ℕ) → are_within sizes slices ≡ true → slices ≡ word ∷ drop 1 slices → (0 < word) × (word ≤ index_count sizes) × (are_within sizes (drop 1 slices) ≡ true)
-first_within sizes slices word h is =
-    let all : are_within sizes (word ∷ drop 1 slices) ≡ true = subst (λ l. are_within sizes l ≡ true) is h in
-    let a = and_parts (ltb 0 word) (leb word (index_count sizes) && are_within sizes (drop 1 slices)) all in
-    let b = and_parts (leb word (index_count sizes)) (are_within sizes (drop 1 slices)) a.1 in
-    (ltb-true 0 word a.0, leb-true word (index_count sizes) b.0, b.1)
-
 pub taken_within : (found : ℕ) (v w : Known) (old new : List ℕ) → Takes found v w → new ≡ with_slice old found → are_within v.sizes old ≡ true → are_within w.sizes new ≡ true
 taken_within found v w old new takes is h =
     subst (λ z. are_within z new ≡ true) (sym (ap (λ (k : Known). k.sizes) takes.rest)) (subst (λ l. are_within v.sizes l ≡ true) (sym is) (within_push v.sizes old found (eqb found 0) refl h takes.below))
@@ -44,15 +31,3 @@ taken_same found v w old new takes same is =
 pub taken_hand : (found : ℕ) (v w : Known) → Takes found v w → is_within v.sizes v.stage.hand ≡ true → is_within w.sizes w.stage.hand ≡ true
 taken_hand found v w takes h =
     ap (λ (k : Known). is_within k.sizes k.stage.hand) takes.rest ∙ h
-
-pub lifted_within : (i found : ℕ) (v w : Known) (more new : List ℕ) → Lifts i found more v w → new ≡ without_first found more → are_within v.sizes more ≡ true → are_within w.sizes new ≡ true
-lifted_within i found v w more new lifts is h =
-    subst (λ z. are_within z new ≡ true) (sym (ap (λ (k : Known). k.sizes) lifts.rest)) (subst (λ l. are_within v.sizes l ≡ true) (sym is) (within_first v.sizes more found (eqb found 0) refl h lifts.below))
-
-pub lifted_same : (i found : ℕ) (v w : Known) (more new : List ℕ) → Lifts i found more v w → new ≡ without_first found more → new ≡ w.stage.slices
-lifted_same i found v w more new lifts is =
-    is ∙ sym (ap (λ (k : Known). k.stage.slices) lifts.rest)
-
-pub lifted_hand : (i found : ℕ) (v w : Known) (more : List ℕ) → Lifts i found more v w → i < index_count v.sizes → is_within w.sizes w.stage.hand ≡ true
-lifted_hand i found v w more lifts below =
-    ap (λ (k : Known). is_within k.sizes k.stage.hand) lifts.rest ∙ lt-ltb i (index_count v.sizes) below

@@ -1,14 +1,14 @@
 -- What an add and a removal answer, by the events that have a live handler.
-use Rattle.std.proofs.Common.{◌≡◌, ℕ, ◌+◌, ◌<◌, ◌≤◌, Bool, true, false, cond, eqb, List, length, Option, Some, None, option_map, Ok, Err, refl, sym, ◌∙◌, ap, inl, inr}
+use Rattle.std.proofs.Common.{◌≡◌, ℕ, ◌+◌, ◌<◌, ◌≤◌, true, false, cond, eqb, List, length, Some, None, Ok, Err, refl, sym, ◌∙◌, ap, inl, inr}
 use Rattle.std.proofs.lemmas.Bool.{cases_Bool, eq-eqb, ne_eqb, eqb-true, eqb-false, le-leb, lt-leb}
 use Rattle.aio_chain.specs.LinkList.{contains}
-use Rattle.aio_model.specs.HandlerCalls.{named, on_event}
+use Rattle.aio_model.specs.HandlerCalls.{on_event}
 use Rattle.aio_handlers.specs.declared.keys.Slot.{Slot}
 use Rattle.aio_handlers.specs.declared.answers.AddRefusal.TheVariants.{Taken, Full, Worn}
-use Rattle.aio_handlers.specs.Slots.{id_at, handler_at, handlers_at, event_named}
-use Rattle.aio_handlers.specs.Answers.{fresh_answer, taken_or, add_answer, removed_as}
+use Rattle.aio_handlers.specs.Slots.{id_at, handler_at, handlers_at}
+use Rattle.aio_handlers.specs.Answers.{fresh_answer, taken_or, add_answer}
 use Rattle.aio_handlers.specs.StandsFor.{HandlerList}
-use Rattle.aio_handlers.proofs.Told.{named-handlers_at, on_event-handlers_at}
+use Rattle.aio_handlers.proofs.Told.{on_event-handlers_at}
 
 module _ (handlers : HandlerList) (slots : List Slot) (events : List ℕ) (is : handlers.live ≡ handlers_at slots events) (event : ℕ) where
   pub answer_taken : contains event events ≡ true → add_answer handlers event ≡ Err (Taken (record { number = id_at slots event }))
@@ -38,12 +38,6 @@ module _ (handlers : HandlerList) where
       let test = lt-leb handlers.room (length handlers.live + handlers.marked) has_room in
       let last = ne_eqb handlers.count 4294967295 more in
       rw (test, last) refl
-
--- what a removal answers
-pub answer_removed : (walking : Bool) (slots : List Slot) (id : ℕ) (events : List ℕ) (found : Option ℕ) → event_named slots id events ≡ found
-    → removed_as walking (named id (handlers_at slots events)) ≡ removed_as walking (option_map (handler_at slots) found)
-answer_removed walking slots id events found e =
-    ap (removed_as walking) (named-handlers_at slots id events ∙ ap (option_map (handler_at slots)) e)
 
 -- events of other numbers are others
 pub apart_from : (slots : List Slot) (events : List ℕ) → ((event other : ℕ) → contains event events ≡ true → contains other events ≡ true → id_at slots event ≡ id_at slots other → event ≡ other)

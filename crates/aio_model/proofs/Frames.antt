@@ -21,7 +21,3 @@ Turns-more sizes frame nests (suc count) before mid after run turn =
 pub Frame-from : (sizes : Sizes) (deeper : ℕ) (before after : Place) → TakesAndTurns sizes (Frame sizes deeper) (nests_above deeper) before after → Frame sizes (suc deeper) before after
 unfolding Frame
 Frame-from sizes deeper before after parts = parts
-
-pub Frame-parts : (sizes : Sizes) (deeper : ℕ) (before after : Place) → Frame sizes (suc deeper) before after → TakesAndTurns sizes (Frame sizes deeper) (nests_above deeper) before after
-unfolding Frame
-Frame-parts sizes deeper before after frame = frame

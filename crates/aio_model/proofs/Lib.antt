@@ -1,7 +1,6 @@
 mod Examples
 mod LoopExamples
 mod LoopLineExamples
-pub mod LoopReplies
 pub mod Along
 pub mod InOrder
 pub mod Names

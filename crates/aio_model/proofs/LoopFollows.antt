@@ -87,11 +87,6 @@ dequeued_half half =
     record { flags = after_dequeue half.flags; lives = half.lives; dequeued = true }
 
 module _ (st : LoopState) (log : Log) (stands : StandsFor st log) where
-  pub none_follows : st.out ≡ [] → (None ≡ next_of log) × StandsFor st (dequeued_log log)
-  none_follows e =
-      let none : out_of (history_of log) ≡ [] = sym stands.out ∙ e in
-      (rw none refl, rw none stands)
-
   module _ (i : ℕ) (rest : List ℕ) (next : st.out ≡ i ∷ rest) (below : i < length st.halves) where
     dequeued_halves : (ran : Bool) (j : ℕ) → get_or (set st.halves i (dequeued_half (half_at i st))) j blank ≡ half_of j (Dequeue i ran ∷ history_of log)
     dequeued_halves ran j =

@@ -7,6 +7,5 @@ pub mod LoopTexts
 pub mod LinesRead
 pub mod Words
 pub mod Cuts
-pub mod Pieces
 pub mod Prints
 pub mod Texts

@@ -1,5 +1,5 @@
 -- Lines read one behind the other.
-use Rattle.std.proofs.Common.{◌≡◌, Bool, ℕ, ◌+◌, List, [], ◌∷◌, ◌++◌, refl, sym, ap, ◌∙◌, arith, append-nil, Result, Ok, Err, count_by, sum_by, not, if◌then◌else◌}
+use Rattle.std.proofs.Common.{◌≡◌, Bool, ℕ, ◌+◌, List, [], ◌∷◌, ◌++◌, sym, ap, ◌∙◌, arith, append-nil, Result, Ok, Err, count_by, sum_by, not, if◌then◌else◌}
 use Rattle.std.proofs.lemmas.List.Elements.{filter_map-append}
 use Rattle.std.proofs.lemmas.List.Sums.{fold_push, sum_by-append}
 use Rattle.aio_model.specs.declared.scripts.Stream.{Stream}
@@ -17,10 +17,6 @@ use Rattle.aio_script.specs.Lines.{Numbered}
 use Rattle.aio_script.specs.Grammar.{◌>>=◌, all_said, bytes_moved, counts_of, declared, done, said_at, script_below, steps_in, streams_in}
 use Rattle.aio_script.specs.Progress.{counts_after, counts_with, HasRead}
 use Rattle.aio_script.specs.Reading.{Gives, GivesScript}
-
--- where no line was read
-pub HasRead-nothing : (loops : ℕ) (whole : List Numbered) → HasRead loops whole whole [] []
-HasRead-nothing loops whole = record { above = []; same_streams = refl; same_steps = refl; goes_on = refl }
 
 module _ (loops : ℕ) (whole left behind : List Numbered) (numbered : Numbered) (streams : List Stream) (steps : List Step)
     (read : HasRead loops whole left streams steps) (cut : left ≡ numbered ∷ behind)
@@ -53,18 +49,6 @@ module _ (loops : ℕ) (whole left behind : List Numbered) (numbered : Numbered)
       → GivesScript (script_below image loops whole) (Err fail)
   GivesScript-stops image (Refused e) h = refused image e h
   GivesScript-stops image NoMemory h = tt
-
--- where all lines were read
-pub HasRead-whole : (image loops : ℕ) (whole left : List Numbered) (streams : List Stream) (steps : List Step)
-    → HasRead loops whole left streams steps → left ≡ []
-    → script_below image loops whole ≡ Ok (record { image = image; loops = loops; streams = streams; lines = steps })
-HasRead-whole image loops whole left streams steps read end =
-    let all : all_said loops [] whole ≡ Ok read.above = read.goes_on ∙ ap (all_said loops read.above) end in
-    let said : script_below image loops whole ≡ Ok (record { image = image; loops = loops; streams = streams_in read.above; lines = steps_in read.above }) =
-    ap (λ (r : Result (List Said) ScriptRefusal). r >>= λ said. Ok (record { image = image; loops = loops; streams = streams_in said; lines = steps_in said })) all in
-    said
-    ∙ ap (λ (ss : List Stream). Ok (record { image = image; loops = loops; streams = ss; lines = steps_in read.above })) (sym read.same_streams)
-    ∙ ap (λ (ss : List Step). Ok (record { image = image; loops = loops; streams = streams; lines = ss })) (sym read.same_steps)
 
 pub count_by-one : {X : Type 0} (p : X → Bool) (xs : List X) (x : X) → count_by p (xs ++ x ∷ []) ≡ count_by p xs + (if p x then 1 else 0)
 count_by-one p xs x = fold_push _ 0 xs x

@@ -1,28 +1,29 @@
 -- Texts printed one behind the other.
-use Rattle.std.proofs.Common.{◌≡◌, ℕ, List, [], ◌++◌, Option, Result, Ok, Err, ap, subst, ◌∙◌, arith}
+use Rattle.std.proofs.Common.{◌≡◌, ℕ, List, [], ◌++◌, Option, Result, Ok, Err, ap, sym, subst, ◌∙◌, arith}
 use Rattle.std.specs.Prelude.{IsErr}
 use Rattle.aio_words.specs.Content.{with_piece}
+use Rattle.aio_words.proofs.ContentLemmas.{with_piece-nil, with_piece-with_piece, AppendsFront-longer, AppendsFront-behind}
+use Rattle.aio_words.proofs.FaultLemmas.{HasRisen-earlier}
 use Rattle.aio_script.specs.declared.print.WriteFault.{WriteFault}
 use Rattle.aio_script.specs.Printing.{Prints}
-use Rattle.aio_script.proofs.Pieces.{with_piece-nothing, with_piece-append, AppendsFront-longer, AppendsFront-after, HasRisen-after}
 
 pub Prints-nothing : (held : Option (List ℕ)) (faults : ℕ) → Prints [] held held faults faults (Ok tt)
-Prints-nothing held faults = record { ok = with_piece-nothing held; err = tt; counted = omega arith; cause = tt }
+Prints-nothing held faults = record { ok = sym (with_piece-nil held); err = tt; counted = omega arith; cause = tt }
 
 -- the second text, printed or not, behind the first one
 pub Prints-then : {before between after : Option (List ℕ)} {f g h : ℕ} {a b : List ℕ} (result : Result Unit WriteFault)
     → Prints a before between f g (Ok tt) → Prints b between after g h result → Prints (a ++ b) before after f h result
 Prints-then {before} {between} {after} {f} {g} {h} {a} {b} (Ok u) first second = record {
-  ok = second.ok ∙ ap (with_piece b) first.ok ∙ with_piece-append a b before;
+  ok = second.ok ∙ ap (with_piece b) first.ok ∙ with_piece-with_piece before a b;
   err = tt;
   counted = omega (arith, first.counted, second.counted);
   cause = tt;
 }
 Prints-then {before} {between} {after} {f} {g} {h} {a} {b} (Err fault) first second = record {
   ok = tt;
-  err = AppendsFront-after before between after a b first.ok second.err;
+  err = AppendsFront-behind before between after a b first.ok second.err;
   counted = omega (arith, first.counted, second.counted);
-  cause = HasRisen-after f g h first.counted second.cause;
+  cause = HasRisen-earlier f g h first.counted second.cause;
 }
 
 -- the first text wasn't printed whole, and the call ends with the fault

@@ -1,9 +1,9 @@
 -- What each call of a set of timers leaves stands for the list of calls with that call more.
-use Rattle.std.proofs.Common.{◌≡◌, ℕ, ℤ, ◌+◌, ◌<◌, Bool, true, false, ◌&&◌, cond, eqb, leb, List, [], ◌∷◌, length, get_or, set, Some, None, refl, sym, ◌∙◌, ap, subst, inl, inr, arith, get_or-set_same, get_or-set_other}
+use Rattle.std.proofs.Common.{◌≡◌, ℕ, ℤ, ◌+◌, ◌<◌, Bool, true, false, ◌&&◌, cond, eqb, leb, List, [], ◌∷◌, length, get_or, set, Some, refl, sym, ◌∙◌, ap, subst, inl, inr, arith, get_or-set_same, get_or-set_other}
 use Rattle.std.proofs.lemmas.Bool.{false≢true, cases_Bool, both_ways, eq-eqb, eqb-true, eqb-false, or_left, or_cases}
 use Rattle.aio_model.specs.declared.timer_calls.TimerCall.{TimerCall}
 use Rattle.aio_model.specs.declared.timer_calls.TimerCall.TheVariants.{Add, Arm, Disarm, RunBegin, Give}
-use Rattle.aio_model.specs.TimerCalls.{from_zero, expiry, place, is_armed, is_marked, StandsBefore, IsFirst, IsNone, IsEarliest}
+use Rattle.aio_model.specs.TimerCalls.{from_zero, expiry, place, is_armed, is_marked, StandsBefore, IsFirst, IsEarliest}
 use Rattle.aio_chain.specs.LinkList.{contains, first_of, without}
 use Rattle.aio_chain.proofs.Contained.{eqb-false_comm}
 use Rattle.aio_chain.proofs.Steps.{contains-without_same, contains-without_other, contains-from_without}
@@ -184,23 +184,9 @@ module _ (kind : ℕ → List TimerCall → Bool) (calls : List TimerCall) where
             ];
       }
 
-  pub IsNone-from : (xs : List ℕ) → ((k : ℕ) → contains k xs ≡ kind k calls) → first_of xs ≡ None → IsNone kind calls
-  IsNone-from [] has e = λ k. sym (has k)
-  IsNone-from (x ∷ xs) has e = absurd (cc)
-
 module _ (timers : TimerList) (calls : List TimerCall) (stands : StandsFor timers calls) where
   -- what the first of the order answers
   pub earliest : (timer : ℕ) → first_of timers.order ≡ Some timer → IsEarliest calls (get_or timers.expiries timer 0)
   earliest timer e =
       let first = IsFirst-from is_armed calls timers.order timer stands.armed stands.in_order e in
       (timer, first, sym (stands.expiries timer first.of_kind))
-
-  pub none_armed : first_of timers.order ≡ None → IsNone is_armed calls
-  none_armed e = IsNone-from is_armed calls timers.order stands.armed e
-
-  -- what the first of the due ones answers
-  pub next_marked : (timer : ℕ) → first_of timers.due ≡ Some timer → IsFirst is_marked calls timer
-  next_marked timer e = IsFirst-from is_marked calls timers.due timer stands.marked stands.due_in_order e
-
-  pub none_marked : first_of timers.due ≡ None → IsNone is_marked calls
-  none_marked e = IsNone-from is_marked calls timers.due stands.marked e

@@ -5,11 +5,6 @@ use Rattle.aio_words.specs.Content.{Takes, with_piece, AppendsFront}
 
 -- Sources
 
--- nothing was taken
-pub Takes-nil : (known : Option (List ℕ)) → Takes known known []
-Takes-nil None = refl
-Takes-nil (Some left) = refl
-
 joined : (known : Option (List ℕ)) (first second : List ℕ)
     → option_map (λ left. first ++ left) (option_map (λ left. second ++ left) known) ≡ option_map (λ left. (first ++ second) ++ left) known
 joined None first second = refl
@@ -41,25 +36,6 @@ pub with_piece-with_piece : (held : Option (List ℕ)) (first second : List ℕ)
     → with_piece second (with_piece first held) ≡ with_piece (first ++ second) held
 with_piece-with_piece None first second = refl
 with_piece-with_piece (Some bytes) first second = ap Some (append_assoc bytes first second)
-
--- nothing was appended
-pub AppendsFront-nothing : (held : Option (List ℕ)) (piece : List ℕ) → AppendsFront held held piece
-AppendsFront-nothing held piece = record {
-  front = [];
-  rest = piece;
-  whole = refl;
-  holds = sym (with_piece-nil held);
-}
-
--- the whole piece was appended
-pub AppendsFront-whole : (before now : Option (List ℕ)) (piece : List ℕ)
-    → now ≡ with_piece piece before → AppendsFront before now piece
-AppendsFront-whole before now piece holds = record {
-  front = piece;
-  rest = [];
-  whole = sym (append-nil piece);
-  holds = holds;
-}
 
 -- a front of a piece is one of a longer text too
 pub AppendsFront-longer : (before now : Option (List ℕ)) (piece behind : List ℕ)

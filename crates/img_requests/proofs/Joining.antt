@@ -8,10 +8,9 @@ use Rattle.aio_model.specs.declared.replies.Reply.TheVariants as reply
 use Rattle.aio_model.specs.Serving.{put_at, length_of, end_of, FindsBytes, bytes_after}
 use Rattle.img_requests.specs.declared.answers.Piece.{Piece}
 use Rattle.img_requests.specs.declared.answers.Piece.TheVariants.{More, Whole, Failed}
-use Rattle.img_requests.specs.declared.journal.Mark.TheVariants as mark
 use Rattle.img_requests.specs.Journal.{good_mark, mark_of, reply_of}
 use Rattle.img_requests.specs.Presents.{kind_of, present_of}
-use Rattle.img_requests.specs.Pieces.{Pieced, HasRoom, bytes_with, buffer_with, piece_at, piece_length, done_after, stage_after}
+use Rattle.img_requests.specs.Pieces.{Pieced, HasRoom, bytes_with, buffer_with, piece_at, done_after, stage_after}
 use Rattle.img_requests.specs.Progress.{Progress, Replied, bytes_so_far, FoundSoFar, good_reply}
 use Rattle.img_requests.proofs.PutAt.{put_at-nothing, put_at_behind, take-put_at}
 
@@ -189,13 +188,6 @@ FindsBytes-eio (Write at written) k (Some bytes) = tt
 FindsBytes-eio (Zero at len) k (Some bytes) = tt
 FindsBytes-eio Flush k (Some bytes) = tt
 
-FindsBytes-einval : (request : Request) (told : Option (List ℕ)) → IfSome told (λ bytes. FindsBytes bytes request reply.Einval)
-FindsBytes-einval request None = tt
-FindsBytes-einval (Read at len) (Some bytes) = tt
-FindsBytes-einval (Write at written) (Some bytes) = tt
-FindsBytes-einval (Zero at len) (Some bytes) = tt
-FindsBytes-einval Flush (Some bytes) = tt
-
 bytes_after-eio : (request : Request) (done : ℕ) (told : Option (List ℕ))
     → option_map (bytes_so_far request done) told ≡ option_map (bytes_after request (reply.Eio done)) told
 bytes_after-eio request done None = refl
@@ -203,13 +195,6 @@ bytes_after-eio (Read at len) done (Some bytes) = refl
 bytes_after-eio (Write at written) done (Some bytes) = refl
 bytes_after-eio (Zero at len) done (Some bytes) = refl
 bytes_after-eio Flush done (Some bytes) = refl
-
-bytes_after-einval : (request : Request) (told : Option (List ℕ)) → told ≡ option_map (bytes_after request reply.Einval) told
-bytes_after-einval request None = refl
-bytes_after-einval (Read at len) (Some bytes) = refl
-bytes_after-einval (Write at written) (Some bytes) = refl
-bytes_after-einval (Zero at len) (Some bytes) = refl
-bytes_after-einval Flush (Some bytes) = refl
 
 -- The last piece of a request gives it the reply whose mark `leave` puts into the journal.
 pub Replied-last : (stream : ℕ) {size : ℕ} {request : Request} {told now next : Option (List ℕ)} {before after : List ℕ} {done n : ℕ}
@@ -229,15 +214,3 @@ Replied-last stream {size} {request} {told} {now} {next} {before} {after} {done}
   fits = record { answers = (so_far.within, piece.answered); finds = FindsBytes-eio request done told };
   leaves = piece.keeps ∙ so_far.puts ∙ bytes_after-eio request done told;
 }
-
--- a request that is refused fits Einval, and leaves every byte
-pub Replied-refused : (size : ℕ) (request : Request) (told : Option (List ℕ)) (buffer : List ℕ)
-    → size < end_of request → Replied size request told told (reply_of mark.Einval buffer)
-Replied-refused size request told buffer past = record {
-  fits = record { answers = past; finds = FindsBytes-einval request told };
-  leaves = bytes_after-einval request told;
-}
-
--- pieces come to an end: each with more to come has bytes
-pub piece_length-more : (length done : ℕ) → done + piece_length length done < length → done < done + piece_length length done
-piece_length-more length done more = omega arith

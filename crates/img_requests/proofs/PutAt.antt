@@ -1,16 +1,10 @@
 -- Laws of a piece that is put into a list.
-use Rattle.std.proofs.Common.{◌≡◌, ℕ, ◌+◌, ◌≤◌, List, [], ◌++◌, length, take, drop, sym, ap, ◌∙◌, append_assoc, add-zero, arith, length-append, length-drop, take-append-drop}
+use Rattle.std.proofs.Common.{◌≡◌, ℕ, ◌+◌, ◌≤◌, List, [], ◌++◌, length, take, drop, sym, ap, ◌∙◌, append_assoc, add-zero, arith, length-append, take-append-drop}
 use Rattle.std.proofs.lemmas.List.{take_at, drop_at, drop-drop, length-take-le}
-use borrow.Rule.Slice.PartMut.{put_mid}
 use Rattle.aio_model.specs.Serving.{put_at}
 
 pub put_at-nothing : (at : ℕ) (bytes : List ℕ) → put_at at [] bytes ≡ bytes
 put_at-nothing at bytes = rw add-zero (take-append-drop at bytes)
-
--- a write to `s[at..at + k]` puts what it writes there
-pub put_mid-put_at : (at k : ℕ) (bytes piece : List ℕ) → length piece ≡ k → put_mid at k bytes piece ≡ put_at at piece bytes
-put_mid-put_at at k bytes piece e =
-    ap (λ rest. take at bytes ++ (piece ++ rest)) (ap (λ n. drop n (drop at bytes)) (sym e) ∙ drop-drop (length piece) at bytes)
 
 -- the front of a list with a piece put into it
 pub put_at-front : (at : ℕ) (piece bytes : List ℕ) → at ≤ length bytes → length (take at bytes ++ piece) ≡ at + length piece
@@ -31,11 +25,6 @@ pub drop-put_at : (at : ℕ) (piece bytes : List ℕ) → at ≤ length bytes
 drop-put_at at piece bytes h =
     ap (drop (at + length piece)) (put_at-grouped at piece bytes)
     ∙ drop_at (take at bytes ++ piece) (drop (at + length piece) bytes) (at + length piece) (put_at-front at piece bytes h)
-
-pub take-put_at_below : (at : ℕ) (piece bytes : List ℕ) → at ≤ length bytes
-    → take at (put_at at piece bytes) ≡ take at bytes
-take-put_at_below at piece bytes h =
-    take_at (take at bytes) (piece ++ drop (at + length piece) bytes) at (length-take-le at bytes h)
 
 -- two pieces, the second right behind the first, are one piece
 pub put_at-put_at : (at : ℕ) (first second bytes : List ℕ) → at ≤ length bytes
@@ -60,9 +49,3 @@ pub put_at_behind : (at n : ℕ) (first second bytes : List ℕ) → at ≤ leng
     → put_at (at + n) second (put_at at first bytes) ≡ put_at at (first ++ second) bytes
 put_at_behind at n first second bytes h e =
     ap (λ k. put_at (at + k) second (put_at at first bytes)) (sym e) ∙ put_at-put_at at first second bytes h
-
-pub length-put_at : (at : ℕ) (piece bytes : List ℕ) → at + length piece ≤ length bytes
-    → length (put_at at piece bytes) ≡ length bytes
-length-put_at at piece bytes h =
-    let front : length (take at bytes) ≡ at = length-take-le at bytes (omega arith) in
-    omega (arith, length-append (take at bytes) (piece ++ drop (at + length piece) bytes), length-append piece (drop (at + length piece) bytes), length-drop (at + length piece) bytes)

@@ -1,7 +1,6 @@
-use Rattle.std.proofs.Common.{◌≡◌, ◌<◌, ◌≤◌, length, map, string_bytes, Some, Ok, Err, IfSome}
+use Rattle.std.proofs.Common.{◌≡◌, ◌≤◌, length, map, string_bytes, Some, Ok, Err}
 use Rattle.aio_model.specs.declared.scripts.Script.{Script}
 use Rattle.aio_words.specs.Content.{with_piece, AppendsFront}
-use Rattle.aio_words.specs.Faults.{HasRisen}
 use Rattle.aio_script.specs.declared.refusals.ScriptRefusal.{ScriptRefusal}
 use Rattle.aio_script.specs.Grammar.{script_said}
 use Rattle.aio_script.specs.LoopGrammar.{loop_script_said}
