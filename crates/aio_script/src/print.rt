@@ -1,5 +1,6 @@
-//! Replies to text, piece by piece: no line is put together in memory.
-ghost use Rattle.std.specs.Prelude.{◌≡◌, ◌*◌, ◌++◌, ◌≤◌, codes, decimal, length, OnOk, OnErr};
+//! Replies to text. What is short is put together on the stack, so that a line is few calls of the sink; data go piece by
+//! piece. No memory is taken.
+ghost use Rattle.std.specs.Prelude.{◌≡◌, ◌*◌, ◌++◌, ◌≤◌, codes, decimal, length, OnOk, OnErr, IfSome};
 ghost use Rattle.std.specs.List.{flat_map};
 ghost use Rattle.aio_model.specs.PrintedText.{data_text, end_line, hex_of, line_of, outcome_of, verb_of};
 ghost use Rattle.aio_words.specs.Content.{with_piece, AppendsFront};
@@ -8,6 +9,7 @@ ghost use Rattle.aio_script.specs.Printing.{Prints};
 
 use aio_model::{Placed, Reply, Request};
 use aio_words::{Failed, Sink};
+use arrayvec::ArrayVec;
 use itoa::Buffer;
 
 /// The sink failed before a text was printed whole. A front of it may have reached the sink.
@@ -176,7 +178,32 @@ fn write_digits(bytes: &[u8], digits: &mut [u8])
     prove!(written.is_ok());
 }
 
+/// How long a text may be that is put together, so that its parts are one call of the sink.
+const PACKED: usize = 128;
+
 pub(crate) fn print_parts<K: Sink>(sink: &mut K, parts: &[&[u8]]) -> Result<(), WriteFault>
+    ensures { Prints (flat_map (λ part. part.now) parts.now) (K.held sink.old) (K.held sink.new) (K.faults sink.old) (K.faults sink.new) result }
+{
+    match pack(parts) {
+        Some(text) => print_piece(sink, text.as_slice()),
+        None => print_each(sink, parts),
+    }
+}
+
+// The parts one behind the other, where there is room for them.
+fn pack(parts: &[&[u8]]) -> Option<ArrayVec<u8, PACKED>>
+    ensures { IfSome result (λ text. text.items ≡ flat_map (λ part. part.now) parts.now) }
+{
+    let mut text = ArrayVec::new();
+    for part in parts {
+        if text.try_extend_from_slice(part).is_err() {
+            return None;
+        }
+    }
+    Some(text)
+}
+
+fn print_each<K: Sink>(sink: &mut K, parts: &[&[u8]]) -> Result<(), WriteFault>
     ensures { Prints (flat_map (λ part. part.now) parts.now) (K.held sink.old) (K.held sink.new) (K.faults sink.old) (K.faults sink.new) result }
 {
     for part in parts {

@@ -362,3 +362,18 @@ fn a_sink_without_room_is_a_fault(rt: HostRuntime) -> Result<(), Fail> {
     assert_eq!(rt; sink.faults, 1);
     Ok(())
 }
+
+#[test]
+fn a_short_text_is_one_call_of_the_sink(rt: HostRuntime) -> Result<(), Fail> {
+    let alloc = rt.alloc();
+    let mut sink = with_room(alloc, 7);
+    assert_eq!(rt; print_end(&mut sink, 1, 0), Err(WriteFault));
+    assert!(rt; sink.bytes.is_empty());
+    let mut sink = with_room(alloc, 129);
+    let before = vec![in alloc; b'x'; 127]?;
+    let printed = print_numbered(&mut sink, before.as_slice(), 10, b"\n");
+    assert_eq!(rt; printed, Err(WriteFault));
+    assert_eq!(rt; sink.bytes.len(), 129);
+    assert!(rt; sink.bytes.ends_with(b"x10"));
+    Ok(())
+}

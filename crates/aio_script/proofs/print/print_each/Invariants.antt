@@ -2,7 +2,7 @@
 use Rattle.std.proofs.Common.{take, Ok}
 use Rattle.std.specs.List.{flat_map}
 use Rattle.aio_script.specs.Printing.{Prints}
-use Rattle.aio_script.proofs.print.print_parts.Given as goal
+use Rattle.aio_script.proofs.print.print_each.Given as goal
 
 abbrev pub invariant-loop-part : goal.invariant-loop-part
 invariant-loop-part g l =

@@ -2,7 +2,7 @@ use Rattle.std.specs.List.{flat_map}
 use Rattle.std.proofs.Common.{◌+◌, drop}
 use Rattle.aio_script.proofs.Prints.{Prints-then, Prints-stops, Prints-same}
 use Rattle.aio_script.proofs.Texts.{flat_map_around}
-use Rattle.aio_script.proofs.print.print_parts.Goals as goal
+use Rattle.aio_script.proofs.print.print_each.Goals as goal
 
 pub returns-in_err-print_piece : goal.returns-in_err-print_piece
 returns-in_err-print_piece g c =
