@@ -123,13 +123,8 @@ mod tests {
 
     #[test]
     fn a_sink_that_fails_gets_a_front(rt: HostRuntime) -> Result<(), Fail> {
-        let fronts = [
-            "",
-            "image: ",
-            "image: 17",
-            "image: 17 bytes asked, device has ",
-        ];
-        for (call, front) in (0u32..4).zip(fronts) {
+        let fronts = ["", "image: 17 bytes asked, device has "];
+        for (call, front) in (0u32..2).zip(fronts) {
             let mut sink = MemSink::build(rt.alloc(), 100, &[call])?;
             let printed = print_fault(&mut sink, &Answer::TooLarge(17, 16));
             assert_eq!(rt; printed, Err(WriteFault));
