@@ -67,10 +67,6 @@ first_of_chain next i (x ∷ xs) h =
     let same : x ≡ i = omega (arith, h.0) in
     (xs, (λ k. same k ∷ xs), subst (λ z. IsChain next (next z) xs) same h.1)
 
--- no index stands in both
-abbrev pub AreDisjoint : List ℕ → List ℕ → Type 0
-AreDisjoint xs ys = Each (λ x. Each (λ y. x ≢ y) ys) xs
-
 -- the next words, but for one
 abbrev pub relinked : (ℕ → ℕ) → ℕ → ℕ → ℕ → ℕ
 relinked next at word i = if i == at then word else next i
@@ -80,13 +76,46 @@ pub chain_apart : (next : ℕ → ℕ) (at to word : ℕ) (xs : List ℕ) → Is
 chain_apart next at to word xs h apart =
     chain_kept next (relinked next at to) word xs h (each_of (λ i. at ≢ i) _ xs (λ i ne. let e : eqb i at ≡ false = ne_eqb i at (λ q. ne (sym q)) in rw e refl) apart)
 
--- the first member of one chain goes in front of another; disjoint chains stay disjoint
+-- the first member of one chain goes in front of another
 pub moved_over : (next : ℕ → ℕ) (i done_word : ℕ) (rest done : List ℕ) → IsChain next (i + 1) (i ∷ rest) → IsChain next done_word done → Each (λ j. i ≢ j) rest → Each (λ j. i ≢ j) done
     → IsChain (relinked next i done_word) (next i) rest × IsChain (relinked next i done_word) (i + 1) (i ∷ done)
 moved_over next i done_word rest done h k alone apart =
     let here : eqb i i ≡ true = eq-eqb i i refl in
     (chain_apart next i done_word (next i) rest h.1 alone, pushed (relinked next i done_word) done_word i done (chain_apart next i done_word done_word done k apart) (rw here refl))
 
--- so a walk that moves each member over leaves the chain reversed
-pub reversed_one : (i : ℕ) (rest done : List ℕ) → reverse (i ∷ rest) ++ done ≡ reverse rest ++ i ∷ done
-reversed_one i rest done = ap (λ (l : List ℕ). l ++ done) (reverse-append (i ∷ []) rest) ∙ append_assoc (reverse rest) (i ∷ []) done
+-- no index stands in the list twice
+abbrev pub AreOnce : List ℕ → Type 0
+AreOnce [] = Unit {0}
+AreOnce (i ∷ rest) = Each (λ j. i ≢ j) rest × AreOnce rest
+
+-- no index stands in both
+abbrev pub AreDisjoint : List ℕ → List ℕ → Type 0
+AreDisjoint xs ys = Each (λ x. Each (λ y. x ≢ y) ys) xs
+
+-- disjoint ones stay disjoint where the first member of the one goes in front of the other
+pub stay_disjoint : (i : ℕ) (rest done : List ℕ) → Each (λ j. i ≢ j) rest → AreDisjoint rest done → AreDisjoint rest (i ∷ done)
+stay_disjoint i [] done alone apart = tt
+stay_disjoint i (x ∷ xs) done alone apart =
+    (((λ e. alone.0 (sym e)), apart.0), stay_disjoint i xs done alone.1 apart.1)
+
+-- the next words once a walk has moved each of these in front of what the word leads to
+abbrev pub walked : (ℕ → ℕ) → List ℕ → ℕ → (ℕ → ℕ)
+walked next [] word = next
+walked next (i ∷ rest) word = walked (relinked next i word) rest (i + 1)
+
+-- the word that leads to the last one moved
+abbrev pub word_behind : List ℕ → ℕ → ℕ
+word_behind [] word = word
+word_behind (i ∷ rest) word = word_behind rest (i + 1)
+
+reversed_one : (i : ℕ) (rest done : List ℕ) → reverse rest ++ i ∷ done ≡ reverse (i ∷ rest) ++ done
+reversed_one i rest done = sym (append_assoc (reverse rest) (i ∷ []) done) ∙ ap (λ (l : List ℕ). l ++ done) (sym (reverse-append (i ∷ []) rest))
+
+-- such a walk leaves the chain reversed, in front of the other one
+pub reversed : (next : ℕ → ℕ) (word done_word : ℕ) (xs done : List ℕ) → IsChain next word xs → IsChain next done_word done → AreOnce xs → AreDisjoint xs done
+    → IsChain (walked next xs done_word) (word_behind xs done_word) (reverse xs ++ done)
+reversed next word done_word [] done h k once apart = k
+reversed next word done_word (i ∷ rest) done h k once apart =
+    let moved = moved_over next i done_word rest done (refl, h.1) k once.0 apart.0 in
+    let more = reversed (relinked next i done_word) (next i) (i + 1) rest (i ∷ done) moved.0 moved.1 once.1 (stay_disjoint i rest done once.0 apart.1) in
+    subst (IsChain (walked (relinked next i done_word) rest (i + 1)) (word_behind rest (i + 1))) (reversed_one i rest done) more
