@@ -1,5 +1,5 @@
 -- The texts that are printed, cut where one write ends and the next one begins.
-use Rattle.std.proofs.Common.{◌≡◌, ℕ, ◌+◌, ◌-◌, ◌/◌, ◌%◌, ◌==◌, ◌<◌, ◌≤◌, false, Result, Ok, Err, List, [], ◌∷◌, ◌++◌, length, get_or, take, drop, slice_index, refl, sym, ap, ◌∙◌, codes, append_assoc, append-nil, arith}
+use Rattle.std.proofs.Common.{◌≡◌, ℕ, ◌+◌, ◌-◌, ◌/◌, ◌%◌, ◌==◌, ◌<◌, ◌≤◌, false, Result, Ok, Err, List, [], ◌∷◌, ◌++◌, length, get_or, take, drop, slice_index, refl, sym, ap, ◌∙◌, codes, append_assoc, append-nil, length-append, arith}
 use Rattle.std.specs.Prelude.{IsOk, OnOk}
 use Rattle.std.specs.List.{flat_map, slice_range}
 use Rattle.std.proofs.lemmas.List.{take-append-drop, take_more}
@@ -19,6 +19,15 @@ flat_map_around {X} {A} f xs i d within =
     ∙ ap (λ (y : List A). y ++ flat_map f (drop (i + 1) xs)) (sym e)
     ∙ sym (flat_map-append f (take (i + 1) xs) (drop (i + 1) xs))
     ∙ ap (flat_map f) (take-append-drop (i + 1) xs)
+
+-- the whole is no shorter than the parts up to one and that one
+pub flat_map_longer : {X A : Type 0} (f : X → List A) (xs : List X) (i : ℕ) (d : X) → i < length xs
+    → length (flat_map f (take i xs)) + length (f (get_or xs i d)) ≤ length (flat_map f xs)
+flat_map_longer f xs i d within =
+    let front = flat_map f (take i xs) in
+    let part = f (get_or xs i d) in
+    let rest = flat_map f (drop (i + 1) xs) in
+    omega (arith, ap length (flat_map_around f xs i d within), length-append front (part ++ rest), length-append part rest)
 
 pub hex_of-encode : (bytes : List ℕ) → encode_lower bytes ≡ hex_of bytes
 unfolding encode_with

@@ -1,6 +1,6 @@
 //! Replies to text. What is short is put together on the stack, so that a line is few calls of the sink; data go piece by
 //! piece. No memory is taken.
-ghost use Rattle.std.specs.Prelude.{◌≡◌, ◌*◌, ◌++◌, ◌≤◌, codes, decimal, length, OnOk, OnErr, IfSome};
+ghost use Rattle.std.specs.Prelude.{◌≡◌, ◌*◌, ◌++◌, ◌<◌, ◌≤◌, codes, decimal, length, OnOk, OnErr, MatchOption};
 ghost use Rattle.std.specs.List.{flat_map};
 ghost use Rattle.aio_model.specs.PrintedText.{data_text, end_line, hex_of, line_of, outcome_of, verb_of};
 ghost use Rattle.aio_words.specs.Content.{with_piece, AppendsFront};
@@ -190,9 +190,9 @@ pub(crate) fn print_parts<K: Sink>(sink: &mut K, parts: &[&[u8]]) -> Result<(), 
     }
 }
 
-// The parts one behind the other, where there is room for them.
+// The parts one behind the other. None exactly where there is no room for them.
 fn pack(parts: &[&[u8]]) -> Option<ArrayVec<u8, PACKED>>
-    ensures { IfSome result (λ text. text.items ≡ flat_map (λ part. part.now) parts.now) }
+    ensures { MatchOption result (PACKED < length (flat_map (λ part. part.now) parts.now)) (λ text. text.items ≡ flat_map (λ part. part.now) parts.now) }
 {
     let mut text = ArrayVec::new();
     for part in parts {

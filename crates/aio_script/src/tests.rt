@@ -369,11 +369,19 @@ fn a_short_text_is_one_call_of_the_sink(rt: HostRuntime) -> Result<(), Fail> {
     let mut sink = with_room(alloc, 7);
     assert_eq!(rt; print_end(&mut sink, 1, 0), Err(WriteFault));
     assert!(rt; sink.bytes.is_empty());
-    let mut sink = with_room(alloc, 129);
-    let before = vec![in alloc; b'x'; 127]?;
-    let printed = print_numbered(&mut sink, before.as_slice(), 10, b"\n");
-    assert_eq!(rt; printed, Err(WriteFault));
-    assert_eq!(rt; sink.bytes.len(), 129);
+    let before = vec![in alloc; b'x'; 126]?;
+    let mut sink = with_room(alloc, 127);
+    assert_eq!(rt;
+        print_numbered(&mut sink, &before[..125], 10, b"\n"),
+        Err(WriteFault)
+    );
+    assert!(rt; sink.bytes.is_empty());
+    let mut sink = with_room(alloc, 128);
+    assert_eq!(rt;
+        print_numbered(&mut sink, before.as_slice(), 10, b"\n"),
+        Err(WriteFault)
+    );
+    assert_eq!(rt; sink.bytes.len(), 128);
     assert!(rt; sink.bytes.ends_with(b"x10"));
     Ok(())
 }
