@@ -1,11 +1,10 @@
 -- The home's entries in what came between, and what others leave as it is.
-use Rattle.std.proofs.Common.{◌≡◌, ℕ, ◌<◌, Bool, true, false, cond, eqb, List, [], ◌∷◌, ◌++◌, drop, refl, sym, ap, ◌∙◌, subst}
+use Rattle.std.proofs.Common.{◌≡◌, ℕ, ◌<◌, Bool, true, false, cond, eqb, [], ◌∷◌, ◌++◌, drop, refl, sym, ap, ◌∙◌, subst}
 use Rattle.std.proofs.lemmas.Bool.{and_parts, eqb-true, false≢true}
 use Rattle.aio_model.specs.LoopHistory.{Entry, New, Enqueue, Put, Cancel, Take, Dequeue, Free, SetEvent, ClearEvent, History}
 use Rattle.aio_model.specs.LoopLists.{seat_of, taken_of, dequeue_count, out_of}
 use Rattle.aio_model.specs.LoopSeats.{Numbers, owns, home, entries_by, entries_of, own_entries}
 use Rattle.aio_model.specs.LoopFrame.{are_of_callback}
-use Rattle.aio_core.specs.Standing.{is_empty}
 use Rattle.aio_core.proofs.Entries.{owns_first}
 
 chosen-append : (b : Bool) (e : Entry) (xs xs' ys : History) → xs' ≡ xs ++ ys → cond b (e ∷ xs') xs' ≡ cond b (e ∷ xs) xs ++ ys
@@ -86,7 +85,3 @@ module _ (h : History) where
 
   pub out_beside : (others : History) → entries_of home others ≡ [] → out_of (others ++ h) ≡ out_of h
   out_beside others none = out_kept others (ap are_of_callback none)
-
-pub empty_of : (xs : List ℕ) → is_empty xs ≡ true → xs ≡ []
-empty_of [] h = refl
-empty_of (x ∷ xs) h = absurd (false≢true h)

@@ -1,5 +1,5 @@
 -- What holds while the requests of a script are served in the order of its lines.
-use Rattle.std.proofs.Common.{◌≡◌, ℕ, ◌+◌, ◌<◌, ◌==◌, ◌&&◌, false, cond, List, [], ◌∷◌, ◌++◌, length, map, take, get_or, Option, Some, None, option_map, refl, sym, ◌∙◌, ap, subst, arith}
+use Rattle.std.proofs.Common.{◌≡◌, ℕ, ◌+◌, ◌<◌, ◌==◌, ◌&&◌, false, cond, List, [], ◌∷◌, ◌++◌, length, map, take, get_or, Option, Some, option_map, refl, sym, ◌∙◌, ap, subst, arith}
 use Rattle.std.proofs.lemmas.List.{append-nil, map_push}
 use Rattle.std.proofs.lemmas.List.Sums.{sum_by-append, sum_by-cons}
 use Rattle.aio_model.specs.declared.requests.Request.{Request}
@@ -27,18 +27,6 @@ pub record SoFar (size : ℕ) (lines : List Step) (k : ℕ) (told now : Option (
   pub fits : FitAlong size (asked lines) told served
   pub leaves : now ≡ option_map (bytes_left (asked lines) served) told
   pub counted : (stream : ℕ) → entries_of stream journal ≡ requests_of stream (take k lines)
-
-left-none : (all : List Asked) (told : Option (List ℕ)) → told ≡ option_map (bytes_left all []) told
-left-none all None = refl
-left-none all (Some bytes) = refl
-
-pub SoFar-begin : (size : ℕ) (lines : List Step) (told : Option (List ℕ)) → SoFar size lines 0 told told [] []
-SoFar-begin size lines told = record {
-  names = refl;
-  fits = tt;
-  leaves = left-none (asked lines) told;
-  counted = λ stream. refl;
-}
 
 entries_of-push : (stream : ℕ) (journal : List Entry) (entry : Entry)
     → entries_of stream (journal ++ entry ∷ []) ≡ entries_of stream journal + cond (entry.stream == stream) 1 0
