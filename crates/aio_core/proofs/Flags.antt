@@ -2,12 +2,13 @@
 use Rattle.std.proofs.Common.{◌≡◌, ◌≢◌, ℕ, ◌<◌, Bool, true, false, cond, eqb, ltb, ◌+◌, List, [], ◌∷◌, length, set, get_or-set_same, get_or-set_other, slice_index, refl, sym, ap, ◌∙◌, subst, ⊎_elim, arith}
 use Rattle.std.proofs.lemmas.Bool.{cond-true, cases_eq, cases_Bool, and_parts, and_from, not-true, not_from_false, ltb-true, lt-ltb, eq-eqb, ne_eqb}
 use Rattle.aio_model.specs.declared.flags.Flags.{Flags}
-use Rattle.aio_model.specs.FlagsWord.{word_of}
+use Rattle.aio_model.specs.FlagsWord.{bit, word_of}
+use Rattle.aio_model.specs.LoopLists.{is_set}
 use Rattle.aio_model.specs.LoopHistory.{Sizes, Asked, ToCall, ToCallIdle, ToDelete, ToCallOnce, Enqueue, Cancel, Dequeue, History}
 use Rattle.aio_model.specs.LoopFlags.{has_life, is_lot, flags_of, is_once}
 use Rattle.aio_model.specs.LoopLegal.{MayAsk}
-use Rattle.aio_core.specs.Words.{flags_at, index_count, word_count, flags_word, free_word}
-use Rattle.aio_core.specs.Rule.{FlagsStand}
+use Rattle.aio_core.specs.Words.{event_at, flags_at, index_count, word_count, flags_word, free_word}
+use Rattle.aio_core.specs.Rule.{FlagsStand, EventsStand}
 use Rattle.aio_core.proofs.Masks.{word_of-below, enqueued_flags, canceled_flags, dequeued_flags}
 
 -- the word of what has a life
@@ -52,27 +53,14 @@ flags_of-dequeue_other i j ran h ne = let e : eqb i j ≡ false = ne_eqb i j ne 
 -- a word of another kind changes, and the entry, if there is one, is about no flags
 pub flags_apart : (sizes : Sizes) (h g : History) (words : List ℕ) (k x : ℕ) → FlagsStand sizes h words → ((i : ℕ) → flags_at i ≢ k) → ((i : ℕ) → flags_word sizes i g ≡ flags_word sizes i h) → FlagsStand sizes g (set words k x)
 flags_apart sizes h g words k x stand apart same =
-    record { each = λ i below. read_else words k (flags_at i) x (apart i) ∙ stand.each i below ∙ sym (same i); no_lots = λ i lot. same i ∙ stand.no_lots i lot }
-
--- what has a life is no lot
-pub alive_is_no_lot : (sizes : Sizes) (h : History) (words : List ℕ) (i : ℕ) → FlagsStand sizes h words → has_life sizes i h ≡ true → is_lot sizes i ≡ true → ⊥
-alive_is_no_lot sizes h words i stand alive lot =
-    let free : word_of (flags_of i h) ≡ free_word = sym (word_alive sizes i h alive) ∙ stand.no_lots i lot in
-    let low = word_of-below (flags_of i h) in
-    absurd (omega (arith, free, low))
+    record { each = λ i below. read_else words k (flags_at i) x (apart i) ∙ stand.each i below ∙ sym (same i) }
 
 -- the flags of one index change
-pub flags_change : (sizes : Sizes) (h g : History) (words : List ℕ) (i x : ℕ) → FlagsStand sizes h words → length words ≡ word_count sizes → i < index_count sizes → (flags_word sizes i g ≡ x) × (has_life sizes i h ≡ true) → ((j : ℕ) → j ≢ i → flags_word sizes j g ≡ flags_word sizes j h) → FlagsStand sizes g (set words (flags_at i) x)
+pub flags_change : (sizes : Sizes) (h g : History) (words : List ℕ) (i x : ℕ) → FlagsStand sizes h words → length words ≡ word_count sizes → i < index_count sizes → flags_word sizes i g ≡ x → ((j : ℕ) → j ≢ i → flags_word sizes j g ≡ flags_word sizes j h) → FlagsStand sizes g (set words (flags_at i) x)
 flags_change sizes h g words i x stand long below new same =
     record {
-      each = λ j low. ⊎_elim (λ e. subst (λ k. slice_index (set words (flags_at i) x) (flags_at k) ≡ flags_word sizes k g) (sym e) (read_here words (flags_at i) x (omega arith) ∙ sym new.0)) (λ ne. read_else words (flags_at i) (flags_at j) x (λ q. ne (omega arith)) ∙ stand.each j low ∙ sym (same j ne)) (cases_eq j i);
-      no_lots = λ j lot. ⊎_elim (λ e. absurd (alive_is_no_lot sizes h words i stand new.1 (subst (λ k. is_lot sizes k ≡ true) e lot))) (λ ne. same j ne ∙ stand.no_lots j lot) (cases_eq j i);
+      each = λ j low. ⊎_elim (λ e. subst (λ k. slice_index (set words (flags_at i) x) (flags_at k) ≡ flags_word sizes k g) (sym e) (read_here words (flags_at i) x (omega arith) ∙ sym new)) (λ ne. read_else words (flags_at i) (flags_at j) x (λ q. ne (omega arith)) ∙ stand.each j low ∙ sym (same j ne)) (cases_eq j i);
     }
-
--- what has a life is a handle
-pub handle_of_alive : (sizes : Sizes) (h : History) (words : List ℕ) (i : ℕ) → FlagsStand sizes h words → has_life sizes i h ≡ true → i < index_count sizes → i < sizes.handles
-handle_of_alive sizes h words i stand alive below =
-    ⊎_elim (λ low. ltb-true i sizes.handles low) (λ high. absurd (alive_is_no_lot sizes h words i stand alive (and_from _ _ (not_from_false _ high) (lt-ltb i (sizes.handles + sizes.lots) below)))) (cases_Bool (ltb i sizes.handles))
 
 -- the word of a lot before anything was done
 pub lot_is_free : (sizes : Sizes) (i : ℕ) → is_lot sizes i ≡ true → flags_word sizes i [] ≡ free_word
@@ -94,3 +82,8 @@ may_ask_handle sizes i s ToCall h once below = below
 may_ask_handle sizes i s ToCallIdle h once below = below
 may_ask_handle sizes i s ToDelete h once below = below
 may_ask_handle sizes i s ToCallOnce h once below = absurd cc
+
+-- events stay where a word of another kind changes
+pub events_apart : (h g : History) (words : List ℕ) (k x : ℕ) → EventsStand h words → ((e : ℕ) → e < 64 → event_at e ≢ k) → ((e : ℕ) → is_set e g ≡ is_set e h) → EventsStand g (set words k x)
+events_apart h g words k x stand apart same e below =
+    read_else words k (event_at e) x (apart e below) ∙ stand e below ∙ ap bit (sym (same e))

@@ -1,24 +1,28 @@
 -- Two seats that are joined keep the rule, and a load after it tells that what each had seen is a part of the one history.
-use Rattle.std.proofs.Common.{◌≡◌, ◌≢◌, ℕ, ◌+◌, ◌<◌, ◌≤◌, Bool, true, false, cond, ltb, Some, List, [], ◌∷◌, ◌++◌, length, set, inl, inr, refl, sym, ap, ◌∙◌, subst, ⊎_elim, ◌⊎◌, arith, append-nil, length-append}
+use Rattle.std.proofs.Common.{Option, ◌≡◌, ◌≢◌, ℕ, ◌+◌, ◌<◌, ◌≤◌, Bool, true, false, cond, ltb, Some, List, [], ◌∷◌, ◌++◌, length, set, slice_index, inl, inr, refl, sym, ap, ◌∙◌, subst, ⊎_elim, ◌⊎◌, arith, append-nil, length-append}
 use Rattle.std.proofs.lemmas.Bool.{and_parts, and_from, not_from_false, not-true, lt-ltb, le-ltb, ltb-true, ltb-false, false_from_ne_true, cases_lt, cond-false}
 use mathlib.Core.Option.{some, none}
 use lib.ListN.{get_elem?}
 use Rattle.atomic_table.specs.Table.{Me, keeps, step, Joins, Allows}
-use Rattle.atomic_table.proofs.Lists.{at_set, set_else}
+use Rattle.atomic_table.proofs.Lists.{at_set, set_else, set_again}
 use Rattle.aio_model.specs.LoopHistory.{Sizes, Entry, History}
-use Rattle.aio_model.specs.LoopLists.{seat_of}
+use Rattle.aio_model.specs.LoopLists.{seat_of, job_of}
 use Rattle.aio_model.specs.LoopLegal.{IsLegal}
 use Rattle.aio_model.specs.LoopSeats.{Numbers, owns, own_entries, home}
 use Rattle.aio_model.proofs.Rounds.{legal_cut}
 use Rattle.aio_model.specs.LoopLists.{out_of}
 use Rattle.aio_core.specs.Words.{head_at, next_in}
-use Rattle.aio_core.specs.Known.{Told, Known, numbers_of}
-use Rattle.aio_core.specs.Rule.{EachView, AreApart, IsPart, AreParts, IsSeat, Owes, IsOut, NoneEmpty, HasOut, Stands, Kept}
-use Rattle.aio_core.specs.Joining.{longer_of, both_numbers, joined_known, spent_known, IsJoined}
+use Rattle.aio_core.specs.Known.{Told, Known, calmed, numbers_of}
+use Rattle.aio_core.specs.Rule.{EachView, AreApart, IsPart, AreParts, NoneMissed, longer_of, IsSeat, Owes, IsOut, NoneEmpty, HasOut, SomeSeat, Sleeps, HasSleep, Stands, IsFull, HasJob, SlotsStand, Kept}
+use Rattle.aio_core.specs.Joining.{both_numbers, told_of, joined_known, spent_known, IsJoined}
 use Rattle.aio_core.specs.Plays.{learned}
+use Rattle.aio_core.proofs.Splitting.{HasSlots}
+use Rattle.aio_core.proofs.Placing.{same_lot, same_entry, same_hand, no_lot_here, slots_kept}
 use Rattle.aio_core.proofs.Entries.{own-append}
 use Rattle.aio_core.proofs.Seats.{each_set}
-use Rattle.aio_core.proofs.Keeping.{load_stands}
+use Rattle.aio_core.proofs.Keeping.{loaded_words}
+use Rattle.aio_model.specs.InFlight.{Phase, AtRest}
+use Rattle.aio_core.proofs.Sleeping.{some_set, sleeps_more, sleeps_calmed, pushers_more}
 
 -- Two ends of one list.
 
@@ -88,6 +92,18 @@ front_none n xs ys h = front (own_entries n xs) (own_entries n ys) (sym (own-app
     front [] b e = refl
     front (k ∷ a) b e = absurd cc
 
+back_none : (n : Numbers) (xs ys : History) → own_entries n (xs ++ ys) ≡ [] → own_entries n ys ≡ []
+back_none n xs ys h = back (own_entries n xs) (own_entries n ys) (sym (own-append n xs ys) ∙ h)
+  where
+    back : (a b : History) → a ++ b ≡ [] → b ≡ []
+    back [] b e = e
+    back (k ∷ a) b e = absurd cc
+
+-- what is behind none of its entries has them all
+own_behind : (n : Numbers) (rest mid seen longer mine : History) → own_entries n (rest ++ mid) ≡ [] → longer ≡ mid ++ seen → mine ≡ own_entries n seen → own_entries n longer ≡ mine
+own_behind n rest mid seen longer mine empty is mine_is =
+    ap (own_entries n) is ∙ own-append n mid seen ∙ ap (λ l. l ++ own_entries n seen) (back_none n rest mid empty) ∙ sym mine_is
+
 -- Views.
 
 module _ (views : List Known) (id other : ℕ) (v w : Known) (next : w.first ≡ v.first + v.count) (h : AreApart views) (at : get_elem? views id ≡ some v) (atw : get_elem? views other ≡ some w) (away : other ≢ id) where
@@ -152,6 +168,29 @@ module _ (sizes : Sizes) (h : History) (words : List ℕ) (views : List Known) (
           let their : own_entries (numbers_of w) a.rest ≡ [] = front_none (numbers_of w) a.rest mid.0 (subst (λ l. own_entries (numbers_of w) l ≡ []) mid.1 b.none_missed) in
           rw less (a.rest, a.longer, own_both v w a.rest next a.none_missed their)
 
+  -- in the longer one each of the two has just the entries that it made
+  none_missed : IsSeat sizes h v → IsSeat sizes h w → NoneMissed (told_of v w)
+  none_missed is theirs = by (ltb (length v.seen) (length w.seen)) refl
+    where
+      by : (b : Bool) → ltb (length v.seen) (length w.seen) ≡ b → NoneMissed (told_of v w)
+      by true less =
+          let a = is.seen_of in
+          let b = theirs.seen_of in
+          let low = ltb-true (length v.seen) (length w.seen) less in
+          let mid = shorter_end a.rest v.seen b.rest w.seen (sym a.longer ∙ b.longer) (omega arith) in
+          record {
+            by_staying = rw less (own_behind (numbers_of v) b.rest mid.0 v.seen w.seen v.mine (subst (λ l. own_entries (numbers_of v) l ≡ []) mid.1 a.none_missed) mid.2 a.mine_is);
+            by_joining = rw less (sym b.mine_is);
+          }
+      by false less =
+          let a = is.seen_of in
+          let b = theirs.seen_of in
+          let mid = shorter_end b.rest w.seen a.rest v.seen (sym b.longer ∙ a.longer) (ltb-false (length v.seen) (length w.seen) less) in
+          record {
+            by_staying = rw less (sym a.mine_is);
+            by_joining = rw less (own_behind (numbers_of w) a.rest mid.0 w.seen v.seen w.mine (subst (λ l. own_entries (numbers_of w) l ≡ []) mid.1 b.none_missed) mid.2 b.mine_is);
+          }
+
   joined_is_seat : IsSeat sizes h v → IsSeat sizes h w → 0 < v.count → IsSeat sizes h (joined_known v w)
   joined_is_seat is theirs numbered =
       let below = theirs.below in
@@ -161,7 +200,7 @@ module _ (sizes : Sizes) (h : History) (words : List ℕ) (views : List Known) (
         seen_of = record { rest = all.0; longer = all.1; none_missed = all.2; mine_is = refl };
         below = omega arith;
         active = λ _. omega arith;
-        told_of = ((is.seen_of.rest, is.seen_of.longer), (theirs.seen_of.rest, theirs.seen_of.longer));
+        told_of = ((is.seen_of.rest, is.seen_of.longer), (theirs.seen_of.rest, theirs.seen_of.longer), none_missed is theirs);
       }
 
   spent_is_seat : IsSeat sizes h spent_known
@@ -182,8 +221,26 @@ module _ (sizes : Sizes) (h : History) (words : List ℕ) (views : List Known) (
       by false is =
           stand.lists.out id v at (⊎_elim (λ q. q) (λ q. absurd cc) (both_owned v w home next own))
 
-  pub join_stands : Stands sizes h words views → get_elem? views id ≡ some v → get_elem? views other ≡ some w → other ≢ id → 0 < v.count → Stands sizes h words (set (set views id (joined_known v w)) other spent_known)
-  join_stands stand at atw away numbered =
+  abbrev after : List Known
+  after = set (set views id (joined_known v w)) other spent_known
+
+  -- who is under way is so still
+  some_join : get_elem? views id ≡ some v → get_elem? views other ≡ some w → other ≢ id → w.phase ≡ AtRest → (P : Phase → Type 0) → (P AtRest → ⊥) → SomeSeat P views → SomeSeat P after
+  some_join at atw away rest P no_rest one =
+      some_set P (set views id (joined_known v w)) other w spent_known (set_else views id other (joined_known v w) away ∙ atw) (λ e. absurd (no_rest (subst P rest e))) (some_set P views id v (joined_known v w) at (λ e. e) one)
+
+  joined_sleep : Stands sizes h words views → get_elem? views id ≡ some v → get_elem? views other ≡ some w → ((P : Phase → Type 0) → (P AtRest → ⊥) → SomeSeat P views → SomeSeat P after) → HasSleep h words after (joined_known v w)
+  joined_sleep stand at atw more own = by (owns (numbers_of w) home) refl
+    where
+      by : (b : Bool) → owns (numbers_of w) home ≡ b → Sleeps h words after v.did (cond b (calmed w.sleep) v.sleep)
+      by true is =
+          sleeps_calmed h words views after more w.did v.did w.sleep (stand.sleep.home other w atw is)
+      by false is =
+          sleeps_more h words views after more v.did v.sleep (stand.sleep.home id v at (⊎_elim (λ q. q) (λ q. absurd cc) (both_owned v w home next own)))
+
+  pub join_stands : Stands sizes h words views → get_elem? views id ≡ some v → get_elem? views other ≡ some w → other ≢ id → 0 < v.count → w.phase ≡ AtRest → Stands sizes h words (set (set views id (joined_known v w)) other spent_known)
+  join_stands stand at atw away numbered rest =
+      let more = some_join at atw away rest in
       let each_of = λ (P : Known → Type 0) (all : EachView P views) (joined : P (joined_known v w)) (spent : P spent_known). each_set P P (set views id (joined_known v w)) other spent_known (each_set P P views id (joined_known v w) all joined (λ i u ne e old. old)) spent (λ i u ne e old. old) in
       record {
         long = stand.long;
@@ -199,24 +256,47 @@ module _ (sizes : Sizes) (h : History) (words : List ℕ) (views : List Known) (
           owed = each_of (λ u. Owes sizes words h u.first u.phase) stand.lists.owed (stand.lists.owed id v at) tt;
           out = each_of (HasOut words h) stand.lists.out (joined_out stand at atw) (λ own. absurd (let none = none_owned home in cc));
         };
+        events = stand.events;
+        sleep = record {
+          notified = stand.sleep.notified;
+          notifier = stand.sleep.notifier;
+          pushers = pushers_more h words views after more stand.sleep;
+          home = each_of (HasSleep h words after)
+              (λ far u atu own. sleeps_more h words views after more u.did u.sleep (stand.sleep.home far u atu own))
+              (joined_sleep stand at atw more)
+              (λ own. absurd (let none = none_owned home in cc));
+        };
       }
 
-pub join_allowed : {S : Type 0} (sizes : Sizes) (id other : ℕ) (v w : Known) → w.first ≡ v.first + v.count → 0 < v.count → Joins (Kept {S = S} sizes) id v other w (joined_known v w) spent_known
-join_allowed sizes id other v w next numbered s kept at away atw =
-    (kept.0, join_stands sizes kept.0 s.words s.views id other v w next kept.1 at (sym (set_else s.views id other (joined_known v w) away) ∙ atw) away numbered)
+pub join_allowed : {J : Type 0} (number : J → ℕ) (sizes : Sizes) (id other : ℕ) (v w : Known) → w.first ≡ v.first + v.count → 0 < v.count → w.phase ≡ AtRest → Joins (Kept number sizes) id v other w (joined_known v w) spent_known
+join_allowed number sizes id other v w next numbered rest s kept at away atw =
+    let at_other = sym (set_else s.views id other (joined_known v w) away) ∙ atw in (
+      kept.0,
+      join_stands sizes kept.0 s.words s.views id other v w next kept.1 at at_other away numbered rest,
+      record {
+        vacant = kept.2.vacant;
+        emptied = kept.2.emptied;
+        full = each_set (HasSlots number sizes kept.0 s.homes) (HasSlots number sizes kept.0 s.homes) (set s.views id (joined_known v w)) other spent_known (each_set (HasSlots number sizes kept.0 s.homes) (HasSlots number sizes kept.0 s.homes) s.views id (joined_known v w) kept.2.full (λ own m low is. by (owns (numbers_of w) home) refl own m low is) (λ i u ne e old. old)) (λ own. absurd (let no_one = none_owned home in cc)) (λ i u ne e old. old);
+      },
+    )
+  where
+    by : (b : Bool) → owns (numbers_of w) home ≡ b → owns (both_numbers v w) home ≡ true → (m : ℕ) → m < sizes.lots → IsFull kept.0 (sizes.handles + m) → HasJob number (sizes.handles + m) (cond b w.stage v.stage) (job_of (sizes.handles + m) kept.0) (get_elem? s.homes m)
+    by true is own = kept.2.full other w (sym (set_else s.views id other (joined_known v w) away) ∙ atw) is
+    by false is own =
+        kept.2.full id v at (⊎_elim (λ q. q) (λ q. absurd cc) (both_owned v w home next own))
 
 -- The load that tells of it.
 
-pub learn_allowed : {S : Type 0} (sizes : Sizes) (slots id : ℕ) (me : Me S Known) → 0 < me.0.count → Allows (Kept {S = S} sizes) slots id me head_at (λ n. n) (learned (step slots head_at 0 0 none) me)
-learn_allowed sizes slots id me numbered s kept long at fits =
+pub learn_allowed : {J : Type 0} (number : J → ℕ) (sizes : Sizes) (slots id : ℕ) (me : Me (Option J) Known) → 0 < me.0.count → Allows (Kept number sizes) slots id me head_at (λ n. n) (learned (step slots head_at 0 0 none) me)
+learn_allowed number sizes slots id me numbered s kept long at fits =
     let h = kept.0 in
     let stand = kept.1 in
     let v = me.0 in
     let is = stand.seats.each id v at in
-    (v, keeps, tt, (h, load_stands sizes h s.words s.views id head_at v v stand at numbered (record { sizes_are = refl; numbers_are = refl; told_is = refl }) refl refl (stand.lists.owed id v at) (stand.lists.out id v at)), (refl, λ told eq. subst (λ z. IsJoined z told.staying told.joining (longer_of told.staying told.joining)) (sym (is.sizes_are numbered)) (learn h v told stand.legal is eq)))
+    (v, keeps, tt, (h, subst (λ vs. Stands sizes h (set s.words head_at (slice_index s.words head_at)) vs) (sym (set_again s.views id v at)) (subst (λ ws. Stands sizes h ws s.views) (sym (loaded_words s.words head_at)) stand), subst (λ vs. SlotsStand number sizes h s.homes vs) (sym (set_again s.views id v at)) kept.2), (refl, λ told eq. subst (λ z. IsJoined z told (longer_of told.staying told.joining)) (sym (is.sizes_are numbered)) (learn h v told stand.legal is eq)))
   where
-    learn : (h : History) (v : Known) (told : Told) → IsLegal sizes h → IsSeat sizes h v → v.told ≡ Some told → IsJoined sizes told.staying told.joining (longer_of told.staying told.joining)
+    learn : (h : History) (v : Known) (told : Told) → IsLegal sizes h → IsSeat sizes h v → v.told ≡ Some told → IsJoined sizes told (longer_of told.staying told.joining)
     learn h v told legal is eq =
         let parts : AreParts h (Some told) = subst (AreParts h) eq is.told_of in
         let all = parts_of_longer h told.staying told.joining parts.0 parts.1 in
-        record { stayed = all.0; joined = all.1; legal = legal_cut sizes all.2.0 (longer_of told.staying told.joining) (subst (IsLegal sizes) all.2.1 legal) }
+        record { stayed = all.0; joined = all.1; legal = legal_cut sizes all.2.0 (longer_of told.staying told.joining) (subst (IsLegal sizes) all.2.1 legal); made_by_staying = parts.2.by_staying; made_by_joining = parts.2.by_joining }

@@ -4,6 +4,9 @@ pub mod Histories
 pub mod Masks
 pub mod Flags
 pub mod Lists
+pub mod Sleeping
+pub mod Placing
+pub mod Wanting
 pub mod Enqueuing
 pub mod Keeping
 pub mod Aiming
@@ -13,9 +16,15 @@ pub mod Sliced
 pub mod Taking
 pub mod Lifting
 pub mod Dequeuing
+pub mod Notifying
+pub mod Scanning
+pub mod Eventing
+pub mod Settling
+pub mod Lots
 pub mod Splitting
 pub mod Joining
 pub mod Opening
 pub mod Opened
 pub mod Told
 pub mod Within
+pub mod Passing

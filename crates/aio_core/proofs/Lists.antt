@@ -2,7 +2,8 @@
 use Rattle.std.proofs.Common.{◌≡◌, ◌≢◌, ℕ, ◌<◌, true, false, Option, Some, None, List, [], ◌∷◌, set, slice_index, refl, sym, ap, ◌∙◌, subst}
 use mathlib.Core.Option.{some}
 use lib.ListN.{get_elem?}
-use Rattle.aio_model.specs.LoopHistory.{Sizes, History}
+use Rattle.aio_model.specs.LoopHistory.{Sizes, Entry, New, Enqueue, Put, Cancel, Take, Dequeue, Free, SetEvent, ClearEvent, History}
+use Rattle.aio_model.specs.LoopFlags.{begins, frees, enqueues}
 use Rattle.aio_model.specs.LoopLists.{announcer_of, stack_of, out_of}
 use Rattle.aio_model.specs.LoopSeats.{owns, home}
 use Rattle.aio_model.specs.InFlight.{Phase, AtRest, LotClaimed, Announced, HeadLoaded, Linked, ToStore, ToLoad, ToSet, is_at_rest}
@@ -10,7 +11,7 @@ use Rattle.aio_chain.specs.Chains.{IsChain}
 use Rattle.aio_chain.proofs.Chains.{Each, chains_kept}
 use Rattle.aio_core.specs.Words.{head_at, next_in}
 use Rattle.aio_core.specs.Known.{Known, numbers_of}
-use Rattle.aio_core.specs.Rule.{SeatsStand, IsOwed, Owes, IsOut, HasOut, ListsStand}
+use Rattle.aio_core.specs.Rule.{SeatsStand, IsOwed, IsClaimed, Owes, IsOut, HasOut, ListsStand}
 use Rattle.aio_core.proofs.Entries.{owns_first}
 use Rattle.aio_core.proofs.Seats.{each_set}
 
@@ -21,16 +22,16 @@ each_all P (x ∷ xs) h = (h x, each_all P xs h)
 -- What is owed.
 
 -- what a phase says stays, where the index stays owed and what follows it stays
-pub owes_kept : (sizes : Sizes) (words other : List ℕ) (h g : History) (n : ℕ) (phase : Phase) → ((i : ℕ) → is_at_rest phase ≡ false → IsOwed sizes h n i → IsOwed sizes g n i × (next_in other i ≡ next_in words i)) → Owes sizes words h n phase → Owes sizes other g n phase
-owes_kept sizes words other h g n AtRest k owes = tt
-owes_kept sizes words other h g n (LotClaimed i) k owes = tt
-owes_kept sizes words other h g n (Announced i) k owes = (k i refl owes).0
-owes_kept sizes words other h g n (HeadLoaded i found) k owes = (k i refl owes).0
-owes_kept sizes words other h g n (Linked i found) k owes =
+pub owes_kept : (sizes : Sizes) (words other : List ℕ) (h g : History) (n : ℕ) (phase : Phase) → ((i : ℕ) → is_at_rest phase ≡ false → IsOwed sizes h n i → IsOwed sizes g n i × (next_in other i ≡ next_in words i)) → ((i job : ℕ) → is_at_rest phase ≡ false → IsClaimed sizes h n i job → IsClaimed sizes g n i job) → Owes sizes words h n phase → Owes sizes other g n phase
+owes_kept sizes words other h g n AtRest k c owes = tt
+owes_kept sizes words other h g n (LotClaimed i job) k c owes = c i job refl owes
+owes_kept sizes words other h g n (Announced i) k c owes = (k i refl owes).0
+owes_kept sizes words other h g n (HeadLoaded i found) k c owes = (k i refl owes).0
+owes_kept sizes words other h g n (Linked i found) k c owes =
     ((k i refl owes.0).0, (k i refl owes.0).1 ∙ owes.1)
-owes_kept sizes words other h g n (ToStore reason) k owes = tt
-owes_kept sizes words other h g n (ToLoad reason) k owes = tt
-owes_kept sizes words other h g n (ToSet reason) k owes = tt
+owes_kept sizes words other h g n (ToStore reason) k c owes = tt
+owes_kept sizes words other h g n (ToLoad reason) k c owes = tt
+owes_kept sizes words other h g n (ToSet reason) k c owes = tt
 
 some_same : (a b : ℕ) → Some a ≡ Some b → a ≡ b
 some_same a b h = cc
@@ -72,3 +73,24 @@ lists_after sizes h g words other views id w stand stack owed others_owed out ot
       owed = each_set (λ u. Owes sizes words h u.first u.phase) (λ u. Owes sizes other g u.first u.phase) views id w stand.owed owed others_owed;
       out = each_set (HasOut words h) (HasOut other g) views id w stand.out out others_out;
     }
+
+-- a claim stays, where no entry is about the lot
+pub claimed_still : (sizes : Sizes) (h : History) (e : Entry) (n i job : ℕ) → begins i e ≡ false → enqueues i e ≡ false → frees i e ≡ false → IsClaimed sizes h n i job → IsClaimed sizes (e ∷ h) n i job
+claimed_still sizes h (New j s k) n i job a b c claimed =
+    record { lot = claimed.lot; by_it = rw a claimed.by_it; job_is = rw a claimed.job_is }
+claimed_still sizes h (Enqueue j asked s was) n i job a b c claimed =
+    record { lot = claimed.lot; by_it = rw b claimed.by_it; job_is = claimed.job_is }
+claimed_still sizes h (Put j s) n i job a b c claimed =
+    record { lot = claimed.lot; by_it = claimed.by_it; job_is = claimed.job_is }
+claimed_still sizes h (Cancel j s was) n i job a b c claimed =
+    record { lot = claimed.lot; by_it = claimed.by_it; job_is = claimed.job_is }
+claimed_still sizes h Take n i job a b c claimed =
+    record { lot = claimed.lot; by_it = claimed.by_it; job_is = claimed.job_is }
+claimed_still sizes h (Dequeue j ran) n i job a b c claimed =
+    record { lot = claimed.lot; by_it = claimed.by_it; job_is = claimed.job_is }
+claimed_still sizes h (Free j) n i job a b c claimed =
+    record { lot = claimed.lot; by_it = rw c claimed.by_it; job_is = rw c claimed.job_is }
+claimed_still sizes h (SetEvent j s) n i job a b c claimed =
+    record { lot = claimed.lot; by_it = claimed.by_it; job_is = claimed.job_is }
+claimed_still sizes h (ClearEvent j was) n i job a b c claimed =
+    record { lot = claimed.lot; by_it = claimed.by_it; job_is = claimed.job_is }

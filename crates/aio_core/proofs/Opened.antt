@@ -62,3 +62,6 @@ home_owned v first count =
 pub home_opened : (table : TableId) (known : Known) (s : SeatState) → seat_state table known ≡ s → (s.known.first ≡ 64) × (s.known.count ≡ 1) → owns (numbers_of known) home ≡ true
 home_opened table known s is number =
     home_owned known (ap (λ (x : SeatState). x.known.first) is ∙ number.0) (ap (λ (x : SeatState). x.known.count) is ∙ number.1)
+
+pub word_within : (words k : ℕ) (sizes : Sizes) → words ≡ word_count sizes → k < 68 → k < words
+word_within words k sizes counts low = omega arith

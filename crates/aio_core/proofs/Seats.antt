@@ -25,7 +25,7 @@ apart_set views id v w h at e i j u x ati atj ne n own =
 pub parts_grow : (h : History) (e : Entry) (told : Option Told) → AreParts h told → AreParts (e ∷ h) told
 parts_grow h e None parts = tt
 parts_grow h e (Some told) parts =
-    ((e ∷ parts.0.0, ap (λ (l : History). e ∷ l) parts.0.1), (e ∷ parts.1.0, ap (λ (l : History). e ∷ l) parts.1.1))
+    ((e ∷ parts.0.0, ap (λ (l : History). e ∷ l) parts.0.1), (e ∷ parts.1.0, ap (λ (l : History). e ∷ l) parts.1.1), parts.2)
 
 -- another's entry is behind nothing that a seat has seen
 pub seat_beside : (sizes : Sizes) (h : History) (e : Entry) (u : Known) → IsSeat sizes h u → owns (numbers_of u) (seat_of e) ≡ false → IsSeat sizes (e ∷ h) u
@@ -113,4 +113,26 @@ makes_of sizes h e v w is numbered seen mine legal =
       seen = seen ∙ ap (λ (l : History). e ∷ l) is.seen_of.longer;
       mine = mine;
       legal = subst (IsLegal v.sizes) (sym seen) (subst (λ z. IsLegal z (e ∷ h)) (sym (is.sizes_are numbered)) legal);
+    }
+
+-- no entry: the seat has seen all
+pub seats_learn : (sizes : Sizes) (h : History) (views : List Known) (id : ℕ) (v w : Known) → SeatsStand sizes h views → get_elem? views id ≡ some v → IsSame v w → w.seen ≡ h → w.mine ≡ v.mine → 0 < v.count → SeatsStand sizes h (set views id w)
+seats_learn sizes h views id v w stand at same seen mine numbered =
+    let is = stand.each id v at in
+    let counts : w.count ≡ v.count = ap (λ n. n.count) same.numbers_are in
+    let firsts : w.first ≡ v.first = ap (λ n. n.first) same.numbers_are in
+    let below = is.below in
+    let all : own_entries (numbers_of w) w.seen ≡ v.mine = ap (λ n. own_entries n w.seen) same.numbers_are ∙ ap (own_entries (numbers_of v)) seen ∙ own_of_seen h (numbers_of v) v.seen v.mine is.seen_of in
+    record {
+      each = each_set (IsSeat sizes h) (IsSeat sizes h) views id w stand.each
+          (record {
+            sizes_are = λ _. same.sizes_are ∙ is.sizes_are numbered;
+            seen_of = record { rest = []; longer = sym seen; none_missed = refl; mine_is = mine ∙ sym all };
+            below = omega arith;
+            active = λ _. omega arith;
+            told_of = subst (AreParts h) (sym same.told_is) is.told_of;
+          })
+          (λ other u ne atu old. old);
+      apart = apart_set views id v w stand.apart at same.numbers_are;
+      all_owned = stand.all_owned;
     }

@@ -1,15 +1,18 @@
 -- A seat that is split keeps the rule.
-use Rattle.std.proofs.Common.{◌≡◌, ◌≢◌, ℕ, zero, suc, ◌+◌, ◌-◌, ◌*◌, ◌/◌, ◌%◌, div-add-mod', ◌<◌, ◌≤◌, Bool, true, false, not, cond, ltb, List, [], ◌∷◌, ◌++◌, length, set, inl, inr, refl, sym, ap, ◌∙◌, subst, ⊎_elim, ◌⊎◌, arith, length-set}
+use Rattle.std.proofs.Common.{Option, ◌≡◌, ◌≢◌, ℕ, zero, suc, ◌+◌, ◌-◌, ◌*◌, ◌/◌, ◌%◌, div-add-mod', ◌<◌, ◌≤◌, Bool, true, false, not, cond, ltb, List, [], ◌∷◌, ◌++◌, length, set, inl, inr, refl, sym, ap, ◌∙◌, subst, ⊎_elim, ◌⊎◌, arith, length-set}
 use Rattle.std.proofs.lemmas.Bool.{and_parts, and_from, not_from_false, not-true, lt-ltb, le-ltb, ltb-true, ltb-false, false_from_ne_true}
 use mathlib.Core.Option.{some, some-injective, some-ne-none}
 use lib.ListN.{get_elem?}
 use Rattle.atomic_table.specs.Table.{Splits}
-use Rattle.atomic_table.proofs.Lists.{at_set}
+use Rattle.atomic_table.proofs.Lists.{at_set, at_longer}
+use Rattle.aio_model.specs.InFlight.{Phase, AtRest}
+use Rattle.aio_core.proofs.Placing.{same_lot, same_entry, same_hand, no_lot_here, slots_kept}
+use Rattle.aio_core.proofs.Sleeping.{some_set, sleeps_more, sleeps_calmed, pushers_more}
 use Rattle.aio_model.specs.LoopHistory.{Sizes, Entry, History}
-use Rattle.aio_model.specs.LoopLists.{seat_of}
+use Rattle.aio_model.specs.LoopLists.{seat_of, job_of}
 use Rattle.aio_model.specs.LoopSeats.{Numbers, owns, own_entries, home}
 use Rattle.aio_core.specs.Known.{Known, numbers_of}
-use Rattle.aio_core.specs.Rule.{EachView, AreApart, IsSeat, Owes, HasOut, Stands, Kept}
+use Rattle.aio_core.specs.Rule.{EachView, AreApart, IsSeat, Owes, HasOut, SomeSeat, HasSleep, Stands, IsFull, HasJob, Kept}
 use Rattle.aio_core.specs.Splitting.{front_numbers, back_numbers, front_known, back_known}
 
 -- Numbers.
@@ -133,6 +136,15 @@ module _ (sizes : Sizes) (h : History) (words : List ℕ) (views : List Known) (
         told_of = tt;
       }
 
+  abbrev after : List Known
+  after = set views id (front_known cut v) ++ back_known cut v ∷ []
+
+  -- who is under way is so still
+  some_split : get_elem? views id ≡ some v → (P : Phase → Type 0) → (P AtRest → ⊥) → SomeSeat P views → SomeSeat P after
+  some_split at P rest one =
+      let kept = some_set P views id v (front_known cut v) at (λ e. e) one in
+      record { id = kept.id; known = kept.known; at = at_longer (set views id (front_known cut v)) (back_known cut v ∷ []) kept.id kept.known kept.at; is = kept.is }
+
   pub split_stands : Stands sizes h words views → get_elem? views id ≡ some v → 0 < cut → cut ≤ v.count → Stands sizes h words (set views id (front_known cut v) ++ back_known cut v ∷ [])
   split_stands stand at full low =
       let is = stand.seats.each id v at in
@@ -150,11 +162,33 @@ module _ (sizes : Sizes) (h : History) (words : List ℕ) (views : List Known) (
           owed = each_split (λ u. Owes sizes words h u.first u.phase) views id (front_known cut v) (back_known cut v) stand.lists.owed (stand.lists.owed id v at) tt;
           out = each_split (HasOut words h) views id (front_known cut v) (back_known cut v) stand.lists.out (λ own. stand.lists.out id v at (front_owned (numbers_of v) cut home low own)) (λ own. stand.lists.out id v at (back_owned (numbers_of v) cut home low own));
         };
+        events = stand.events;
+        sleep = record {
+          notified = stand.sleep.notified;
+          notifier = stand.sleep.notifier;
+          pushers = pushers_more h words views after (some_split at) stand.sleep;
+          home = each_split (HasSleep h words after) views id (front_known cut v) (back_known cut v)
+              (λ other u atu own. sleeps_more h words views after (some_split at) u.did u.sleep (stand.sleep.home other u atu own))
+              (λ own. sleeps_more h words views after (some_split at) v.did v.sleep (stand.sleep.home id v at (front_owned (numbers_of v) cut home low own)))
+              (λ own. sleeps_calmed h words views after (some_split at) v.did [] v.sleep (stand.sleep.home id v at (back_owned (numbers_of v) cut home low own)));
+        };
       }
 
-pub split_allowed : {S : Type 0} (sizes : Sizes) (id cut : ℕ) (v : Known) → 0 < cut → cut ≤ v.count → Splits (Kept {S = S} sizes) id v (front_known cut v) (back_known cut v)
-split_allowed sizes id cut v full low s kept at =
-    (kept.0, split_stands sizes kept.0 s.words s.views id cut v kept.1 at full low)
+-- what a home's view says of a full lot's slot
+abbrev pub HasSlots : {J : Type 0} → (J → ℕ) → Sizes → History → List (mathlib.Core.Option.Option (Option J)) → Known → Type 0
+HasSlots number sizes h homes u =
+    owns (numbers_of u) home ≡ true → (m : ℕ) → m < sizes.lots → IsFull h (sizes.handles + m) → HasJob number (sizes.handles + m) u.stage (job_of (sizes.handles + m) h) (get_elem? homes m)
+
+pub split_allowed : {J : Type 0} (number : J → ℕ) (sizes : Sizes) (id cut : ℕ) (v : Known) → 0 < cut → cut ≤ v.count → Splits (Kept number sizes) id v (front_known cut v) (back_known cut v)
+split_allowed number sizes id cut v full low s kept at = (
+  kept.0,
+  split_stands sizes kept.0 s.words s.views id cut v kept.1 at full low,
+  record {
+    vacant = kept.2.vacant;
+    emptied = kept.2.emptied;
+    full = each_split (HasSlots number sizes kept.0 s.homes) s.views id (front_known cut v) (back_known cut v) kept.2.full (λ own. kept.2.full id v at (front_owned (numbers_of v) cut home low own)) (λ own. kept.2.full id v at (back_owned (numbers_of v) cut home low own));
+  },
+)
 
 -- Halves.
 

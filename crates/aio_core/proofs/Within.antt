@@ -1,11 +1,11 @@
 -- What home has taken stays among the indices of the table.
-use Rattle.std.proofs.Common.{◌≡◌, ℕ, ◌<◌, ◌≤◌, Bool, true, false, cond, ◌&&◌, eqb, ltb, leb, List, [], ◌∷◌, ◌++◌, refl, sym, ap, ◌∙◌, subst, arith}
+use Rattle.std.proofs.Common.{◌≡◌, ℕ, ◌<◌, ◌≤◌, Bool, true, false, cond, ◌&&◌, eqb, ltb, leb, List, [], ◌∷◌, ◌++◌, length, length-append, refl, sym, ap, ◌∙◌, subst, arith}
 use Rattle.std.proofs.lemmas.Bool.{and_parts, and_from, lt-ltb, le-leb, eqb-false}
 use Rattle.aio_model.specs.LoopHistory.{Sizes}
 use Rattle.aio_core.specs.Words.{index_count}
 use Rattle.aio_core.specs.Known.{Known}
 use Rattle.aio_core.specs.Standing.{with_slice, Takes}
-use Rattle.aio_core.specs.HomeState.{are_within, is_within}
+use Rattle.aio_core.specs.HomeState.{are_within, is_handle}
 
 within_back : (sizes : Sizes) (slices : List ℕ) (word : ℕ) → are_within sizes slices ≡ true → 0 < word → word ≤ index_count sizes → are_within sizes (slices ++ word ∷ []) ≡ true
 within_back sizes [] word h low high =
@@ -28,6 +28,14 @@ pub taken_same : (found : ℕ) (v w : Known) (old new : List ℕ) → Takes foun
 taken_same found v w old new takes same is =
     is ∙ ap (λ (l : List ℕ). with_slice l found) same ∙ sym (ap (λ (k : Known). k.stage.slices) takes.rest)
 
-pub taken_hand : (found : ℕ) (v w : Known) → Takes found v w → is_within v.sizes v.stage.hand ≡ true → is_within w.sizes w.stage.hand ≡ true
+pub taken_hand : (found : ℕ) (v w : Known) → Takes found v w → is_handle v.sizes v.stage.hand ≡ true → is_handle w.sizes w.stage.hand ≡ true
 taken_hand found v w takes h =
-    ap (λ (k : Known). is_within k.sizes k.stage.hand) takes.rest ∙ h
+    ap (λ (k : Known). is_handle k.sizes k.stage.hand) takes.rest ∙ h
+
+few_after : (slices : List ℕ) (word : ℕ) (b : Bool) → length slices < 8 → length (cond b slices (slices ++ word ∷ [])) ≤ 8
+few_after slices word true low = omega arith
+few_after slices word false low = let sum = length-append slices (word ∷ []) in omega (arith, sum, low)
+
+pub taken_few : (word : ℕ) (old new slices : List ℕ) → old ≡ slices → length slices < 8 → new ≡ with_slice old word → length new ≤ 8
+taken_few word old new slices same low is =
+    subst (λ l. length l ≤ 8) (sym is) (few_after old word (eqb word 0) (subst (λ l. length l < 8) (sym same) low))

@@ -3,8 +3,9 @@ use Rattle.std.specs.Prelude.{◌≡◌, ◌≢◌, ℕ, ◌+◌, None, List, []
 use Rattle.atomic_table.specs.Seated.{TableId}
 use Rattle.aio_model.specs.LoopHistory.{Sizes}
 use Rattle.aio_model.specs.InFlight.{AtRest}
-use Rattle.aio_core.specs.Known.{Known, Running, empty_stage}
-use Rattle.aio_core.specs.Standing.{Misses, Takes, Lifts}
+use Rattle.aio_core.specs.Words.{flags_at, free_word}
+use Rattle.aio_core.specs.Known.{LotClaimCompare, Known, Running, empty_stage}
+use Rattle.aio_core.specs.Standing.{Misses, Looks, Takes, Lifts}
 
 -- which table it is, and how many handles, lots and events it has
 pub record TableState : Type 0 where
@@ -27,6 +28,12 @@ pub record IsMissed (i head : ℕ) (before after : Known) : Type 0 where
   pub other : found ≢ head
   pub misses : Misses i found before after
 
+-- the lot had a life
+pub record IsTaken (i : ℕ) (before after : Known) : Type 0 where
+  pub found : ℕ
+  pub taken : found ≢ free_word
+  pub looks : Looks LotClaimCompare (flags_at i) found before after
+
 -- the list was taken
 pub record HasTaken (before after : Known) : Type 0 where
   pub found : ℕ
@@ -37,7 +44,7 @@ pub record HasLifted (i : ℕ) (before after : Known) : Type 0 where
   pub found : ℕ
   pub more : List ℕ
   pub first : before.stage.slices ≡ (i + 1) ∷ more
-  pub lifts : Lifts i found more before after
+  pub lifts : Lifts i found None more before after
 
 -- what the seat and the home of a new table know
 abbrev pub first_seat : Sizes → Known

@@ -9,6 +9,7 @@ are_within sizes [] = true
 are_within sizes (word ∷ words) =
     nat_lt 0 word && (nat_le word (index_count sizes) && are_within sizes words)
 
-abbrev pub is_within : Sizes → Option ℕ → Bool
-is_within sizes None = true
-is_within sizes (Some i) = nat_lt i (index_count sizes)
+-- only a handle is at hand between two calls
+abbrev pub is_handle : Sizes → Option ℕ → Bool
+is_handle sizes None = true
+is_handle sizes (Some i) = nat_lt i sizes.handles

@@ -1,5 +1,5 @@
 -- What a seat of a loop's table knows.
-use Rattle.std.specs.Prelude.{ℕ, Option, None, List, []}
+use Rattle.std.specs.Prelude.{ℕ, Bool, true, false, Option, None, List, []}
 use Rattle.aio_model.specs.LoopHistory.{Sizes, History}
 use Rattle.aio_model.specs.LoopSeats.{Numbers}
 use Rattle.aio_model.specs.InFlight.{Phase, AtRest}
@@ -43,23 +43,51 @@ pub record Done : Type 0 where
 pub record Stage : Type 0 where
   pub slices : List ℕ
   pub hand : Option ℕ
+  -- the number of the job, where what is at hand is a lot
+  pub job : Option ℕ
 
 abbrev pub empty_stage : Stage
-empty_stage = record { slices = []; hand = None }
+empty_stage = record { slices = []; hand = None; job = None }
 
--- How far the home is on its way to sleep. Scanned says how many steps the home had made then, so that it is over with the
--- next one.
+-- How far a scan has come: the words that lead to what is still to be loaded, with the index at hand between its next load and its flags
+-- load; the indices still to be loaded; and the events that were loaded since, none of which was set.
+pub record Scan : Type 0 where
+  pub stage : Stage
+  pub left : List ℕ
+  pub watched : List ℕ
+
+-- How far the home is on its way to sleep. The number says how many steps the home had made then, so that what it found is over with
+-- the next one.
 pub data Sleep : Type 0 where
   Running : Sleep
-  Scanned : ℕ → Sleep
-  Armed : ℕ → Sleep
+  Scanning : ℕ → Scan → Sleep
+  Armed : ℕ → List ℕ → Sleep
   ToDisarm : Sleep
-  Committed : ℕ → Sleep
+  -- with the events that it watches
+  Committed : List ℕ → Sleep
 
--- What was seen when two seats were last joined: by the one that stayed, and by the other.
+-- a home that scans, or has scanned, counts as running
+abbrev pub is_running : Sleep → Bool
+is_running Running = true
+is_running (Scanning made scan) = true
+is_running _ = false
+
+-- what a scan or an arm found is over
+abbrev pub calmed : Sleep → Sleep
+calmed Running = Running
+calmed (Scanning made scan) = Running
+calmed (Armed made watched) = ToDisarm
+calmed ToDisarm = ToDisarm
+calmed (Committed watched) = Committed watched
+
+-- What was seen when two seats were last joined, and what each had made under its numbers: the one that stayed, and the other.
 pub record Told : Type 0 where
   pub staying : History
   pub joining : History
+  pub stays : Numbers
+  pub joins : Numbers
+  pub made_by_staying : History
+  pub made_by_joining : History
 
 -- Histories have the newest entry in front, and so have the steps that were done.
 pub record Known : Type 0 where

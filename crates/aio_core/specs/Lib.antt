@@ -2,6 +2,8 @@ pub mod Words
 pub mod Known
 pub mod Rule
 pub mod Standing
+pub mod SleepSteps
+pub mod Scans
 pub mod Plays
 pub mod Splitting
 pub mod Joining

@@ -2,7 +2,7 @@
 use Rattle.std.specs.Prelude.{ℕ, ◌+◌, ◌-◌, ◌/◌, [], None}
 use Rattle.aio_model.specs.LoopSeats.{Numbers, own_entries}
 use Rattle.aio_model.specs.InFlight.{AtRest}
-use Rattle.aio_core.specs.Known.{Known, numbers_of}
+use Rattle.aio_core.specs.Known.{Known, calmed, numbers_of}
 
 -- the first numbers, so many, and the others
 abbrev pub front_numbers : Numbers → ℕ → Numbers
@@ -19,7 +19,7 @@ front_known cut known =
 -- the new one has the others and has done nothing yet
 abbrev pub back_known : ℕ → Known → Known
 back_known cut known =
-    record known { mine = own_entries (back_numbers (numbers_of known) cut) known.seen; did = []; first = known.first + cut; count = known.count - cut; phase = AtRest; told = None }
+    record known { mine = own_entries (back_numbers (numbers_of known) cut) known.seen; did = []; first = known.first + cut; count = known.count - cut; phase = AtRest; sleep = calmed known.sleep; told = None }
 
 -- the home's number is cut off when a table is built
 abbrev pub seats_known : Known → Known

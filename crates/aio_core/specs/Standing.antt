@@ -1,17 +1,17 @@
 -- What one step, or one call, makes of what a seat knows.
-use Rattle.std.specs.Prelude.{◌≡◌, ℕ, ◌≤◌, ◌<◌, Bool, true, false, ◌==◌, if◌then◌else◌, None, Some, List, [], ◌∷◌, ◌++◌}
+use Rattle.std.specs.Prelude.{◌≡◌, ℕ, ◌≤◌, ◌<◌, Bool, true, false, ◌==◌, if◌then◌else◌, Option, None, Some, List, [], ◌∷◌, ◌++◌}
 use Rattle.aio_model.specs.declared.flags.Flags.{Flags}
 use Rattle.aio_model.specs.declared.kinds.Kind as asking
 use Rattle.aio_model.specs.declared.kinds.Kind.TheVariants.{Sched, Idle, Del}
 use Rattle.aio_model.specs.FlagsWord.{word_of}
-use Rattle.aio_model.specs.LoopHistory.{Asked, ToCall, ToCallIdle, ToDelete, ToCallOnce, Entry, Enqueue, Put, Cancel, Take, Dequeue, History}
+use Rattle.aio_model.specs.LoopHistory.{Asked, ToCall, ToCallIdle, ToDelete, ToCallOnce, Entry, New, Free, Enqueue, Put, Cancel, Take, Dequeue, History}
 use Rattle.aio_model.specs.LoopFlags.{flags_of, are_due}
 use Rattle.aio_model.specs.LoopLists.{out_of}
 use Rattle.aio_model.specs.LoopLegal.{IsLegal}
 use Rattle.aio_model.specs.LoopSeats.{own_entries}
-use Rattle.aio_model.specs.InFlight.{Phase, AtRest, LotClaimed, Announced, HeadLoaded, Linked, ToStore, ToLoad, ToSet}
-use Rattle.aio_core.specs.Words.{head_at, flags_at, next_at, index_count}
-use Rattle.aio_core.specs.Known.{Kind, EnqueueFetchOr, HeadLoad, NextStore, HeadCompare, TakeSwap, NextLoad, DequeueFetchAnd, CancelFetchAnd, Done, Known, numbers_of}
+use Rattle.aio_model.specs.InFlight.{Reason, ForIndex, Phase, AtRest, LotClaimed, Announced, HeadLoaded, Linked, ToStore, ToLoad, ToSet}
+use Rattle.aio_core.specs.Words.{head_at, notified_at, notify_me_at, notifier_at, flags_at, next_at, index_count, free_word}
+use Rattle.aio_core.specs.Known.{Kind, EnqueueFetchOr, HeadLoad, NextStore, HeadCompare, TakeSwap, NextLoad, DequeueFetchAnd, CancelFetchAnd, NotifiedStore, NotifyMeLoad, NotifierSwap, LotClaimCompare, LotFreeStore, Done, Known, numbers_of}
 
 -- what a call of this kind asks
 abbrev pub asked_by : asking.Kind → Asked
@@ -47,7 +47,7 @@ pub record Makes (entry : Entry) (before after : Known) : Type 0 where
 -- the index that is to be pushed
 abbrev pub index_in : Phase → ℕ
 index_in AtRest = 0
-index_in (LotClaimed i) = i
+index_in (LotClaimed i job) = i
 index_in (Announced i) = i
 index_in (HeadLoaded i found) = i
 index_in (Linked i found) = i
@@ -55,9 +55,9 @@ index_in (ToStore reason) = 0
 index_in (ToLoad reason) = 0
 index_in (ToSet reason) = 0
 
--- an enqueue that found the index pending has nothing to push
+-- an enqueue that found the index pending has nothing to push, and notifies
 abbrev pub after_enqueue : ℕ → Flags → Phase
-after_enqueue i flags = if flags.pending then AtRest else Announced i
+after_enqueue i flags = if flags.pending then ToStore (ForIndex i) else Announced i
 
 -- Steps of any seat.
 
@@ -74,7 +74,7 @@ pub record Aims (i found : ℕ) (before after : Known) : Type 0 where
 -- the head was the one that was loaded, and the index was pushed
 pub record Pushes (i found : ℕ) (before after : Known) : Type 0 where
   pub makes : Makes (Put i before.first) before after
-  pub rest : after ≡ record before { seen = after.seen; mine = after.mine; did = done HeadCompare head_at found ∷ before.did; phase = AtRest }
+  pub rest : after ≡ record before { seen = after.seen; mine = after.mine; did = done HeadCompare head_at found ∷ before.did; phase = ToStore (ForIndex i) }
 
 -- the head was another, and the index is still to be pushed
 pub record Misses (i found : ℕ) (before after : Known) : Type 0 where
@@ -106,15 +106,63 @@ pub record Takes (found : ℕ) (before after : Known) : Type 0 where
 abbrev pub without_first : ℕ → List ℕ → List ℕ
 without_first next slices = if next == 0 then slices else next ∷ slices
 
--- the first of the first slice is at hand, and what follows it was loaded
-pub record Lifts (i found : ℕ) (more : List ℕ) (before after : Known) : Type 0 where
+-- the first of the first slice is at hand, and what follows it was loaded; a lot has a job of this number
+pub record Lifts (i found : ℕ) (job : Option ℕ) (more : List ℕ) (before after : Known) : Type 0 where
   pub below : found ≤ index_count before.sizes
-  pub rest : after ≡ record before { did = done NextLoad (next_at i) found ∷ before.did; stage = record { slices = without_first found more; hand = Some i } }
+  pub rest : after ≡ record before { did = done NextLoad (next_at i) found ∷ before.did; stage = record { slices = without_first found more; hand = Some i; job = job } }
 
--- the index at hand was dequeued, and had these flags; it is a handle, since no life of a lot is begun yet
+-- the index at hand was dequeued, and had these flags
 pub record Dequeues (i : ℕ) (flags : Flags) (before after : Known) : Type 0 where
   pub makes : Makes (Dequeue i (are_due flags)) before after
-  pub handle : i < before.sizes.handles
   pub were : flags ≡ flags_of i (makes.others ++ before.seen)
   pub left : is_empty after.stage.slices ≡ is_empty (out_of after.seen)
-  pub rest : after ≡ record before { seen = after.seen; mine = after.mine; did = done DequeueFetchAnd (flags_at i) (word_of flags) ∷ before.did; stage = record before.stage { hand = None } }
+  pub rest : after ≡ record before { seen = after.seen; mine = after.mine; did = done DequeueFetchAnd (flags_at i) (word_of flags) ∷ before.did; stage = record before.stage { hand = None; job = None } }
+
+-- Steps of a notify.
+
+-- a seat that is about to notify, or at rest: a notify may be called for itself
+abbrev pub may_notify : Phase → Bool
+may_notify AtRest = true
+may_notify (ToStore reason) = true
+may_notify _ = false
+
+-- `notified` was stored
+pub record StoresNotified (reason : Reason) (before after : Known) : Type 0 where
+  pub rest : after ≡ record before { did = done NotifiedStore notified_at 1 ∷ before.did; phase = ToLoad reason }
+
+-- a home that isn't about to sleep need not be told
+abbrev pub after_load : Reason → ℕ → Phase
+after_load reason found = if found == 0 then AtRest else ToSet reason
+
+-- `notify_me` was loaded
+pub record LoadsNotifyMe (reason : Reason) (found : ℕ) (before after : Known) : Type 0 where
+  pub rest : after ≡ record before { did = done NotifyMeLoad notify_me_at found ∷ before.did; phase = after_load reason found }
+
+-- the notifier was set
+pub record SetsNotifier (found : ℕ) (before after : Known) : Type 0 where
+  pub rest : after ≡ record before { did = done NotifierSwap notifier_at found ∷ before.did; phase = AtRest }
+
+-- Looks, which change nothing but that they were made.
+
+pub record Looks (kind : Kind) (word found : ℕ) (before after : Known) : Type 0 where
+  pub rest : after ≡ record before { did = done kind word found ∷ before.did }
+
+-- Steps on lots.
+
+-- a life of the lot was begun for a job of this number
+pub record Claims (i job found : ℕ) (before after : Known) : Type 0 where
+  pub makes : Makes (New i before.first job) before after
+  pub rest : after ≡ record before { seen = after.seen; mine = after.mine; did = done LotClaimCompare (flags_at i) found ∷ before.did; phase = LotClaimed i job }
+
+-- its life ended
+pub record Frees (i : ℕ) (before after : Known) : Type 0 where
+  pub makes : Makes (Free i) before after
+  pub rest : after ≡ record before { seen = after.seen; mine = after.mine; did = done LotFreeStore (flags_at i) free_word ∷ before.did }
+
+-- a job was placed: a life of the lot was begun for it, and the lot was enqueued
+pub record PlacesJob (i job : ℕ) (before after : Known) : Type 0 where
+  pub claimed : Known
+  pub flags : Flags
+  pub claims : Claims i job free_word before claimed
+  pub enqueues : Enqueues i ToCallOnce flags claimed after
+  pub first : flags.pending ≡ false

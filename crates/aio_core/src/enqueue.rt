@@ -31,6 +31,7 @@ fn mask(kind: Kind) -> u64
 impl<J: Job> LoopTable<J> {
     fn set_flags(&self, seat: &mut Seat<J>, bh: u32, kind: Kind, mask: u64) -> u64
         requires seat { IsSeatOf self.now seat.old }
+        requires rest { seat.old.known.phase ≡ AtRest }
         requires handle { bh < self.now.sizes.handles }
         requires mask { mask ≡ mask_of (asked_by kind) }
         ensures seat { IsSeatOf self.now seat.new }

@@ -6,7 +6,7 @@ ghost use Rattle.aio_core.specs.Words.{index_count};
 ghost use Rattle.aio_core.specs.Standing.{Takes, Lifts, Dequeues};
 ghost use Rattle.aio_core.specs.Plays.{Dequeued};
 ghost use Rattle.aio_core.specs.Calls.{IsSeatOf, HasTaken, HasLifted, first_home};
-ghost use Rattle.aio_core.specs.HomeState.{are_within, is_within};
+ghost use Rattle.aio_core.specs.HomeState.{are_within, is_handle};
 
 use crate::job::Job;
 use crate::plays::{Dequeue, LoadNext, Take};
@@ -21,11 +21,12 @@ use aio_model::Flags;
 #[derive(Drop)]
 pub struct Home<J: Job> {
     pub seat: Seat<J>,
-    slices: Slices,
+    pub(crate) slices: Slices,
     ghost number: { (seat.known.first ≡ 64) × (seat.known.count ≡ 1) },
     ghost same_slices: { slices ≡ seat.known.stage.slices },
+    ghost few_slices: { length slices ≤ 8 },
     ghost slices_within: { are_within seat.known.sizes slices ≡ true },
-    ghost hand_within: { is_within seat.known.sizes seat.known.stage.hand ≡ true },
+    ghost hand_is_handle: { is_handle seat.known.sizes seat.known.stage.hand ≡ true },
 }
 
 impl<J: Job> Home<J> {
@@ -53,11 +54,11 @@ impl<J: Job> LoopTable<J> {
     fn load_after(&self, seat: &mut Seat<J>, bh: u32) -> u64
         requires seat { IsSeatOf self.now seat.old }
         requires number { (seat.old.known.first ≡ 64) × (seat.old.known.count ≡ 1) }
-        requires below { bh < index_count self.now.sizes }
+        requires handle { bh < self.now.sizes.handles }
         requires first { seat.old.known.stage.slices ≡ (bh + 1) ∷ drop 1 seat.old.known.stage.slices }
         requires free { seat.old.known.stage.hand ≡ None }
         ensures seat { IsSeatOf self.now seat.new }
-        ensures step { Lifts bh result (drop 1 seat.old.known.stage.slices) seat.old.known seat.new.known }
+        ensures step { Lifts bh result None (drop 1 seat.old.known.stage.slices) seat.old.known seat.new.known }
     {
         self.table
             .shared
@@ -67,7 +68,7 @@ impl<J: Job> LoopTable<J> {
     fn clear_flags(&self, seat: &mut Seat<J>, bh: u32) -> u64
         requires seat { IsSeatOf self.now seat.old }
         requires number { (seat.old.known.first ≡ 64) × (seat.old.known.count ≡ 1) }
-        requires below { bh < index_count self.now.sizes }
+        requires handle { bh < self.now.sizes.handles }
         requires hand { seat.old.known.stage.hand ≡ Some bh }
         ensures seat { IsSeatOf self.now seat.new }
         ensures step { Dequeued bh result seat.old.known seat.new.known }
@@ -79,7 +80,7 @@ impl<J: Job> LoopTable<J> {
     }
 
     /// The index to which a word of the list leads.
-    fn index_of(&self, word: u64) -> u32
+    pub(crate) fn index_of(&self, word: u64) -> u32
         requires some { 0 < word }
         requires below { word ≤ index_count self.now.sizes }
         ensures { result + 1 ≡ word }
@@ -99,20 +100,30 @@ impl<J: Job> LoopTable<J> {
         home.slices.push(found);
     }
 
-    /// Takes the first of the first slice in hand, by one atomic load of what follows it. None where no slice is left.
-    pub fn lift(&self, home: &mut Home<J>) -> Option<InHand>
-        requires seat { IsSeatOf self.now home.old.seat }
-        requires free { home.old.seat.known.stage.hand ≡ None }
-        ensures seat { IsSeatOf self.now home.new.seat }
-        ensures step { MatchOption result ((home.old.seat.known.stage.slices ≡ []) × (home.new ≡ home.old)) (λ hand. HasLifted hand home.old.seat.known home.new.seat.known) }
+    /// The first of the first slice, by no step. None where no slice is left.
+    pub fn next(&self, home: &Home<J>) -> Option<u32>
+        requires seat { IsSeatOf self.now home.now.seat }
+        ensures first { MatchOption result (home.now.seat.known.stage.slices ≡ []) (λ bh. (bh < index_count self.now.sizes) × (home.now.seat.known.stage.slices ≡ (bh + 1) ∷ drop 1 home.now.seat.known.stage.slices)) }
     {
-        let bh = self.index_of(home.slices.first()?);
-        let found = self.load_after(&mut home.seat, bh);
-        home.slices.lift(found);
-        Some(InHand::of(bh))
+        Some(self.index_of(home.slices.first()?))
     }
 
-    /// Dequeues the index in hand: clears the flags of its round by one atomic step, and answers those that it found.
+    /// Takes the first of the first slice, a handle, in hand, by one atomic load of what follows it.
+    pub fn lift(&self, home: &mut Home<J>, bh: u32) -> InHand
+        requires seat { IsSeatOf self.now home.old.seat }
+        requires free { home.old.seat.known.stage.hand ≡ None }
+        requires handle { bh < self.now.sizes.handles }
+        requires first { home.old.seat.known.stage.slices ≡ (bh + 1) ∷ drop 1 home.old.seat.known.stage.slices }
+        ensures seat { IsSeatOf self.now home.new.seat }
+        ensures hand { result ≡ bh }
+        ensures step { HasLifted bh home.old.seat.known home.new.seat.known }
+    {
+        let found = self.load_after(&mut home.seat, bh);
+        home.slices.lift(found);
+        InHand::of(bh)
+    }
+
+    /// Dequeues the handle in hand: clears the flags of its round by one atomic step, and answers those that it found.
     pub fn dequeue(&self, home: &mut Home<J>, hand: InHand) -> Flags
         requires seat { IsSeatOf self.now home.old.seat }
         requires hand { home.old.seat.known.stage.hand ≡ Some hand }

@@ -7,6 +7,7 @@ mod cancel;
 mod enqueue;
 mod home;
 mod job;
+mod notify;
 mod plays;
 mod refusal;
 mod seat;

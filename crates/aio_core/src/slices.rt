@@ -4,12 +4,12 @@ ghost use Rattle.aio_core.specs.Standing.{with_slice, without_first};
 
 use std::marker::Model;
 
-/// Each frame of nested polls takes one slice at most, and polls nest to this depth.
+/// Each frame of nested polls takes one slice at most, and polls nest to this depth; a scan has one more.
 pub const MOST: usize = 8;
 
 #[derive(Drop)]
 pub struct Slices {
-    words: [u64; 8],
+    words: [u64; 9],
     count: usize,
 }
 
@@ -20,7 +20,7 @@ impl Model for Slices {
 
     ghost view = { λ s. take s.count s.words };
 
-    ghost invariant = { λ s. s.count ≤ 8 };
+    ghost invariant = { λ s. s.count ≤ 9 };
 }
 
 impl Slices {
@@ -28,9 +28,24 @@ impl Slices {
         ensures { result ≡ [] }
     {
         Slices {
-            words: [0; 8],
+            words: [0; 9],
             count: 0,
         }
+    }
+
+    /// The same behind one more; 0 leads to none.
+    pub fn behind(&self, word: u64) -> Slices
+        requires { length self.now < 9 }
+        ensures { result ≡ without_first word self.now }
+    {
+        let mut words = self.words;
+        let mut count = self.count;
+        if word != 0 {
+            words.copy_within(0..count, 1);
+            words[0] = word;
+            count += 1;
+        }
+        Slices { words, count }
     }
 
     pub fn first(&self) -> Option<u64>

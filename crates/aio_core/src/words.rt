@@ -5,6 +5,12 @@ ghost use Rattle.aio_core.specs.Words.{flags_at, next_at};
 /// The first of the list of what was pushed.
 pub const HEAD: usize = 0;
 
+pub const NOTIFIED: usize = 1;
+
+pub const NOTIFY_ME: usize = 2;
+
+pub const NOTIFIER: usize = 3;
+
 /// The flags of a lot without a life.
 pub const FREE: u64 = 32;
 

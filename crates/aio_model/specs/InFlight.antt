@@ -9,8 +9,8 @@ pub data Reason : Type 0 where
 
 pub data Phase : Type 0 where
   AtRest : Phase
-  -- a life of the lot was begun, and it is to be enqueued
-  LotClaimed : ℕ → Phase
+  -- a life of the lot was begun for a job of this number, and it is to be enqueued
+  LotClaimed : ℕ → ℕ → Phase
   -- the index was enqueued, and is to be pushed
   Announced : ℕ → Phase
   -- besides, this head was loaded
@@ -31,7 +31,7 @@ is_at_rest _ = false
 -- from the enqueue, or the setting of the event, until the notify has ended
 abbrev pub flight_of : Phase → Reason
 flight_of AtRest = ForNothing
-flight_of (LotClaimed i) = ForNothing
+flight_of (LotClaimed i job) = ForNothing
 flight_of (Announced i) = ForIndex i
 flight_of (HeadLoaded i found) = ForIndex i
 flight_of (Linked i found) = ForIndex i

@@ -1,5 +1,4 @@
-use Rattle.std.proofs.Common.{◌≡◌, ◌<◌, Some, sym, ap, subst}
-use Rattle.aio_core.specs.Words.{index_count}
+use Rattle.std.proofs.Common.{◌≡◌, ◌<◌, Some, sym, ap, subst, arith}
 use Rattle.aio_core.specs.Known.{Known}
 use Rattle.aio_core.proofs.Dequeuing.{dequeue_allowed}
 use Rattle.aio_core.proofs.Opened.{same_table, seat_still, held_still, held_numbers, flags_within, home_opened}
@@ -10,11 +9,11 @@ fetch_and-requires g c =
     let s = c.seat.inside.inner in
     let t = c.self.inside.table.shared in
     let bh = c.args.bh in
-    let below : bh < index_count t.key = subst (λ z. bh < index_count z.sizes) (sym c.self.view_is) c.requires.below in
+    let handle : bh < t.key.handles = subst (λ z. bh < z.sizes.handles) (sym c.self.view_is) c.requires.handle in
     let hand : s.me.0.stage.hand ≡ Some bh = subst (λ z. z.known.stage.hand ≡ Some bh) (sym c.seat.view_is) c.requires.hand in (
       same_table s.table_id t.table_id s.me.0 t.key c.args.seat.now c.args.self.now c.seat.view_is c.self.view_is c.requires.seat,
-      flags_within t.table_id.words c.flags_word.result bh t.key c.self.invariant.1 c.flags_word.ensures below,
-      rw c.flags_word.ensures (dequeue_allowed t.key t.table_id.slots s.id bh s.me (held_numbers s.me _ _ c.seat.invariant) (home_opened s.table_id s.me.0 c.args.seat.now c.seat.view_is c.requires.number) hand),
+      flags_within t.table_id.words c.flags_word.result bh t.key c.self.invariant.1 c.flags_word.ensures (omega arith),
+      rw c.flags_word.ensures (dequeue_allowed _ t.key t.table_id.slots s.id bh s.me (held_numbers s.me _ _ c.seat.invariant) (home_opened s.table_id s.me.0 c.args.seat.now c.seat.view_is c.requires.number) handle hand),
     )
 
 pub invariant_of-seat : goal.invariant_of-seat

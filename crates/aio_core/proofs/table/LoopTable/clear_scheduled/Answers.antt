@@ -12,7 +12,7 @@ fetch_and-requires g c =
     let handle : bh < t.key.handles = subst (λ z. bh < z.sizes.handles) (sym c.self.view_is) c.requires.handle in (
       same_table s.table_id t.table_id s.me.0 t.key c.args.seat.now c.args.self.now c.seat.view_is c.self.view_is c.requires.seat,
       flags_within t.table_id.words c.flags_word.result bh t.key c.self.invariant.1 c.flags_word.ensures (omega arith),
-      rw c.flags_word.ensures (cancel_allowed t.key t.table_id.slots s.id bh s.me (held_numbers s.me _ _ c.seat.invariant) handle),
+      rw c.flags_word.ensures (cancel_allowed _ t.key t.table_id.slots s.id bh s.me (held_numbers s.me _ _ c.seat.invariant) handle),
     )
 
 pub invariant_of-seat : goal.invariant_of-seat

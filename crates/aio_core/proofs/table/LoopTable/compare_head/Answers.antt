@@ -12,7 +12,7 @@ compare_exchange-requires g c =
     let phase : s.me.0.phase ≡ Linked bh c.args.head = subst (λ z. z.known.phase ≡ Linked bh c.args.head) (sym c.seat.view_is) c.requires.phase in (
       same_table s.table_id t.table_id s.me.0 t.key c.args.seat.now c.args.self.now c.seat.view_is c.self.view_is c.requires.seat,
       head_within t.table_id.words t.key c.self.invariant.1,
-      rw c.from.ensures (head_compare_allowed t.key t.table_id.slots s.id bh c.args.head s.me (held_numbers s.me _ _ c.seat.invariant) phase),
+      rw c.from.ensures (head_compare_allowed _ t.key t.table_id.slots s.id bh c.args.head s.me (held_numbers s.me _ _ c.seat.invariant) phase),
     )
 
 pub invariant_of-seat : goal.invariant_of-seat

@@ -12,7 +12,7 @@ split_seat-inner-requires g c =
     let half = half_below s.me.0.count (omega arith) in (
       same_table s.table_id t.table_id s.me.0 t.key c.args.seat.now c.args.self.now c.seat.view_is c.self.view_is c.requires.seat,
       head_within t.table_id.words t.key c.self.invariant.1,
-      split_allowed t.key s.id (s.me.0.count - half_of s.me.0.count) s.me.0 (omega arith) (omega arith),
+      split_allowed _ t.key s.id (s.me.0.count - half_of s.me.0.count) s.me.0 (omega arith) (omega arith),
     )
 
 pub of-requires-clause-numbers : goal.of-requires-clause-numbers

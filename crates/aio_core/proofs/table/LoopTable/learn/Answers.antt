@@ -8,5 +8,5 @@ load-requires g c =
     let t = c.self.inside.table.shared in (
       same_table s.table_id t.table_id s.me.0 t.key c.args.seat.now c.args.self.now c.seat.view_is c.self.view_is c.requires,
       head_within t.table_id.words t.key c.self.invariant.1,
-      learn_allowed t.key t.table_id.slots s.id s.me (held_numbers s.me _ _ c.seat.invariant),
+      learn_allowed _ t.key t.table_id.slots s.id s.me (held_numbers s.me _ _ c.seat.invariant),
     )

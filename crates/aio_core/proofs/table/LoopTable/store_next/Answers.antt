@@ -14,5 +14,5 @@ store-requires g c =
     let phase : s.me.0.phase ≡ HeadLoaded bh c.args.head = subst (λ z. z.known.phase ≡ HeadLoaded bh c.args.head) (sym c.seat.view_is) c.requires.phase in (
       same_table s.table_id t.table_id s.me.0 t.key c.args.seat.now c.args.self.now c.seat.view_is c.self.view_is c.requires.seat,
       next_within t.table_id.words c.next_word.result bh t.key c.self.invariant.1 c.next_word.ensures below,
-      rw c.next_word.ensures (next_store_allowed t.key t.table_id.slots s.id bh c.args.head s.me (held_numbers s.me _ _ c.seat.invariant) phase),
+      rw c.next_word.ensures (next_store_allowed _ t.key t.table_id.slots s.id bh c.args.head s.me (held_numbers s.me _ _ c.seat.invariant) phase),
     )

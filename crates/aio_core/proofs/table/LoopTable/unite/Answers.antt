@@ -14,5 +14,5 @@ join_seat-requires g c =
       same_table o.table_id t.table_id o.me.0 t.key c.args.other c.args.self.now c.other.view_is c.self.view_is c.requires.other,
       c.other.invariant.0,
       head_within t.table_id.words t.key c.self.invariant.1,
-      join_allowed t.key s.id o.id s.me.0 o.me.0 next (held_numbers s.me _ _ c.seat.invariant),
+      join_allowed _ t.key s.id o.id s.me.0 o.me.0 next (held_numbers s.me _ _ c.seat.invariant) (ap (λ (x : SeatState). x.known.phase) c.other.view_is ∙ c.requires.rest),
     )
