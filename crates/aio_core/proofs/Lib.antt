@@ -28,3 +28,4 @@ pub mod Opened
 pub mod Told
 pub mod Within
 pub mod Passing
+pub mod OneShots

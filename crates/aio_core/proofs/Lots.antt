@@ -1,6 +1,6 @@
 -- The steps on lots keep the rule, with the part on slots.
-use Rattle.std.proofs.Common.{◌≡◌, ◌≢◌, ◌⊎◌, ℕ, zero, suc, ◌+◌, ◌<◌, ◌≤◌, Bool, true, false, not, cond, ◌&&◌, ◌||◌, eqb, ltb, Option, Some, None, MatchBool, List, [], ◌∷◌, ◌++◌, drop, length, set, slice_index, bit_and, bit_or, inl, inr, refl, sym, ap, ◌∙◌, subst, ⊎_elim, arith}
-use Rattle.std.proofs.lemmas.Bool.{and_parts, and_from, cases_eq, cases_Bool, ne_eqb, eqb-true, eqb-false, eq-eqb, or_cases, ltb-true, lt-ltb, le-ltb, not_from_false, not-true}
+use Rattle.std.proofs.Common.{◌≡◌, ◌≢◌, ◌⊎◌, ℕ, zero, suc, ◌+◌, ◌-◌, ◌<◌, ◌≤◌, Bool, true, false, not, cond, ◌&&◌, ◌||◌, eqb, ltb, Option, Some, None, MatchBool, List, [], ◌∷◌, ◌++◌, drop, length, set, slice_index, bit_and, bit_or, inl, inr, refl, sym, ap, ◌∙◌, subst, ⊎_elim, arith}
+use Rattle.std.proofs.lemmas.Bool.{and_parts, and_from, cases_eq, cases_Bool, ne_eqb, eqb-true, eqb-false, eq-eqb, or_cases, ltb-true, ltb-false, lt-ltb, le-ltb, not_from_false, not-true}
 use mathlib.Core.Option.{some, none}
 use lib.ListN.{get_elem?, length-set}
 use prog.Atomic.{either}
@@ -532,7 +532,7 @@ module _ (sizes : Sizes) (h : History) (words : List ℕ) (views : List Known) (
 
 module _ {J : Type 0} (number : J → ℕ) where
   -- of a lot of which home has seen that it lives and was dequeued
-  pub lot_free_allowed : (sizes : Sizes) (slots id m : ℕ) (me : Me (Option J) Known) → m < sizes.lots → 0 < me.0.count → owns (numbers_of me.0) home ≡ true → lives (sizes.handles + m) me.0.seen ≡ true → was_dequeued (sizes.handles + m) me.0.seen ≡ true → Allows (Kept number sizes) slots id me (flags_at (sizes.handles + m)) (λ _. free_word) (λ _. lot_freed number (step slots (flags_at (sizes.handles + m)) free_word 0 none) me free_word)
+  lot_free_allowed : (sizes : Sizes) (slots id m : ℕ) (me : Me (Option J) Known) → m < sizes.lots → 0 < me.0.count → owns (numbers_of me.0) home ≡ true → lives (sizes.handles + m) me.0.seen ≡ true → was_dequeued (sizes.handles + m) me.0.seen ≡ true → Allows (Kept number sizes) slots id me (flags_at (sizes.handles + m)) (λ _. free_word) (λ _. lot_freed number (step slots (flags_at (sizes.handles + m)) free_word 0 none) me free_word)
   lot_free_allowed sizes slots id m me low numbered is_home alive_seen gone_seen s kept long at fits_word =
       let h = kept.0 in
       let stand = kept.1 in
@@ -552,6 +552,25 @@ module _ {J : Type 0} (number : J → ℕ) where
       (λ far u atu own small full. absurd (let both : false ≡ true = sym (lives-free i h) ∙ full.alive in cc)) in
       let told : Frees i v w = record { makes = makes_of sizes h entry v w is numbered refl refl now.legal; rest = refl } in
       (w, keeps, tt, (entry ∷ h, now, slots_now), (refl, λ j q. let is_i : i ≡ j = omega arith in subst (λ k. Frees k v w) is_i told))
+
+-- the place of a lot among the lots
+place_of_lot : (sizes : Sizes) (i : ℕ) → is_lot sizes i ≡ true → (m : ℕ) × (m < sizes.lots) × (sizes.handles + m ≡ i)
+place_of_lot sizes i lot =
+    let parts = and_parts _ _ lot in
+    let above = ltb-false i sizes.handles (not-true _ parts.0) in
+    let below = ltb-true i (sizes.handles + sizes.lots) parts.1 in
+    (i - sizes.handles, omega arith, omega arith)
+
+pub lot_below : (sizes : Sizes) (i : ℕ) → is_lot sizes i ≡ true → i < index_count sizes
+lot_below sizes i lot = ltb-true i (sizes.handles + sizes.lots) (and_parts _ _ lot).1
+
+-- of a lot of which home has seen that its life may end
+pub free_allowed : {J : Type 0} (number : J → ℕ) (sizes : Sizes) (slots id i : ℕ) (me : Me (Option J) Known) → 0 < me.0.count → owns (numbers_of me.0) home ≡ true → MayFollow sizes (Free i) me.0.seen → Allows (Kept number sizes) slots id me (flags_at i) (λ _. free_word) (λ _. lot_freed number (step slots (flags_at i) free_word 0 none) me free_word)
+free_allowed number sizes slots id i me numbered is_home may =
+    let place = place_of_lot sizes i may.0 in
+    let alive = subst (λ k. lives k me.0.seen ≡ true) (sym place.2) may.1 in
+    let gone = subst (λ k. was_dequeued k me.0.seen ≡ true) (sym place.2) may.2 in
+    subst (λ k. Allows (Kept number sizes) slots id me (flags_at k) (λ _. free_word) (λ _. lot_freed number (step slots (flags_at k) free_word 0 none) me free_word)) place.2 (lot_free_allowed number sizes slots id place.0 me place.1 numbered is_home alive gone)
 
 -- the same of any seat that has the slot
 pub lot_enqueue_of : {J : Type 0} (number : J → ℕ) (sizes : Sizes) (slots id m job : ℕ) (x : J) (me : Me (Option J) Known) (c : List (ℕ × Option J)) → me.1 ≡ (m, Some x) ∷ c → slots ≡ sizes.lots → m < sizes.lots → 0 < me.0.count → me.0.phase ≡ LotClaimed (sizes.handles + m) job → job ≡ number x → Allows (Kept number sizes) slots id me (flags_at (sizes.handles + m)) (λ n. bit_or n 11) (lot_enqueued number (step slots (flags_at (sizes.handles + m)) 11 0 none) me)

@@ -1,11 +1,13 @@
 -- What contracts see of a table and of a seat.
-use Rattle.std.specs.Prelude.{◌≡◌, ◌≢◌, ℕ, ◌+◌, None, List, [], ◌∷◌}
+use Rattle.std.specs.Prelude.{◌≡◌, ◌≢◌, ℕ, ◌+◌, ◌<◌, not, nat_lt, Option, None, Some, is_some, List, [], ◌∷◌}
 use Rattle.atomic_table.specs.Seated.{TableId}
+use Rattle.aio_model.specs.declared.flags.Flags.{Flags}
 use Rattle.aio_model.specs.LoopHistory.{Sizes}
+use Rattle.aio_model.specs.LoopLists.{job_of}
 use Rattle.aio_model.specs.InFlight.{AtRest}
-use Rattle.aio_core.specs.Words.{flags_at, free_word}
+use Rattle.aio_core.specs.Words.{flags_at, index_count, free_word}
 use Rattle.aio_core.specs.Known.{LotClaimCompare, Known, Running, empty_stage}
-use Rattle.aio_core.specs.Standing.{Misses, Looks, Takes, Lifts}
+use Rattle.aio_core.specs.Standing.{Misses, Looks, Takes, Lifts, Dequeues}
 
 -- which table it is, and how many handles, lots and events it has
 pub record TableState : Type 0 where
@@ -45,6 +47,23 @@ pub record HasLifted (i : ℕ) (before after : Known) : Type 0 where
   pub more : List ℕ
   pub first : before.stage.slices ≡ (i + 1) ∷ more
   pub lifts : Lifts i found None more before after
+
+-- the number of a job, if there is one
+abbrev pub number_in : {J : Type 0} → (J → ℕ) → Option J → Option ℕ
+number_in number None = None
+number_in number (Some job) = Some (number job)
+
+-- The first of the first slice was lifted and dequeued. A handle has no job, and the job of a lot is that for which its life began.
+pub record DequeuesNext (i : ℕ) (flags : Flags) (job : Option ℕ) (before after : Known) : Type 0 where
+  pub found : ℕ
+  pub more : List ℕ
+  pub lifted : Known
+  pub below : i < index_count before.sizes
+  pub first : before.stage.slices ≡ (i + 1) ∷ more
+  pub lifts : Lifts i found job more before lifted
+  pub dequeues : Dequeues i flags lifted after
+  pub job_is : job_of i after.seen ≡ job
+  pub of_lot : is_some job ≡ not (nat_lt i before.sizes.handles)
 
 -- what the seat and the home of a new table know
 abbrev pub first_seat : Sizes → Known

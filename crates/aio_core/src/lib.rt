@@ -6,8 +6,10 @@ mod built;
 mod cancel;
 mod enqueue;
 mod home;
+mod home_lots;
 mod job;
 mod notify;
+mod once;
 mod plays;
 mod refusal;
 mod seat;
@@ -21,6 +23,7 @@ mod words;
 
 pub use built::Built;
 pub use home::Home;
+pub use home_lots::Dequeued;
 pub use job::Job;
 pub use refusal::BuildRefusal;
 pub use seat::Seat;
