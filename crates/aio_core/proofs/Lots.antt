@@ -16,6 +16,7 @@ use Rattle.aio_model.specs.LoopSeats.{Numbers, owns, own_entries, home}
 use Rattle.aio_model.specs.InFlight.{Reason, ForIndex, ForEvent, ForNothing, Phase, AtRest, LotClaimed, Announced, flight_of, is_at_rest}
 use Rattle.aio_model.proofs.AnnouncedOnce.{fits, lot_is_no_handle, head_is_pending}
 use Rattle.aio_model.proofs.Lifeless.{lot_above}
+use Rattle.aio_model.proofs.LotLives.{pending_lot_lives, may_free-after}
 use Rattle.aio_chain.specs.Chains.{IsChain}
 use Rattle.aio_chain.proofs.Chains.{chain_kept}
 use Rattle.aio_core.specs.Words.{head_at, notified_at, notify_me_at, notifier_at, flags_at, next_at, index_count, flags_word, free_word, next_in}
@@ -103,14 +104,6 @@ claimed_lives i s (Free j ∷ h) e = by (eqb i j) (claimed_lives i s h) e
     by false k q = k q
 claimed_lives i s (SetEvent j t ∷ h) e = claimed_lives i s h e
 claimed_lives i s (ClearEvent j was ∷ h) e = claimed_lives i s h e
-
-pending_lot_lives : (sizes : Sizes) (i : ℕ) (h : History) → IsLegal sizes h → is_lot sizes i ≡ true → is_pending i h ≡ true → lives i h ≡ true
-pending_lot_lives sizes i h legal lot pending =
-    by (ltb i sizes.handles) (lot_above sizes i lot) ((fits sizes h i legal).alive pending)
-  where
-    by : (b : Bool) → b ≡ false → (b || lives i h) ≡ true → lives i h ≡ true
-    by true above k = absurd cc
-    by false above k = k
 
 -- The claim.
 
@@ -439,30 +432,27 @@ module _ {J : Type 0} (number : J → ℕ) where
 
 -- The end of a life.
 
--- a lot that was dequeued stays so, until home frees it
-pub ended_still : (sizes : Sizes) (n : Numbers) (rest seen : History) (i : ℕ) → owns n home ≡ true → IsLegal sizes (rest ++ seen) → own_entries n rest ≡ [] → lives i seen ≡ true → was_dequeued i seen ≡ true → (lives i (rest ++ seen) ≡ true) × (was_dequeued i (rest ++ seen) ≡ true)
-ended_still sizes n [] seen i is_home legal none_own alive gone = (alive, gone)
-ended_still sizes n (e ∷ rest) seen i is_home legal none_own alive gone =
+-- what home has seen of a lot that may be freed is so still
+may_free-beside : (sizes : Sizes) (n : Numbers) (rest seen : History) (i : ℕ) → owns n home ≡ true → IsLegal sizes (rest ++ seen) → own_entries n rest ≡ [] → MayFollow sizes (Free i) seen → MayFollow sizes (Free i) (rest ++ seen)
+may_free-beside sizes n [] seen i is_home legal none_own may = may
+may_free-beside sizes n (e ∷ rest) seen i is_home legal none_own may =
     let split = not_own (owns n (seat_of e)) e (own_entries n rest) none_own in
-    let before = ended_still sizes n rest seen i is_home legal.1 split.1 alive gone in
-    goes e legal.0 split.0 before
+    may_free-after sizes i e (rest ++ seen) legal.0 (no_free e split.0) (may_free-beside sizes n rest seen i is_home legal.1 split.1 may)
   where
     not_own : (b : Bool) (e : Entry) (l : History) → cond b (e ∷ l) l ≡ [] → (b ≡ false) × (l ≡ [])
     not_own true e l q = absurd cc
     not_own false e l q = (refl, q)
 
-    goes : (e : Entry) → MayFollow sizes e (rest ++ seen) → owns n (seat_of e) ≡ false → (lives i (rest ++ seen) ≡ true) × (was_dequeued i (rest ++ seen) ≡ true) → (lives i (e ∷ (rest ++ seen)) ≡ true) × (was_dequeued i (e ∷ (rest ++ seen)) ≡ true)
-    goes (New j s job) may other before =
-        let away : eqb i j ≡ false = ne_eqb i j (λ q. let dead : lives i (rest ++ seen) ≡ false = subst (λ k. lives k (rest ++ seen) ≡ false) (sym q) may.1 in let both : true ≡ false = sym before.0 ∙ dead in cc) in
-        rw away before
-    goes (Enqueue j asked s was) may other before = before
-    goes (Put j s) may other before = before
-    goes (Cancel j s was) may other before = before
-    goes Take may other before = before
-    goes (Dequeue j ran) may other before = absurd (let both : true ≡ false = sym is_home ∙ other in cc)
-    goes (Free j) may other before = absurd (let both : true ≡ false = sym is_home ∙ other in cc)
-    goes (SetEvent e s) may other before = before
-    goes (ClearEvent e was) may other before = before
+    no_free : (e : Entry) → owns n (seat_of e) ≡ false → frees i e ≡ false
+    no_free (New j s job) other = refl
+    no_free (Enqueue j asked s was) other = refl
+    no_free (Put j s) other = refl
+    no_free (Cancel j s was) other = refl
+    no_free Take other = refl
+    no_free (Dequeue j ran) other = refl
+    no_free (Free j) other = absurd (let both : true ≡ false = sym is_home ∙ other in cc)
+    no_free (SetEvent f s) other = refl
+    no_free (ClearEvent f was) other = refl
 
 abbrev pub after_free : Known → History → ℕ → Known
 after_free v h i =
@@ -531,19 +521,18 @@ module _ (sizes : Sizes) (h : History) (words : List ℕ) (views : List Known) (
       }
 
 module _ {J : Type 0} (number : J → ℕ) where
-  -- of a lot of which home has seen that it lives and was dequeued
-  lot_free_allowed : (sizes : Sizes) (slots id m : ℕ) (me : Me (Option J) Known) → m < sizes.lots → 0 < me.0.count → owns (numbers_of me.0) home ≡ true → lives (sizes.handles + m) me.0.seen ≡ true → was_dequeued (sizes.handles + m) me.0.seen ≡ true → Allows (Kept number sizes) slots id me (flags_at (sizes.handles + m)) (λ _. free_word) (λ _. lot_freed number (step slots (flags_at (sizes.handles + m)) free_word 0 none) me free_word)
-  lot_free_allowed sizes slots id m me low numbered is_home alive_seen gone_seen s kept long at fits_word =
+  lot_free_allowed : (sizes : Sizes) (slots id m : ℕ) (me : Me (Option J) Known) → m < sizes.lots → 0 < me.0.count → owns (numbers_of me.0) home ≡ true → MayFollow sizes (Free (sizes.handles + m)) me.0.seen → Allows (Kept number sizes) slots id me (flags_at (sizes.handles + m)) (λ _. free_word) (λ _. lot_freed number (step slots (flags_at (sizes.handles + m)) free_word 0 none) me free_word)
+  lot_free_allowed sizes slots id m me low numbered is_home may_seen s kept long at fits_word =
       let h = kept.0 in
       let stand = kept.1 in
       let v = me.0 in
       let i = sizes.handles + m in
       let is = stand.seats.each id v at in
-      let ended : (lives i h ≡ true) × (was_dequeued i h ≡ true) = subst (λ l. (lives i l ≡ true) × (was_dequeued i l ≡ true)) (sym is.seen_of.longer) (ended_still sizes (numbers_of v) is.seen_of.rest v.seen i is_home (subst (IsLegal sizes) is.seen_of.longer stand.legal) is.seen_of.none_missed alive_seen gone_seen) in
+      let may : MayFollow sizes (Free i) h = subst (MayFollow sizes (Free i)) (sym is.seen_of.longer) (may_free-beside sizes (numbers_of v) is.seen_of.rest v.seen i is_home (subst (IsLegal sizes) is.seen_of.longer stand.legal) is.seen_of.none_missed may_seen) in
       let entry = Free i in
       let w = after_free v h i in
-      let now = free_stands sizes h s.words s.views id v i stand at (lot_at sizes m low) ended.0 ended.1 numbered is_home in
-      let home_slot = kept.2.emptied m low ended.0 ended.1 in
+      let now = free_stands sizes h s.words s.views id v i stand at may.0 may.1 may.2 numbered is_home in
+      let home_slot = kept.2.emptied m low may.1 may.2 in
       let same : eqb i i ≡ true = eq-eqb i i refl in
       let slots_now = slots_change number sizes h (entry ∷ h) s.homes s.homes s.views id v w m kept.2 at refl
       (λ other ne small. let away : eqb (sizes.handles + other) i ≡ false = ne_eqb (sizes.handles + other) i (λ q. ne (omega arith)) in (same_lot (sizes.handles + other) entry h refl away refl refl, refl, same_stage (sizes.handles + other) v.stage v.stage refl))
@@ -568,9 +557,8 @@ lot_below sizes i lot = ltb-true i (sizes.handles + sizes.lots) (and_parts _ _ l
 pub free_allowed : {J : Type 0} (number : J → ℕ) (sizes : Sizes) (slots id i : ℕ) (me : Me (Option J) Known) → 0 < me.0.count → owns (numbers_of me.0) home ≡ true → MayFollow sizes (Free i) me.0.seen → Allows (Kept number sizes) slots id me (flags_at i) (λ _. free_word) (λ _. lot_freed number (step slots (flags_at i) free_word 0 none) me free_word)
 free_allowed number sizes slots id i me numbered is_home may =
     let place = place_of_lot sizes i may.0 in
-    let alive = subst (λ k. lives k me.0.seen ≡ true) (sym place.2) may.1 in
-    let gone = subst (λ k. was_dequeued k me.0.seen ≡ true) (sym place.2) may.2 in
-    subst (λ k. Allows (Kept number sizes) slots id me (flags_at k) (λ _. free_word) (λ _. lot_freed number (step slots (flags_at k) free_word 0 none) me free_word)) place.2 (lot_free_allowed number sizes slots id place.0 me place.1 numbered is_home alive gone)
+    let seen = subst (λ k. MayFollow sizes (Free k) me.0.seen) (sym place.2) may in
+    subst (λ k. Allows (Kept number sizes) slots id me (flags_at k) (λ _. free_word) (λ _. lot_freed number (step slots (flags_at k) free_word 0 none) me free_word)) place.2 (lot_free_allowed number sizes slots id place.0 me place.1 numbered is_home seen)
 
 -- the same of any seat that has the slot
 pub lot_enqueue_of : {J : Type 0} (number : J → ℕ) (sizes : Sizes) (slots id m job : ℕ) (x : J) (me : Me (Option J) Known) (c : List (ℕ × Option J)) → me.1 ≡ (m, Some x) ∷ c → slots ≡ sizes.lots → m < sizes.lots → 0 < me.0.count → me.0.phase ≡ LotClaimed (sizes.handles + m) job → job ≡ number x → Allows (Kept number sizes) slots id me (flags_at (sizes.handles + m)) (λ n. bit_or n 11) (lot_enqueued number (step slots (flags_at (sizes.handles + m)) 11 0 none) me)

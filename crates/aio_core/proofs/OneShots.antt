@@ -1,13 +1,14 @@
 -- What the calls on lots say, from what their steps tell.
 use Rattle.std.proofs.Common.{◌≡◌, ◌≢◌, ℕ, ◌+◌, ◌-◌, ◌<◌, ◌≤◌, Bool, true, false, not, cond, eqb, ltb, Option, Some, None, MatchBool, MatchOption, List, [], ◌∷◌, ◌++◌, refl, sym, ap, ◌∙◌, subst, arith}
-use Rattle.std.proofs.lemmas.Bool.{and_parts, eq-eqb, ne_eqb, lt-ltb, le-ltb, ltb-true, ltb-false, not-true}
+use Rattle.std.proofs.lemmas.Bool.{and_parts, and_from, eq-eqb, ne_eqb, lt-ltb, le-ltb, ltb-true, ltb-false, not-true}
 use Rattle.aio_model.specs.declared.flags.Flags.{Flags}
 use Rattle.aio_model.specs.LoopHistory.{Sizes, ToCallOnce, New, Enqueue, Put, Cancel, Take, Dequeue, Free, SetEvent, ClearEvent, History}
 use Rattle.aio_model.specs.FlagsWord.{flags_in}
-use Rattle.aio_model.specs.LoopFlags.{is_lot, is_pending}
+use Rattle.aio_model.specs.LoopFlags.{is_lot, is_pending, are_due}
 use Rattle.aio_model.specs.LoopLists.{job_of}
-use Rattle.aio_model.specs.LoopLegal.{IsLegal}
+use Rattle.aio_model.specs.LoopLegal.{MayFollow, IsLegal}
 use Rattle.aio_model.proofs.AnnouncedOnce.{fits, lot_is_no_handle}
+use Rattle.aio_model.proofs.LotLives.{may_free-dequeued}
 use Rattle.aio_core.specs.Known.{LotClaimCompare, Known}
 use Rattle.aio_core.specs.Words.{free_word, flags_at, index_count}
 use Rattle.aio_core.specs.Standing.{Claims, Enqueues, Lifts, Dequeues, Looks, PlacesJob}
@@ -93,3 +94,12 @@ lot_dequeued_next sizes i word found job flags more v m w sizes_are lot first li
       job_is = job_is;
       of_lot = sym (ap not (le-ltb i v.sizes.handles above));
     }
+
+-- a lot that was dequeued may be freed
+pub may_free-next : (i job : ℕ) (flags : Flags) (v w : Known) → DequeuesNext i flags (Some job) v w → MayFollow v.sizes (Free i) w.seen
+may_free-next i job flags v w next =
+    let makes = next.dequeues.makes in
+    let sizes : next.lifted.sizes ≡ v.sizes = ap (λ (k : Known). k.sizes) next.lifts.rest in
+    let legal : IsLegal v.sizes (Dequeue i (are_due flags) ∷ (makes.others ++ next.lifted.seen)) = subst (λ z. IsLegal z (Dequeue i (are_due flags) ∷ (makes.others ++ next.lifted.seen))) sizes (subst (IsLegal next.lifted.sizes) makes.seen makes.legal) in
+    let lot : is_lot v.sizes i ≡ true = and_from _ _ (sym next.of_lot) (lt-ltb i (v.sizes.handles + v.sizes.lots) next.below) in
+    subst (MayFollow v.sizes (Free i)) (sym makes.seen) (may_free-dequeued v.sizes i (are_due flags) (makes.others ++ next.lifted.seen) legal lot)

@@ -12,6 +12,7 @@ pub mod AnnouncedOnce
 pub mod LoopKept
 pub mod LoopFollows
 pub mod Lifeless
+pub mod LotLives
 pub mod OnceFollows
 pub mod CommitFollows
 pub mod Rounds
