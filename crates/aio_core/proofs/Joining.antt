@@ -13,8 +13,8 @@ use Rattle.aio_model.proofs.Rounds.{legal_cut}
 use Rattle.aio_model.specs.LoopLists.{out_of}
 use Rattle.aio_core.specs.Words.{head_at, next_in}
 use Rattle.aio_core.specs.Known.{Told, Known, numbers_of}
-use Rattle.aio_core.specs.Rule.{EachView, AreApart, IsPart, AreParts, IsSeat, Owes, IsOut, NoneEmpty, HasOut, Stands, Kept}
-use Rattle.aio_core.specs.Joining.{longer_of, both_numbers, joined_known, spent_known, IsJoined}
+use Rattle.aio_core.specs.Rule.{EachView, AreApart, IsPart, AreParts, NoneMissed, longer_of, IsSeat, Owes, IsOut, NoneEmpty, HasOut, Stands, Kept}
+use Rattle.aio_core.specs.Joining.{both_numbers, told_of, joined_known, spent_known, IsJoined}
 use Rattle.aio_core.specs.Plays.{learned}
 use Rattle.aio_core.proofs.Entries.{own-append}
 use Rattle.aio_core.proofs.Seats.{each_set}
@@ -88,6 +88,18 @@ front_none n xs ys h = front (own_entries n xs) (own_entries n ys) (sym (own-app
     front [] b e = refl
     front (k ∷ a) b e = absurd cc
 
+back_none : (n : Numbers) (xs ys : History) → own_entries n (xs ++ ys) ≡ [] → own_entries n ys ≡ []
+back_none n xs ys h = back (own_entries n xs) (own_entries n ys) (sym (own-append n xs ys) ∙ h)
+  where
+    back : (a b : History) → a ++ b ≡ [] → b ≡ []
+    back [] b e = e
+    back (k ∷ a) b e = absurd cc
+
+-- what is behind none of its entries has them all
+own_behind : (n : Numbers) (rest mid seen longer mine : History) → own_entries n (rest ++ mid) ≡ [] → longer ≡ mid ++ seen → mine ≡ own_entries n seen → own_entries n longer ≡ mine
+own_behind n rest mid seen longer mine empty is mine_is =
+    ap (own_entries n) is ∙ own-append n mid seen ∙ ap (λ l. l ++ own_entries n seen) (back_none n rest mid empty) ∙ sym mine_is
+
 -- Views.
 
 module _ (views : List Known) (id other : ℕ) (v w : Known) (next : w.first ≡ v.first + v.count) (h : AreApart views) (at : get_elem? views id ≡ some v) (atw : get_elem? views other ≡ some w) (away : other ≢ id) where
@@ -152,6 +164,29 @@ module _ (sizes : Sizes) (h : History) (words : List ℕ) (views : List Known) (
           let their : own_entries (numbers_of w) a.rest ≡ [] = front_none (numbers_of w) a.rest mid.0 (subst (λ l. own_entries (numbers_of w) l ≡ []) mid.1 b.none_missed) in
           rw less (a.rest, a.longer, own_both v w a.rest next a.none_missed their)
 
+  -- in the longer one each of the two has just the entries that it made
+  none_missed : IsSeat sizes h v → IsSeat sizes h w → NoneMissed (told_of v w)
+  none_missed is theirs = by (ltb (length v.seen) (length w.seen)) refl
+    where
+      by : (b : Bool) → ltb (length v.seen) (length w.seen) ≡ b → NoneMissed (told_of v w)
+      by true less =
+          let a = is.seen_of in
+          let b = theirs.seen_of in
+          let low = ltb-true (length v.seen) (length w.seen) less in
+          let mid = shorter_end a.rest v.seen b.rest w.seen (sym a.longer ∙ b.longer) (omega arith) in
+          record {
+            by_staying = rw less (own_behind (numbers_of v) b.rest mid.0 v.seen w.seen v.mine (subst (λ l. own_entries (numbers_of v) l ≡ []) mid.1 a.none_missed) mid.2 a.mine_is);
+            by_joining = rw less (sym b.mine_is);
+          }
+      by false less =
+          let a = is.seen_of in
+          let b = theirs.seen_of in
+          let mid = shorter_end b.rest w.seen a.rest v.seen (sym b.longer ∙ a.longer) (ltb-false (length v.seen) (length w.seen) less) in
+          record {
+            by_staying = rw less (sym a.mine_is);
+            by_joining = rw less (own_behind (numbers_of w) a.rest mid.0 w.seen v.seen w.mine (subst (λ l. own_entries (numbers_of w) l ≡ []) mid.1 b.none_missed) mid.2 b.mine_is);
+          }
+
   joined_is_seat : IsSeat sizes h v → IsSeat sizes h w → 0 < v.count → IsSeat sizes h (joined_known v w)
   joined_is_seat is theirs numbered =
       let below = theirs.below in
@@ -161,7 +196,7 @@ module _ (sizes : Sizes) (h : History) (words : List ℕ) (views : List Known) (
         seen_of = record { rest = all.0; longer = all.1; none_missed = all.2; mine_is = refl };
         below = omega arith;
         active = λ _. omega arith;
-        told_of = ((is.seen_of.rest, is.seen_of.longer), (theirs.seen_of.rest, theirs.seen_of.longer));
+        told_of = ((is.seen_of.rest, is.seen_of.longer), (theirs.seen_of.rest, theirs.seen_of.longer), none_missed is theirs);
       }
 
   spent_is_seat : IsSeat sizes h spent_known
@@ -213,10 +248,10 @@ learn_allowed sizes slots id me numbered s kept long at fits =
     let stand = kept.1 in
     let v = me.0 in
     let is = stand.seats.each id v at in
-    (v, keeps, tt, (h, load_stands sizes h s.words s.views id head_at v v stand at numbered (record { sizes_are = refl; numbers_are = refl; told_is = refl }) refl refl (stand.lists.owed id v at) (stand.lists.out id v at)), (refl, λ told eq. subst (λ z. IsJoined z told.staying told.joining (longer_of told.staying told.joining)) (sym (is.sizes_are numbered)) (learn h v told stand.legal is eq)))
+    (v, keeps, tt, (h, load_stands sizes h s.words s.views id head_at v v stand at numbered (record { sizes_are = refl; numbers_are = refl; told_is = refl }) refl refl (stand.lists.owed id v at) (stand.lists.out id v at)), (refl, λ told eq. subst (λ z. IsJoined z told (longer_of told.staying told.joining)) (sym (is.sizes_are numbered)) (learn h v told stand.legal is eq)))
   where
-    learn : (h : History) (v : Known) (told : Told) → IsLegal sizes h → IsSeat sizes h v → v.told ≡ Some told → IsJoined sizes told.staying told.joining (longer_of told.staying told.joining)
+    learn : (h : History) (v : Known) (told : Told) → IsLegal sizes h → IsSeat sizes h v → v.told ≡ Some told → IsJoined sizes told (longer_of told.staying told.joining)
     learn h v told legal is eq =
         let parts : AreParts h (Some told) = subst (AreParts h) eq is.told_of in
         let all = parts_of_longer h told.staying told.joining parts.0 parts.1 in
-        record { stayed = all.0; joined = all.1; legal = legal_cut sizes all.2.0 (longer_of told.staying told.joining) (subst (IsLegal sizes) all.2.1 legal) }
+        record { stayed = all.0; joined = all.1; legal = legal_cut sizes all.2.0 (longer_of told.staying told.joining) (subst (IsLegal sizes) all.2.1 legal); made_by_staying = parts.2.by_staying; made_by_joining = parts.2.by_joining }

@@ -25,7 +25,7 @@ apart_set views id v w h at e i j u x ati atj ne n own =
 pub parts_grow : (h : History) (e : Entry) (told : Option Told) → AreParts h told → AreParts (e ∷ h) told
 parts_grow h e None parts = tt
 parts_grow h e (Some told) parts =
-    ((e ∷ parts.0.0, ap (λ (l : History). e ∷ l) parts.0.1), (e ∷ parts.1.0, ap (λ (l : History). e ∷ l) parts.1.1))
+    ((e ∷ parts.0.0, ap (λ (l : History). e ∷ l) parts.0.1), (e ∷ parts.1.0, ap (λ (l : History). e ∷ l) parts.1.1), parts.2)
 
 -- another's entry is behind nothing that a seat has seen
 pub seat_beside : (sizes : Sizes) (h : History) (e : Entry) (u : Known) → IsSeat sizes h u → owns (numbers_of u) (seat_of e) ≡ false → IsSeat sizes (e ∷ h) u

@@ -56,10 +56,14 @@ pub data Sleep : Type 0 where
   ToDisarm : Sleep
   Committed : ℕ → Sleep
 
--- What was seen when two seats were last joined: by the one that stayed, and by the other.
+-- What was seen when two seats were last joined, and what each had made under its numbers: the one that stayed, and the other.
 pub record Told : Type 0 where
   pub staying : History
   pub joining : History
+  pub stays : Numbers
+  pub joins : Numbers
+  pub made_by_staying : History
+  pub made_by_joining : History
 
 -- Histories have the newest entry in front, and so have the steps that were done.
 pub record Known : Type 0 where

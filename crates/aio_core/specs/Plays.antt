@@ -7,7 +7,8 @@ use Rattle.aio_model.specs.FlagsWord.{word_of}
 use Rattle.aio_model.specs.InFlight.{Announced, HeadLoaded, Linked}
 use Rattle.aio_core.specs.Words.{head_at, flags_at, next_at, index_count}
 use Rattle.aio_core.specs.Known.{HeadLoad, NextStore, Told, Known}
-use Rattle.aio_core.specs.Joining.{longer_of, IsJoined}
+use Rattle.aio_core.specs.Joining.{IsJoined}
+use Rattle.aio_core.specs.Rule.{longer_of}
 use Rattle.aio_core.specs.Standing.{done, asked_with, Enqueues, Pushes, Misses, Cancels, Takes, Lifts, Dequeues}
 
 -- the enqueue of the index whose flags word this is
@@ -70,4 +71,4 @@ module _ {S : Type 0} where
   -- what two joined seats had seen
   abbrev pub learned : Step S → Me S Known → ℕ → Me S Known → Type 0
   learned step before found after =
-      (after ≡ before) × ((told : Told) → before.0.told ≡ Some told → IsJoined before.0.sizes told.staying told.joining (longer_of told.staying told.joining))
+      (after ≡ before) × ((told : Told) → before.0.told ≡ Some told → IsJoined before.0.sizes told (longer_of told.staying told.joining))

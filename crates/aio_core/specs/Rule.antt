@@ -1,6 +1,6 @@
 -- The rule of a loop's table: its words stand for one legal history, of which each seat has seen a part. It is a record of
 -- parts, each about words of its own.
-use Rattle.std.specs.Prelude.{◌≡◌, ◌≢◌, ℕ, ◌+◌, ◌<◌, ◌≤◌, true, false, Option, None, Some, List, [], ◌∷◌, ◌++◌, length, slice_index}
+use Rattle.std.specs.Prelude.{◌≡◌, ◌≢◌, ℕ, ◌+◌, ◌<◌, ◌≤◌, true, false, Option, None, Some, List, [], ◌∷◌, ◌++◌, length, slice_index, nat_lt, if◌then◌else◌}
 use mathlib.Core.Option.{some}
 use lib.ListN.{get_elem?}
 use Rattle.atomic_table.specs.Table.{State}
@@ -24,10 +24,18 @@ everyone = record { first = 0; count = 65 }
 abbrev pub IsPart : History → History → Type 0
 IsPart older history = (rest : History) × (history ≡ rest ++ older)
 
+abbrev pub longer_of : History → History → History
+longer_of history other = if nat_lt (length history) (length other) then other else history
+
+-- in the longer of what two joined seats had seen, the entries of each one's numbers are just those that it made
+pub record NoneMissed (told : Told) : Type 0 where
+  pub by_staying : own_entries told.stays (longer_of told.staying told.joining) ≡ told.made_by_staying
+  pub by_joining : own_entries told.joins (longer_of told.staying told.joining) ≡ told.made_by_joining
+
 -- what two joined seats had seen are parts of the one history
 abbrev pub AreParts : History → Option Told → Type 0
 AreParts history None = Unit {0}
-AreParts history (Some told) = IsPart told.staying history × IsPart told.joining history
+AreParts history (Some told) = IsPart told.staying history × IsPart told.joining history × NoneMissed told
 
 -- What a seat knows is of this table and of the history, and it owns a number in every phase but rest. One that was joined into
 -- another has no number left, and knows nothing of the sizes.

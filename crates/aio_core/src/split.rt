@@ -1,9 +1,9 @@
 //! Seats for more threads: the numbers of one are divided, and united again.
 ghost use Rattle.std.specs.Prelude.{◌≡◌, ◌<◌, ◌+◌, ◌-◌, ◌/◌, MatchOption};
 ghost use Rattle.aio_model.specs.InFlight.{AtRest};
-ghost use Rattle.aio_core.specs.Rule.{IsPart};
+ghost use Rattle.aio_core.specs.Rule.{longer_of};
 ghost use Rattle.aio_core.specs.Splitting.{front_known, back_known, half_of};
-ghost use Rattle.aio_core.specs.Joining.{joined_known, longer_of, IsJoined};
+ghost use Rattle.aio_core.specs.Joining.{joined_known, told_of, IsJoined};
 ghost use Rattle.aio_core.specs.Calls.{IsSeatOf};
 
 use crate::job::Job;
@@ -63,7 +63,7 @@ impl<J: Job> LoopTable<J> {
     fn learn(&self, seat: &mut Seat<J>)
         requires { IsSeatOf self.now seat.old }
         ensures same { seat.new ≡ seat.old }
-        ensures told { MatchOption seat.old.known.told (Unit {0}) (λ told. IsJoined seat.old.known.sizes told.staying told.joining (longer_of told.staying told.joining)) }
+        ensures told { MatchOption seat.old.known.told (Unit {0}) (λ told. IsJoined seat.old.known.sizes told (longer_of told.staying told.joining)) }
     {
         self.table.shared.load::<Learn>(&mut seat.inner, HEAD);
     }
@@ -78,7 +78,7 @@ impl<J: Job> LoopTable<J> {
         requires below { other.known.first < 64 }
         ensures seat { IsSeatOf self.now seat.new }
         ensures both { seat.new.known ≡ joined_known seat.old.known other.known }
-        ensures parts { IsJoined self.now.sizes seat.old.known.seen other.known.seen seat.new.known.seen }
+        ensures parts { IsJoined self.now.sizes (told_of seat.old.known other.known) seat.new.known.seen }
     {
         self.unite(seat, other);
         self.learn(seat);
