@@ -8,3 +8,4 @@ pub mod Turning
 pub mod OneTake
 pub mod Steps
 pub mod GivingBack
+pub mod Lent

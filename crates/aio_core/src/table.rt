@@ -40,4 +40,11 @@ impl<J: Job> LoopTable<J> {
     {
         LoopTable { table, counts }
     }
+
+    /// How many handles it has: the indices below.
+    pub fn handles(&self) -> u32
+        ensures { result ≡ self.now.sizes.handles }
+    {
+        self.counts.handles
+    }
 }
