@@ -1,7 +1,7 @@
 -- What an enqueue, or a cancel, through a lent seat says is what a callback owes.
-use Rattle.std.proofs.Common.{◌≡◌, ℕ, Bool, true, false, [], ◌∷◌, refl, sym, ap, ◌∙◌}
+use Rattle.std.proofs.Common.{◌≡◌, ℕ, Bool, true, false, [], refl, sym, ap, ◌∙◌}
 use Rattle.aio_model.specs.declared.flags.Flags.{Flags}
-use Rattle.aio_model.specs.LoopHistory.{Asked, Enqueue, Put, History}
+use Rattle.aio_model.specs.LoopHistory.{Asked, History}
 use Rattle.aio_model.specs.InFlight.{AtRest}
 use Rattle.aio_model.specs.LoopLegal.{IsLegal}
 use Rattle.aio_model.specs.LoopFrame.{are_of_callback}

@@ -9,3 +9,4 @@ pub mod OneTake
 pub mod Steps
 pub mod GivingBack
 pub mod Lent
+pub mod Served
