@@ -8,3 +8,5 @@ pub mod Turning
 pub mod OneTake
 pub mod Steps
 pub mod GivingBack
+pub mod Lent
+pub mod Served

@@ -12,12 +12,12 @@ use Rattle.aio_bh.specs.Polling.{dequeued_in, TakesOnce}
 use Rattle.aio_bh.specs.SoFar.{TakesAndSome}
 use Rattle.aio_bh.proofs.Entries.{rest_of_callback}
 
-abbrev no_take : History → Bool
+abbrev pub no_take : History → Bool
 no_take [] = true
 no_take (Take ∷ older) = false
 no_take (_ ∷ older) = no_take older
 
-no_take-append : (newer older : History) → no_take newer ≡ true → no_take older ≡ true → no_take (newer ++ older) ≡ true
+pub no_take-append : (newer older : History) → no_take newer ≡ true → no_take older ≡ true → no_take (newer ++ older) ≡ true
 no_take-append [] older n o = o
 no_take-append (New i s j ∷ xs) older n o = no_take-append xs older n o
 no_take-append (Enqueue i a s w ∷ xs) older n o = no_take-append xs older n o
@@ -29,7 +29,7 @@ no_take-append (Free i ∷ xs) older n o = no_take-append xs older n o
 no_take-append (SetEvent e s ∷ xs) older n o = no_take-append xs older n o
 no_take-append (ClearEvent e w ∷ xs) older n o = no_take-append xs older n o
 
-no_take-callback : (xs : History) → are_of_callback (entries_of home xs) ≡ true → no_take xs ≡ true
+pub no_take-callback : (xs : History) → are_of_callback (entries_of home xs) ≡ true → no_take xs ≡ true
 no_take-callback [] q = refl
 no_take-callback (New i s j ∷ xs) q = no_take-callback xs (rest_of_callback (eqb s 64) (New i s j) _ q)
 no_take-callback (Enqueue i a s w ∷ xs) q = no_take-callback xs (rest_of_callback (eqb s 64) (Enqueue i a s w) _ q)
@@ -43,7 +43,7 @@ no_take-callback (ClearEvent e w ∷ xs) q = absurd (false≢true q)
 
 -- Without a take, what was out is what was dequeued since and what is out still.
 module _ (sizes : Sizes) (h : History) where
-  out_since : (xs : History) → no_take xs ≡ true → IsLegal sizes (xs ++ h) → out_of h ≡ dequeued_in xs ++ out_of (xs ++ h)
+  pub out_since : (xs : History) → no_take xs ≡ true → IsLegal sizes (xs ++ h) → out_of h ≡ dequeued_in xs ++ out_of (xs ++ h)
   out_since [] n legal = refl
   out_since (New i s j ∷ xs) n legal = out_since xs n legal.1
   out_since (Enqueue i a s w ∷ xs) n legal = out_since xs n legal.1

@@ -5,3 +5,4 @@ pub mod Running
 pub mod Polling
 pub mod SoFar
 pub mod Ready
+pub mod Serving

@@ -1,4 +1,4 @@
-ghost use Rattle.std.specs.Prelude.{◌≡◌, ◌<◌, option_map};
+ghost use Rattle.std.specs.Prelude.{◌≡◌, ◌<◌, None, true, option_map};
 ghost use Rattle.aio_model.specs.InFlight.{AtRest};
 ghost use Rattle.aio_model.specs.LoopLegal.{IsLegal};
 ghost use Rattle.aio_model.specs.LoopFrame.{lent_of};
@@ -22,7 +22,7 @@ pub trait Runner<J: Job> {
     ghost does: { Self → Entered → Self → Type 0 };
 
     /// One entry. The seat is the home's, to be given back at rest. A callback schedules and cancels through it; what it
-    /// schedules is for a later poll.
+    /// schedules is for a later poll. A first entry that brings no job is for a handle.
     fn run(&mut self, table: &LoopTable<J>, seat: &mut Seat<J>, call: &mut Call<J>) -> Turn
         requires can_run { can_run self.old table.now.sizes.handles }
         requires seat { IsSeatOf table.now seat.old }
@@ -30,6 +30,7 @@ pub trait Runner<J: Job> {
         requires rest { seat.old.known.phase ≡ AtRest }
         requires legal { IsLegal table.now.sizes seat.old.known.seen }
         requires index { call.old.bh < index_count table.now.sizes }
+        requires handle { call.old.first ≡ true → call.old.job ≡ None → call.old.bh < table.now.sizes.handles }
         ensures can_run { can_run self.new table.now.sizes.handles }
         ensures seat { IsSeatOf table.now seat.new }
         ensures runs { RunsOnce does (lent_of call.old.bh (option_map J.number_of call.old.job) call.old.first call.old.nests_left) (answer_by result) self.old seat.old.known self.new seat.new.known };

@@ -17,6 +17,8 @@ pub mod OnceFollows
 pub mod CommitFollows
 pub mod Rounds
 pub mod Frames
+pub mod Awaiting
+pub mod Entering
 pub mod HandlerLists
 mod HandlerRows
 mod TimerRows

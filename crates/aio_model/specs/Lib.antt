@@ -14,6 +14,7 @@ pub mod LoopSteps
 pub mod LoopInside
 pub mod LoopSeats
 pub mod LoopFrame
+pub mod LoopCalls
 pub mod LoopLines
 pub mod LoopActs
 pub mod LoopReplies

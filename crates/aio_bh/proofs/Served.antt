@@ -1,0 +1,188 @@
+-- What a poll does for each handle, and where the entries of its callbacks stand.
+use Rattle.std.proofs.Common.{◌≡◌, ℕ, zero, suc, ◌<◌, Bool, true, false, Option, MatchBool, [], ◌∷◌, ◌++◌, refl, sym, ap, ◌∙◌, subst, append_assoc, append-nil, arith, inl, inr, ◌⊎◌}
+use Rattle.std.proofs.lemmas.Bool.{false≢true}
+use Rattle.aio_model.specs.declared.flags.Flags.{Flags}
+use Rattle.aio_model.specs.LoopHistory.{Sizes, ToCall, New, Enqueue, Put, Cancel, Take, Dequeue, Free, SetEvent, ClearEvent, History}
+use Rattle.aio_model.specs.LoopFlags.{is_lot, is_pending}
+use Rattle.aio_model.specs.LoopLists.{out_of}
+use Rattle.aio_model.specs.LoopLegal.{IsLegal}
+use Rattle.aio_model.specs.LoopLaws.{times_of}
+use Rattle.aio_model.specs.LoopSeats.{home, entries_of}
+use Rattle.aio_model.specs.LoopFrame.{Entered, Place, Makes, Body, Turn, Turns, Frame, are_of_callback, start_of}
+use Rattle.aio_model.specs.LoopCalls.{dequeue_times, call_times, entry_times}
+use Rattle.aio_model.proofs.Indices.{times_of-append}
+use Rattle.aio_model.proofs.Rounds.{legal_cut}
+use Rattle.aio_model.proofs.Awaiting.{call_times-append, calls_most, none_dequeued, called_once, none_taken, out_most, none_out}
+use Rattle.aio_model.proofs.Entering.{Along-frame}
+use Rattle.aio_core.specs.Known.{Known}
+use Rattle.aio_bh.specs.declared.polled.Polled.{Polled}
+use Rattle.aio_bh.specs.Polling.{dequeued_in, Polls}
+use Rattle.aio_bh.specs.Serving.{WasMade, StandsWithin, Serves}
+use Rattle.aio_bh.proofs.OneTake.{no_take, no_take-append, no_take-callback, out_since}
+
+no_take-front : (newer older : History) → no_take (newer ++ older) ≡ true → no_take newer ≡ true
+no_take-front [] older n = refl
+no_take-front (New i s j ∷ xs) older n = no_take-front xs older n
+no_take-front (Enqueue i a s w ∷ xs) older n = no_take-front xs older n
+no_take-front (Put i s ∷ xs) older n = no_take-front xs older n
+no_take-front (Cancel i s w ∷ xs) older n = no_take-front xs older n
+no_take-front (Take ∷ xs) older n = absurd (false≢true n)
+no_take-front (Dequeue i r ∷ xs) older n = no_take-front xs older n
+no_take-front (Free i ∷ xs) older n = no_take-front xs older n
+no_take-front (SetEvent e s ∷ xs) older n = no_take-front xs older n
+no_take-front (ClearEvent e w ∷ xs) older n = no_take-front xs older n
+
+-- how often an index was dequeued is how often it stands in the list of what was
+pub dequeued_times : (k : ℕ) (xs : History) → dequeue_times k xs ≡ times_of k (dequeued_in xs)
+dequeued_times k [] = refl
+dequeued_times k (New i s j ∷ xs) = dequeued_times k xs
+dequeued_times k (Enqueue i a s w ∷ xs) = dequeued_times k xs
+dequeued_times k (Put i s ∷ xs) = dequeued_times k xs
+dequeued_times k (Cancel i s w ∷ xs) = dequeued_times k xs
+dequeued_times k (Take ∷ xs) = dequeued_times k xs
+dequeued_times k (Dequeue i r ∷ xs) = omega (arith, dequeued_times k xs, times_of-append k (dequeued_in xs) (i ∷ []))
+dequeued_times k (Free i ∷ xs) = dequeued_times k xs
+dequeued_times k (SetEvent e s ∷ xs) = dequeued_times k xs
+dequeued_times k (ClearEvent e w ∷ xs) = dequeued_times k xs
+
+-- From place to place without a take, with what callbacks made.
+
+record Onward (a b : Place) : Type 0 where
+  later : History
+  none : no_take later ≡ true
+  seen : b.seen ≡ later ++ a.seen
+  made : (entries : History) → WasMade entries b.log → WasMade entries a.log ⊎ StandsWithin entries later
+
+within_newer : (entries newer older : History) → StandsWithin entries newer → StandsWithin entries (newer ++ older)
+within_newer entries newer older at = record {
+  newer = at.newer;
+  between = at.between;
+  older = at.older ++ older;
+  is = ap (λ l. l ++ older) at.is ∙ append_assoc at.newer (at.between ++ at.older) older ∙ ap (λ l. at.newer ++ l) (append_assoc at.between at.older older);
+  just_these = at.just_these;
+}
+
+within_older : (entries newer older : History) → StandsWithin entries older → StandsWithin entries (newer ++ older)
+within_older entries newer older at = record {
+  newer = newer ++ at.newer;
+  between = at.between;
+  older = at.older;
+  is = ap (λ l. newer ++ l) at.is ∙ sym (append_assoc newer at.newer (at.between ++ at.older));
+  just_these = at.just_these;
+}
+
+Onward-none : (more : History) (a b : Place) → no_take more ≡ true → b.seen ≡ more ++ a.seen → b.log ≡ a.log → Onward a b
+Onward-none more a b none seen log = record { later = more; none = none; seen = seen; made = λ entries was. inl (subst (WasMade entries) log was) }
+
+Onward-same : (a b : Place) → b ≡ a → Onward a b
+Onward-same a b same = Onward-none [] a b refl (ap (λ (p : Place). p.seen) same) (ap (λ (p : Place). p.log) same)
+
+Onward-then : (a b c : Place) → Onward a b → Onward b c → Onward a c
+Onward-then a b c first then = record {
+  later = then.later ++ first.later;
+  none = no_take-append then.later first.later then.none first.none;
+  seen = then.seen ∙ ap (λ l. then.later ++ l) first.seen ∙ sym (append_assoc then.later first.later a.seen);
+  made = λ entries was.
+      elim (then.made entries was) as (λ _. WasMade entries a.log ⊎ StandsWithin entries (then.later ++ first.later)) [
+        | inl before ↦ elim (first.made entries before) as (λ _. WasMade entries a.log ⊎ StandsWithin entries (then.later ++ first.later)) [
+          | inl sooner ↦ inl sooner
+          | inr at ↦ inr (within_older entries then.later first.later at)
+        ]
+        | inr at ↦ inr (within_newer entries then.later first.later at)
+      ];
+}
+
+Onward-body : (sizes : Sizes) (index : ℕ) (job : Option ℕ) (ran : Bool) (a b : Place) → MatchBool ran (Body (Frame sizes 0) index job true 0 a b) (b ≡ a) → Onward a b
+Onward-body sizes index job true a b body =
+    let enters = body.1 in
+    record {
+      later = enters.between;
+      none = no_take-callback enters.between (ap are_of_callback enters.just_these ∙ enters.of_callback);
+      seen = enters.seen;
+      made = λ entries was.
+          elim (subst (WasMade entries) enters.log was) as (λ _. WasMade entries a.log ⊎ StandsWithin entries enters.between) [
+            | inl here ↦ inr (record { newer = []; between = enters.between; older = []; is = sym (append-nil enters.between); just_these = enters.just_these ∙ here })
+            | inr sooner ↦ inl sooner
+          ];
+    }
+Onward-body sizes index job false a b same = Onward-same a b same
+
+Onward-free : (index : ℕ) (lot : Bool) (a b : Place) → MatchBool lot (Makes (Free index) a b) (b ≡ a) → Onward a b
+Onward-free index true a b free =
+    Onward-none (Free index ∷ free.others) a b (no_take-callback free.others (ap are_of_callback free.not_home)) free.seen free.log
+Onward-free index false a b same = Onward-same a b same
+
+Onward-turn : (sizes : Sizes) (a b : Place) → Turn sizes (Frame sizes 0) 0 a b → Onward a b
+Onward-turn sizes a b turn =
+    let d = turn.dequeue in
+    let first = Onward-none (Dequeue turn.index turn.ran ∷ d.others) a turn.dequeued (no_take-callback d.others (ap are_of_callback d.not_home)) d.seen d.log in
+    Onward-then a turn.dequeued b first (Onward-then turn.dequeued turn.ended b (Onward-body sizes turn.index _ turn.ran turn.dequeued turn.ended turn.body) (Onward-free turn.index (is_lot sizes turn.index) turn.ended b turn.free))
+
+Onward-turns : (sizes : Sizes) (count : ℕ) (a b : Place) → Turns sizes (Frame sizes 0) 0 count a b → Onward a b
+Onward-turns sizes zero a b same = Onward-same a b same
+Onward-turns sizes (suc count) a b turns =
+    Onward-then a turns.0 b (Onward-turn sizes a turns.0 turns.1) (Onward-turns sizes count turns.0 b turns.2)
+
+-- a poll, from its one take on
+record FromTake (a b : Place) : Type 0 where
+  others : History
+  not_home : entries_of home others ≡ []
+  later : History
+  none : no_take later ≡ true
+  seen : b.seen ≡ later ++ (Take ∷ (others ++ a.seen))
+  made : (entries : History) → WasMade entries b.log → WasMade entries a.log ⊎ StandsWithin entries later
+
+from_take : (sizes : Sizes) (a b : Place) → Frame sizes 1 a b → FromTake a b
+unfolding Frame
+from_take sizes a b frame =
+    let take = frame.take in
+    let on = Onward-turns sizes frame.count frame.taken b frame.turns in
+    record {
+      others = take.others;
+      not_home = take.not_home;
+      later = on.later;
+      none = on.none;
+      seen = on.seen ∙ ap (λ l. on.later ++ l) take.seen;
+      made = λ entries was. subst (λ l. WasMade entries l ⊎ StandsWithin entries on.later) take.log (on.made entries was);
+    }
+
+-- what wasn't pending at an enqueue isn't dequeued before the next take
+none_since : (sizes : Sizes) (k seat : ℕ) (was : Flags) (since older : History) → k < sizes.handles → IsLegal sizes (since ++ (Enqueue k ToCall seat was ∷ older)) → no_take since ≡ true → was.pending ≡ false → dequeue_times k since ≡ 0
+none_since sizes k seat was since older handle legal none idle =
+    let H : History = Enqueue k ToCall seat was ∷ older in
+    let at : IsLegal sizes H = legal_cut sizes since H legal in
+    let pending : is_pending k older ≡ false = sym (ap (λ (f : Flags). f.pending) at.0.1) ∙ idle in
+    let out : times_of k (out_of older) ≡ 0 = none_out sizes k handle older at.1 pending in
+    let split : out_of H ≡ dequeued_in since ++ out_of (since ++ H) = out_since sizes H since none legal in
+    omega (arith, out, ap (times_of k) split, times_of-append k (dequeued_in since) (out_of (since ++ H)), dequeued_times k since)
+
+pub served : {R : Type 0} (does : R → Entered → R → Type 0) (polled : Polled) (r s : R) (a b : Known) (polls : Polls does polled r a s b) → Serves a.sizes a.seen polls.end.log b.seen
+served does polled r s a b polls =
+    let from = from_take a.sizes (start_of a.seen) polls.end polls.frame in
+    let P : History = from.others ++ a.seen in
+    let seen : b.seen ≡ from.later ++ (Take ∷ P) = polls.seen ∙ from.seen in
+    let legal : IsLegal a.sizes (from.later ++ (Take ∷ P)) = subst (IsLegal a.sizes) seen polls.goes_on.legal in
+    let legal_take : IsLegal a.sizes (Take ∷ P) = legal_cut a.sizes from.later (Take ∷ P) legal in
+    let split = out_since a.sizes (Take ∷ P) from.later from.none legal in
+    let nothing : out_of (from.later ++ (Take ∷ P)) ≡ [] = ap out_of (sym seen) ∙ polls.none_out in
+    let each : (k : ℕ) → dequeue_times k from.later ≡ times_of k (out_of (Take ∷ P)) = λ k. omega (arith, ap (times_of k) split, times_of-append k (dequeued_in from.later) (out_of (from.later ++ (Take ∷ P))), dequeued_times k from.later, ap (times_of k) nothing) in
+    let entered : (k : ℕ) → entry_times k polls.end.log ≡ call_times k from.later = λ k.
+    omega (arith, (Along-frame k a.sizes 1 (start_of a.seen) polls.end polls.frame).same, ap (call_times k) from.seen, call_times-append k from.later (Take ∷ P), call_times-append k from.others a.seen, calls_most k from.others, none_dequeued k from.others (ap are_of_callback from.not_home)) in
+    record {
+      others = from.others;
+      not_home = from.not_home;
+      later = from.later;
+      seen = seen;
+      most = λ k handle. omega (arith, entered k, calls_most k from.later, each k, out_most a.sizes k handle (Take ∷ P) legal_take);
+      once = λ k handle awaits still. entered k ∙ called_once a.sizes k handle from.later P legal legal_take.1 still (each k) awaits;
+      none = λ k handle put. omega (arith, entered k, calls_most k from.later, each k, none_taken a.sizes k handle P legal_take.1 put);
+      kept = λ k seat was since older handle is idle.
+          let H : History = Enqueue k ToCall seat was ∷ (older ++ (Take ∷ P)) in
+          let whole : from.later ++ (Take ∷ P) ≡ since ++ H = ap (λ l. l ++ (Take ∷ P)) is ∙ append_assoc since (Enqueue k ToCall seat was ∷ older) (Take ∷ P) in
+          none_since a.sizes k seat was since (older ++ (Take ∷ P)) handle (subst (IsLegal a.sizes) whole legal) (no_take-front since (Enqueue k ToCall seat was ∷ older) (subst (λ l. no_take l ≡ true) is from.none)) idle;
+      made = λ entries was.
+          elim (from.made entries was) as (λ _. StandsWithin entries from.later) [
+            | inl nowhere ↦ absurd nowhere
+            | inr at ↦ at
+          ];
+    }
