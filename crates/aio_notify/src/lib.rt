@@ -1,0 +1,9 @@
+//! What wakes a home and what lets it sleep, over the table of its loop. A notify is called by any thread, behind what it
+//! enqueued. It has three steps in an order that matters: it marks that there is work, then looks whether home is about to
+//! sleep, and only where it is sets the notifier, which home sleeps on. Home goes the other way round: it says that it is about
+//! to sleep, and then looks for the mark.
+#![tactic(auto)]
+
+mod notification;
+
+pub use notification::Notify;
