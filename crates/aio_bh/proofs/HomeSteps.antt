@@ -25,7 +25,7 @@ steps_for-append (Put i s ∷ xs) older = steps_for-append xs older
 steps_for-append (Cancel i s w ∷ xs) older = steps_for-append xs older
 steps_for-append (Take ∷ xs) older = omega (arith, steps_for-append xs older)
 steps_for-append (Dequeue i r ∷ xs) older = omega (arith, steps_for-append xs older)
-steps_for-append (Free i ∷ xs) older = steps_for-append xs older
+steps_for-append (Free i ∷ xs) older = omega (arith, steps_for-append xs older)
 steps_for-append (SetEvent e s ∷ xs) older = steps_for-append xs older
 steps_for-append (ClearEvent e w ∷ xs) older = steps_for-append xs older
 

@@ -1,7 +1,6 @@
 -- The parts of a poll one after another, at any depth: entries, bodies, turns, and the frame.
-use Rattle.std.proofs.Common.{◌≡◌, ℕ, zero, suc, ◌+◌, ◌<◌, min, Bool, true, false, cond, Option, None, MatchBool, List, [], ◌∷◌, ◌++◌, refl, sym, ap, ◌∙◌, subst, append_assoc, arith, inl, inr}
-use Rattle.std.proofs.lemmas.Bool.{lt-ltb}
-use Rattle.aio_model.specs.LoopHistory.{Sizes, Take, Dequeue, Free, History}
+use Rattle.std.proofs.Common.{◌≡◌, ℕ, zero, suc, ◌+◌, min, Bool, true, false, cond, Option, None, MatchBool, List, [], ◌∷◌, ◌++◌, refl, sym, ap, ◌∙◌, subst, append_assoc, arith, inl, inr}
+use Rattle.aio_model.specs.LoopHistory.{Sizes, Take, Dequeue, History}
 use Rattle.aio_model.specs.LoopFlags.{is_lot}
 use Rattle.aio_model.specs.LoopLists.{job_of, out_of}
 use Rattle.aio_model.specs.LoopLegal.{IsLegal}
@@ -13,7 +12,7 @@ use Rattle.aio_bh.specs.declared.polled.Polled.{Polled}
 use Rattle.aio_bh.specs.HomeSteps.{home_steps, steps_for}
 use Rattle.aio_bh.specs.Running.{GivesBack, RunsOnce}
 use Rattle.aio_bh.specs.Polling.{counted, GoesOn}
-use Rattle.aio_bh.specs.SoFar.{Far, far, place_of, Counts, EntersSome, Goes, TakesNext, Calls, TakesAndSome, noted}
+use Rattle.aio_bh.specs.SoFar.{Far, far, place_of, Counts, EntersSome, Goes, TakesNext, Follows, TakesAndSome, noted}
 use Rattle.aio_bh.proofs.Entries.{entries_of-append}
 use Rattle.aio_bh.proofs.HomeSteps.{added_up, none_added, more_added, steps_for-append, steps_for-callback}
 
@@ -142,13 +141,10 @@ Goes-nests frame bh job first nests does old asked back new entry nested behind 
     let later = Goes-then frame (Body frame bh None false nests) (λ b d. (c : Place) × frame b c × Body frame bh None false nests c d) does asked back new (λ b c d f g. (c, f, g)) nested behind in
     Goes-then (Enters (lent_of bh job first (suc nests)) Nests) (λ b d. (c : Place) × frame b c × Body frame bh None false nests c d) (Body frame bh job first (suc nests)) does old asked new (λ a b d h g. Body-nests frame bh job first nests a b g.0 d h g.1 g.2) entry later
 
--- A turn of a handle is a dequeue and what follows it.
+-- A turn is a dequeue and what follows it.
 
-no_lot : (sizes : Sizes) (i : ℕ) → i < sizes.handles → is_lot sizes i ≡ false
-no_lot sizes i below = rw (lt-ltb i sizes.handles below) refl
-
-pub GoesOn-next : (i : ℕ) (ran : Bool) (a b : Known) (p q : Polled) → TakesNext i ran a b p q → GoesOn a b
-GoesOn-next i ran a b p q next = record {
+pub GoesOn-next : (i : ℕ) (ran : Bool) (job : Option ℕ) (a b : Known) (p q : Polled) → TakesNext i ran job a b p q → GoesOn a b
+GoesOn-next i ran job a b p q next = record {
   between = Dequeue i ran ∷ next.others;
   seen = next.seen;
   mine = next.mine ∙ ap (λ (l : History). Dequeue i ran ∷ (l ++ a.mine)) (sym next.not_home);
@@ -157,14 +153,14 @@ GoesOn-next i ran a b p q next = record {
   steps = more_added (home_steps b.did) (home_steps a.did) 2 (steps_for (entries_of home next.others)) next.steps (ap steps_for next.not_home);
 }
 
-pub Goes-turn : {R : Type 0} (sizes : Sizes) (frame : Place → Place → Type 0) (nests i : ℕ) (ran : Bool) (does : R → Entered → R → Type 0) (a b c : Known) (r s : R) (p q t : Polled) → a.sizes ≡ sizes → TakesNext i ran a b p q → Goes (Calls frame nests i ran) does (far b r q) (far c s t) → Goes (Turn sizes frame nests) does (far a r p) (far c s t)
-Goes-turn sizes frame nests i ran does a b c r s p q t of next called = record {
+pub Goes-turn : {R : Type 0} (sizes : Sizes) (frame : Place → Place → Type 0) (nests i : ℕ) (ran : Bool) (job : Option ℕ) (does : R → Entered → R → Type 0) (a b c : Known) (r s : R) (p q t : Polled) → a.sizes ≡ sizes → TakesNext i ran job a b p q → Goes (Follows sizes frame nests i job ran) does (far b r q) (far c s t) → Goes (Turn sizes frame nests) does (far a r p) (far c s t)
+Goes-turn sizes frame nests i ran job does a b c r s p q t of next followed = record {
   at = λ log counts.
       let begun : Counts q log = record { ran = ap (λ (x : Polled). x.ran) next.progress ∙ counts.ran; cut_nests = ap (λ (x : Polled). x.cut_nests) next.progress ∙ counts.cut_nests } in
-      let went = called.at log begun in
+      let went = followed.at log begun in
       let dequeued = place_of (far b r q) log in
-      let ended = place_of (far c s t) went.log_after in
-      let handle = no_lot sizes i (subst (λ (z : Sizes). i < z.handles) of next.handle) in
+      let ended = went.goes.0 in
+      let job_is = subst (λ (z : Sizes). cond (is_lot z i) (job_of i b.seen) None ≡ job) of next.job_is in
       record {
         log_after = went.log_after;
         goes = record {
@@ -173,13 +169,13 @@ Goes-turn sizes frame nests i ran does a b c r s p q t of next called = record {
           dequeued = dequeued;
           ended = ended;
           dequeue = record { others = next.others; not_home = next.not_home; seen = next.seen; log = refl; progress = ap (λ (x : Polled). x.progress) next.progress };
-          body = subst (λ lot. MatchBool ran (Body frame i (cond lot (job_of i b.seen) None) true nests dequeued ended) (ended ≡ dequeued)) (sym handle) went.goes;
-          free = subst (λ lot. MatchBool lot (Makes (Free i) ended ended) (ended ≡ ended)) (sym handle) refl;
+          body = subst (λ j. MatchBool ran (Body frame i j true nests dequeued ended) (ended ≡ dequeued)) (sym job_is) went.goes.1;
+          free = went.goes.2;
         };
         enters = went.enters;
         counts = went.counts;
       };
-  goes_on = GoesOn-then a b c (GoesOn-next i ran a b p q next) called.goes_on;
+  goes_on = GoesOn-then a b c (GoesOn-next i ran job a b p q next) followed.goes_on;
 }
 
 -- Turns are added to the take and turns so far.

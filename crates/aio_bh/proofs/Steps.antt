@@ -17,10 +17,9 @@ Goes-more sizes deeper does a b c r s t p q u some turn =
 abbrev pub nothing : Polled
 nothing = record { progress = false; ran = 0; cut_nests = 0 }
 
-stage_empty : (stage : Stage) → stage.slices ≡ [] → stage.hand ≡ None → stage ≡ empty_stage
-stage_empty stage none free =
-    let first : stage ≡ record { slices = []; hand = stage.hand } = ap (λ l. record { slices = l; hand = stage.hand }) none in
-    first ∙ ap (λ h. record { slices = []; hand = h }) free
+stage_empty : (stage : Stage) → stage.slices ≡ [] → stage.hand ≡ None → stage.job ≡ None → stage ≡ empty_stage
+stage_empty stage none free jobless =
+    λ i. record { slices = none i; hand = free i; job = jobless i }
 
 Polls-of : {R : Type 0} (does : R → Entered → R → Type 0) (a b : Known) (r s : R) (polled : Polled) → Goes (TakesAndSome a.sizes (Frame a.sizes 0) (nests_above 0)) does (far a r nothing) (far b s polled) → out_of b.seen ≡ [] → b.stage ≡ empty_stage → Polls does polled r a s b
 Polls-of does a b r s polled goes none stage =
@@ -41,11 +40,11 @@ Polls-of does a b r s polled goes none stage =
     }
 
 -- the last look found nothing out
-pub Polls-end : {R : Type 0} (sizes : Sizes) (does : R → Entered → R → Type 0) (a b c : Known) (r s t : R) (q u : Polled) → a.sizes ≡ sizes → Goes (TakesAndSome sizes (Frame sizes 0) (nests_above 0)) does (far a r nothing) (far b s q) → b.stage.hand ≡ None → FindsNone b c q u → t ≡ s → Polls does u r a t c
-Polls-end sizes does a b c r s t q u of goes hand none same =
+pub Polls-end : {R : Type 0} (sizes : Sizes) (does : R → Entered → R → Type 0) (a b c : Known) (r s t : R) (q u : Polled) → a.sizes ≡ sizes → Goes (TakesAndSome sizes (Frame sizes 0) (nests_above 0)) does (far a r nothing) (far b s q) → (b.stage.hand ≡ None) × (b.stage.job ≡ None) → FindsNone b c q u → t ≡ s → Polls does u r a t c
+Polls-end sizes does a b c r s t q u of goes free none same =
     let P : Sizes → Type 0 = λ z. Goes (TakesAndSome z (Frame z 0) (nests_above 0)) does (far a r nothing) (far b s q) in
     let now = subst P (sym of) goes in
     let at_end = subst (λ k. Goes (TakesAndSome a.sizes (Frame a.sizes 0) (nests_above 0)) does (far a r nothing) (far k t u)) (sym none.same)
     (subst (λ x. Goes (TakesAndSome a.sizes (Frame a.sizes 0) (nests_above 0)) does (far a r nothing) (far b x u)) (sym same)
     (subst (λ p. Goes (TakesAndSome a.sizes (Frame a.sizes 0) (nests_above 0)) does (far a r nothing) (far b s p)) (sym none.same_polled) now)) in
-    Polls-of does a c r t u at_end none.none (stage_empty c.stage none.slices (ap (λ (k : Known). k.stage.hand) none.same ∙ hand))
+    Polls-of does a c r t u at_end none.none (stage_empty c.stage none.slices (ap (λ (k : Known). k.stage.hand) none.same ∙ free.0) (ap (λ (k : Known). k.stage.job) none.same ∙ free.1))

@@ -1,24 +1,28 @@
 -- What the calls of the home's seat tell a poll: its take, its next dequeue, and an entry into a callback.
-use Rattle.std.proofs.Common.{◌≡◌, ℕ, ◌<◌, Bool, not, ◌&&◌, ◌||◌, ◌∷◌, ◌++◌, refl, sym, ap, ◌∙◌, subst}
+use Rattle.std.proofs.Common.{◌≡◌, ℕ, ◌+◌, ◌<◌, Bool, true, false, not, ◌&&◌, ◌||◌, cond, ltb, Option, None, Some, is_some, option_map, MatchBool, [], ◌∷◌, ◌++◌, refl, sym, ap, ◌∙◌, subst}
+use Rattle.std.proofs.lemmas.Bool.{false≢true, lt-ltb, ltb-true}
 use Rattle.aio_model.specs.declared.flags.Flags.{Flags}
-use Rattle.aio_model.specs.LoopHistory.{Sizes, Take, Dequeue, History}
-use Rattle.aio_model.specs.LoopFlags.{is_idle}
-use Rattle.aio_model.specs.LoopLists.{out_of}
-use Rattle.aio_model.specs.LoopLegal.{IsLegal}
+use Rattle.aio_model.specs.LoopHistory.{Sizes, Take, Dequeue, Free, History}
+use Rattle.aio_model.specs.LoopFlags.{is_idle, is_lot, are_due}
+use Rattle.aio_model.specs.LoopLists.{out_of, job_of}
+use Rattle.aio_model.specs.LoopLegal.{MayFollow, IsLegal}
 use Rattle.aio_model.specs.LoopSeats.{home, entries_of}
-use Rattle.aio_model.specs.LoopFrame.{Place, Entered, are_of_callback}
+use Rattle.aio_model.specs.LoopFrame.{Place, Entered, Makes, are_of_callback}
 use Rattle.aio_model.specs.InFlight.{AtRest}
 use Rattle.aio_model.proofs.AnnouncedOnce.{out_of-dequeue}
+use Rattle.aio_model.proofs.LotLives.{may_free-between}
 use Rattle.aio_core.specs.Known.{Known, empty_stage, numbers_of}
-use Rattle.aio_core.specs.Standing.{is_empty, Dequeues}
-use Rattle.aio_core.specs.Calls.{TableState, SeatState, IsSeatOf, HasTaken, HasLifted}
+use Rattle.aio_core.specs.Words.{index_count}
+use Rattle.aio_core.specs.Standing.{is_empty, Frees}
+use Rattle.aio_core.specs.Calls.{TableState, SeatState, IsSeatOf, HasTaken, DequeuesNext, number_in}
+use Rattle.aio_core.proofs.OneShots.{may_free-next}
 use Rattle.aio_bh.specs.declared.polled.Polled.{Polled}
 use Rattle.aio_bh.specs.HomeSteps.{home_steps, steps_for}
 use Rattle.aio_bh.specs.Running.{GivesBack}
 use Rattle.aio_bh.specs.Polling.{GoesOn}
-use Rattle.aio_bh.specs.SoFar.{far, place_of, Goes, IsBetween, TakesNext, TakesAndSome}
+use Rattle.aio_bh.specs.SoFar.{far, place_of, Goes, IsBetween, MayEnd, TakesNext, Ends, TakesAndSome}
 use Rattle.aio_bh.proofs.Entries.{none_of_home, out_beside, out_kept}
-use Rattle.aio_bh.proofs.HomeSteps.{more_added, two_steps}
+use Rattle.aio_bh.proofs.HomeSteps.{none_added, more_added, two_steps}
 use Rattle.aio_bh.proofs.Parts.{changes, EntersSome-same, some-none}
 
 -- The take.
@@ -59,37 +63,71 @@ between-take table a b of rest empty taken =
       rest = ap (λ (k : Known). k.phase) takes.rest ∙ rest;
       legal = subst (λ s. IsLegal s b.known.seen) (sym (ap (λ (k : Known). k.sizes) takes.rest) ∙ of.sizes) takes.makes.legal;
       hand = ap (λ (k : Known). k.stage.hand) takes.rest ∙ ap (λ s. s.hand) empty;
+      job = ap (λ (k : Known). k.stage.job) takes.rest ∙ ap (λ s. s.job) empty;
       left = takes.left (ap (λ s. s.hand) empty);
     }
 
 -- The next dequeue.
 
-abbrev pub calls : Flags → Bool
-calls was = was.scheduled && not was.deleted
+-- whether it is a lot is whether it has a job
+module _ (sizes : Sizes) (i : ℕ) where
+  lot_has_job : (job : Option ℕ) → i < index_count sizes → is_some job ≡ not (ltb i sizes.handles) → is_lot sizes i ≡ is_some job
+  lot_has_job job below of_lot =
+      ap (λ b. not (ltb i sizes.handles) && b) (lt-ltb i (sizes.handles + sizes.lots) below) ∙ and_true (not (ltb i sizes.handles)) ∙ sym of_lot
+    where
+      and_true : (b : Bool) → (b && true) ≡ b
+      and_true true = refl
+      and_true false = refl
 
-pub TakesNext-of : (i : ℕ) (was : Flags) (a b c : Known) (p : Polled) → a.first ≡ 64 → a.count ≡ 1 → HasLifted i a b → Dequeues i was b c → TakesNext i (calls was) a c p (record p { progress = p.progress || (calls was && not was.idle) })
-TakesNext-of i was a b c p first count lifted dequeues =
-    let makes = dequeues.makes in
-    let up = lifted.lifts.rest in
+  jobless_is_handle : (job : Option ℕ) → is_some job ≡ not (ltb i sizes.handles) → job ≡ None → i < sizes.handles
+  jobless_is_handle job of_lot none =
+      ltb-true i sizes.handles (low (ltb i sizes.handles) (sym (ap is_some none) ∙ of_lot))
+    where
+      low : (b : Bool) → false ≡ not b → b ≡ true
+      low true h = refl
+      low false h = absurd (false≢true h)
+
+job_lent : (lot : Bool) (job told : Option ℕ) → lot ≡ is_some job → told ≡ job → cond lot told None ≡ job
+job_lent true job told is same = same
+job_lent false None told is same = refl
+job_lent false (Some n) told is same = absurd (false≢true is)
+
+next_may_end : (i : ℕ) (was : Flags) (job : Option ℕ) (a c : Known) → DequeuesNext i was job a c → MayEnd a.sizes i c.seen
+next_may_end i was None a c next lot =
+    absurd (false≢true (sym (lot_has_job a.sizes i None next.below next.of_lot) ∙ lot))
+next_may_end i was (Some n) a c next lot = may_free-next i n was a c next
+
+pub TakesNext-of : (i : ℕ) (was : Flags) (job : Option ℕ) (a c : Known) (p : Polled) → a.first ≡ 64 → a.count ≡ 1 → DequeuesNext i was job a c → TakesNext i (are_due was) job a c p (record p { progress = p.progress || (are_due was && not was.idle) })
+TakesNext-of i was job a c p first count next =
+    let b : Known = next.lifted in
+    let makes = next.dequeues.makes in
+    let up = next.lifts.rest in
     let same_seen : b.seen ≡ a.seen = ap (λ (k : Known). k.seen) up in
     let same_sizes : b.sizes ≡ a.sizes = ap (λ (k : Known). k.sizes) up in
     let none = none_of_home (numbers_of b) makes.others (ap (λ (k : Known). k.first) up ∙ first) (ap (λ (k : Known). k.count) up ∙ count) makes.not_own in
     let before : makes.others ++ b.seen ≡ makes.others ++ a.seen = ap (λ l. makes.others ++ l) same_seen in
-    let seen : c.seen ≡ Dequeue i (calls was) ∷ (makes.others ++ a.seen) = makes.seen ∙ ap (λ l. Dequeue i (calls was) ∷ l) before in
+    let seen : c.seen ≡ Dequeue i (are_due was) ∷ (makes.others ++ a.seen) = makes.seen ∙ ap (λ l. Dequeue i (are_due was) ∷ l) before in
     let legal : IsLegal a.sizes c.seen = subst (λ s. IsLegal s c.seen) same_sizes makes.legal in
-    let here : IsLegal a.sizes (Dequeue i (calls was) ∷ (makes.others ++ a.seen)) = subst (IsLegal a.sizes) seen legal in
+    let here : IsLegal a.sizes (Dequeue i (are_due was) ∷ (makes.others ++ a.seen)) = subst (IsLegal a.sizes) seen legal in
     record {
       others = makes.others;
       not_home = none;
       seen = seen;
-      mine = makes.mine ∙ ap (λ (k : Known). Dequeue i (calls was) ∷ k.mine) up;
+      mine = makes.mine ∙ ap (λ (k : Known). Dequeue i (are_due was) ∷ k.mine) up;
       legal = legal;
-      handle = subst (λ (z : Sizes). i < z.handles) same_sizes dequeues.handle;
-      was_out = sym (out_beside a.seen makes.others none) ∙ out_of-dequeue (makes.others ++ a.seen) i (calls was) here.0.0 ∙ ap (λ h. i ∷ out_of h) (sym seen);
-      rest = changes b c _ _ dequeues.rest ∙ ap (λ (k : Known). record k { seen = c.seen; mine = c.mine; did = c.did; stage = c.stage; told = c.told }) up;
-      steps = two_steps (home_steps c.did) (home_steps b.did) (home_steps a.did) (ap (λ (k : Known). home_steps k.did) dequeues.rest) (ap (λ (k : Known). home_steps k.did) up);
-      progress = ap (λ b. record p { progress = p.progress || (calls was && not b) }) (ap (λ (f : Flags). f.idle) dequeues.were ∙ ap (λ h. is_idle i h) before);
+      index = next.below;
+      job_is = job_lent (is_lot a.sizes i) job (job_of i c.seen) (lot_has_job a.sizes i job next.below next.of_lot) next.job_is;
+      handle = jobless_is_handle a.sizes i job next.of_lot;
+      may_end = next_may_end i was job a c next;
+      was_out = sym (out_beside a.seen makes.others none) ∙ out_of-dequeue (makes.others ++ a.seen) i (are_due was) here.0.0 ∙ ap (λ h. i ∷ out_of h) (sym seen);
+      rest = changes b c _ _ next.dequeues.rest ∙ ap (λ (k : Known). record k { seen = c.seen; mine = c.mine; did = c.did; stage = c.stage; told = c.told }) up;
+      steps = two_steps (home_steps c.did) (home_steps b.did) (home_steps a.did) (ap (λ (k : Known). home_steps k.did) next.dequeues.rest) (ap (λ (k : Known). home_steps k.did) up);
+      progress = ap (λ b. record p { progress = p.progress || (are_due was && not b) }) (ap (λ (f : Flags). f.idle) next.dequeues.were ∙ ap (λ h. is_idle i h) before);
     }
+
+pub number_mapped : {J : Type 0} (number : J → ℕ) (job : Option J) → number_in number job ≡ option_map number job
+number_mapped number None = refl
+number_mapped number (Some job) = refl
 
 -- An entry into a callback.
 
@@ -105,5 +143,83 @@ between-back table made a b of between first back =
       rest = ap (λ (k : Known). k.phase) back.rest ∙ between.rest;
       legal = subst (λ s. IsLegal s b.known.seen) (sym (ap (λ (k : Known). k.sizes) back.rest) ∙ of.sizes) back.legal;
       hand = ap (λ (k : Known). k.stage.hand) back.rest ∙ between.hand;
+      job = ap (λ (k : Known). k.stage.job) back.rest ∙ between.job;
       left = ap (λ (k : Known). is_empty k.stage.slices) back.rest ∙ between.left ∙ ap is_empty (sym (back_same_out made a.known b.known first back));
     }
+
+pub back_may_end : (sizes : Sizes) (i : ℕ) (made : History) (a b : Known) → a.sizes ≡ sizes → a.first ≡ 64 → GivesBack made a b → MayEnd sizes i a.seen → MayEnd sizes i b.seen
+back_may_end sizes i made a b of first back may lot =
+    let own : entries_of home back.between ≡ made = ap (λ n. entries_of n back.between) (sym first) ∙ back.just_these in
+    let legal : IsLegal sizes (back.between ++ a.seen) = subst (IsLegal sizes) back.seen (subst (λ s. IsLegal s b.seen) of back.legal) in
+    subst (MayFollow sizes (Free i)) (sym back.seen) (may_free-between sizes i back.between a.seen legal (ap are_of_callback own ∙ back.of_callback) (may lot))
+
+-- The end of a turn: a lot is freed, and of a handle nothing is done.
+
+abbrev Finishes : Bool → ℕ → Known → Known → Type 0
+Finishes lot i a b = MatchBool lot (Frees i a b) (b ≡ a)
+
+freed_same_out : (i : ℕ) (a b : Known) → a.first ≡ 64 → a.count ≡ 1 → Frees i a b → out_of b.seen ≡ out_of a.seen
+freed_same_out i a b first count frees =
+    let makes = frees.makes in
+    ap out_of makes.seen ∙ out_beside a.seen makes.others (none_of_home (numbers_of a) makes.others first count makes.not_own)
+
+pub finished_same_out : (lot : Bool) (i : ℕ) (a b : Known) → a.first ≡ 64 → a.count ≡ 1 → Finishes lot i a b → out_of b.seen ≡ out_of a.seen
+finished_same_out true i a b first count frees = freed_same_out i a b first count frees
+finished_same_out false i a b first count same = ap (λ (k : Known). out_of k.seen) same
+
+pub between-finished : (table : TableState) (lot : Bool) (i : ℕ) (a b : SeatState) → IsSeatOf table b → IsBetween table a → a.known.first ≡ 64 → a.known.count ≡ 1 → Finishes lot i a.known b.known → IsBetween table b
+between-finished table true i a b of between first count frees =
+    let rest = frees.rest in
+    record {
+      of_table = of;
+      rest = ap (λ (k : Known). k.phase) rest ∙ between.rest;
+      legal = subst (λ s. IsLegal s b.known.seen) (sym (ap (λ (k : Known). k.sizes) rest) ∙ of.sizes) frees.makes.legal;
+      hand = ap (λ (k : Known). k.stage.hand) rest ∙ between.hand;
+      job = ap (λ (k : Known). k.stage.job) rest ∙ between.job;
+      left = ap (λ (k : Known). is_empty k.stage.slices) rest ∙ between.left ∙ ap is_empty (sym (freed_same_out i a.known b.known first count frees));
+    }
+between-finished table false i a b of between first count same = record {
+  of_table = of;
+  rest = ap (λ (k : Known). k.phase) same ∙ between.rest;
+  legal = subst (λ (k : Known). IsLegal table.sizes k.seen) (sym same) between.legal;
+  hand = ap (λ (k : Known). k.stage.hand) same ∙ between.hand;
+  job = ap (λ (k : Known). k.stage.job) same ∙ between.job;
+  left = ap (λ (k : Known). is_empty k.stage.slices) same ∙ between.left ∙ ap (λ (k : Known). is_empty (out_of k.seen)) (sym same);
+}
+
+GoesOn-freed : (i : ℕ) (a b : Known) → a.first ≡ 64 → a.count ≡ 1 → Frees i a b → GoesOn a b
+GoesOn-freed i a b first count frees =
+    let makes = frees.makes in
+    let none = none_of_home (numbers_of a) makes.others first count makes.not_own in
+    record {
+      between = Free i ∷ makes.others;
+      seen = makes.seen;
+      mine = makes.mine ∙ ap (λ (l : History). Free i ∷ (l ++ a.mine)) (sym none);
+      legal = makes.legal;
+      rest = changes a b _ a.stage frees.rest;
+      steps = more_added (home_steps b.did) (home_steps a.did) 1 (steps_for (entries_of home makes.others)) (ap (λ (k : Known). home_steps k.did) frees.rest) (ap steps_for none);
+    }
+
+pub GoesOn-same : (a : Known) → IsLegal a.sizes a.seen → GoesOn a a
+GoesOn-same a legal = record { between = []; seen = refl; mine = refl; legal = legal; rest = refl; steps = none_added (home_steps a.did) (home_steps a.did) 0 refl refl }
+
+Goes-finished : {R : Type 0} (lot : Bool) (i : ℕ) (does : R → Entered → R → Type 0) (a b : Known) (r : R) (p : Polled) → a.first ≡ 64 → a.count ≡ 1 → IsLegal a.sizes a.seen → Finishes lot i a b → Goes (λ x y. MatchBool lot (Makes (Free i) x y) (y ≡ x)) does (far a r p) (far b r p)
+Goes-finished true i does a b r p first count legal frees =
+    let makes = frees.makes in
+    let none = none_of_home (numbers_of a) makes.others first count makes.not_own in
+    record {
+      at = λ log counts. record {
+        log_after = log;
+        goes = record { others = makes.others; not_home = none; seen = makes.seen; log = refl; progress = refl };
+        enters = EntersSome-same does r log;
+        counts = counts;
+      };
+      goes_on = GoesOn-freed i a b first count frees;
+    }
+Goes-finished false i does a b r p first count legal same =
+    subst (λ k. Goes (λ x y. y ≡ x) does (far a r p) (far k r p)) (sym same)
+    (record { at = λ log counts. record { log_after = log; goes = refl; enters = EntersSome-same does r log; counts = counts }; goes_on = GoesOn-same a legal })
+
+pub Goes-ends : {R : Type 0} (sizes : Sizes) (i : ℕ) (does : R → Entered → R → Type 0) (a b : Known) (r : R) (p : Polled) → a.first ≡ 64 → a.count ≡ 1 → a.sizes ≡ sizes → IsLegal sizes a.seen → Finishes (is_lot sizes i) i a b → Goes (Ends sizes i) does (far a r p) (far b r p)
+Goes-ends sizes i does a b r p first count of legal finishes =
+    Goes-finished (is_lot sizes i) i does a b r p first count (subst (λ s. IsLegal s a.seen) (sym of) legal) finishes

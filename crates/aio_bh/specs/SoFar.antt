@@ -1,14 +1,15 @@
 -- How far a poll has come, and what its parts add.
-use Rattle.std.specs.Prelude.{◌≡◌, ℕ, ◌<◌, min, ◌+◌, ◌^◌, ◌-◌, Bool, true, not, ◌&&◌, ◌||◌, if◌then◌else◌, MatchBool, None, List, [], ◌∷◌, ◌++◌}
-use Rattle.aio_model.specs.LoopHistory.{Sizes, Take, Dequeue, History}
-use Rattle.aio_model.specs.LoopFlags.{is_idle}
-use Rattle.aio_model.specs.LoopLists.{out_of}
+use Rattle.std.specs.Prelude.{◌≡◌, ℕ, ◌<◌, min, ◌+◌, ◌^◌, ◌-◌, Bool, true, not, ◌&&◌, ◌||◌, if◌then◌else◌, MatchBool, Option, None, List, [], ◌∷◌, ◌++◌}
+use Rattle.aio_model.specs.LoopHistory.{Sizes, Take, Dequeue, Free, History}
+use Rattle.aio_model.specs.LoopFlags.{is_idle, is_lot}
+use Rattle.aio_model.specs.LoopLists.{out_of, job_of}
 use Rattle.aio_model.specs.LoopSeats.{home, entries_of}
-use Rattle.aio_model.specs.LoopLegal.{IsLegal}
+use Rattle.aio_model.specs.LoopLegal.{MayFollow, IsLegal}
 use Rattle.aio_model.specs.InFlight.{AtRest}
 use Rattle.aio_model.specs.LoopFrame.{Answer, Entered, Place, Makes, Body, Turns, Runs, is_cut, ran_of, cut_nests_of}
 use Rattle.aio_core.specs.Known.{Known}
 use Rattle.aio_core.specs.Standing.{is_empty}
+use Rattle.aio_core.specs.Words.{index_count}
 use Rattle.aio_core.specs.Calls.{TableState, SeatState, IsSeatOf}
 use Rattle.aio_bh.specs.HomeSteps.{home_steps}
 use Rattle.aio_bh.specs.declared.polled.Polled.{Polled}
@@ -55,6 +56,7 @@ pub record IsBetween (table : TableState) (seat : SeatState) : Type 0 where
   pub rest : seat.known.phase ≡ AtRest
   pub legal : IsLegal table.sizes seat.known.seen
   pub hand : seat.known.stage.hand ≡ None
+  pub job : seat.known.stage.job ≡ None
   pub left : is_empty seat.known.stage.slices ≡ is_empty (out_of seat.known.seen)
 
 -- nothing was out
@@ -64,23 +66,41 @@ pub record FindsNone (before after : Known) (polled polled_after : Polled) : Typ
   pub same : after ≡ before
   pub same_polled : polled_after ≡ polled
 
--- the first that was out was dequeued
-pub record TakesNext (i : ℕ) (ran : Bool) (before after : Known) (polled polled_after : Polled) : Type 0 where
+-- if it is a lot, it may be freed
+abbrev pub MayEnd : Sizes → ℕ → History → Type 0
+MayEnd sizes i seen =
+    is_lot sizes i ≡ true → MayFollow sizes (Free i) seen
+
+-- the first that was out was dequeued, a lot with its job
+pub record TakesNext (i : ℕ) (ran : Bool) (job : Option ℕ) (before after : Known) (polled polled_after : Polled) : Type 0 where
   pub others : History
   pub not_home : entries_of home others ≡ []
   pub seen : after.seen ≡ Dequeue i ran ∷ (others ++ before.seen)
   pub mine : after.mine ≡ Dequeue i ran ∷ before.mine
   pub legal : IsLegal before.sizes after.seen
-  pub handle : i < before.sizes.handles
+  pub index : i < index_count before.sizes
+  pub job_is : (if is_lot before.sizes i then job_of i after.seen else None) ≡ job
+  pub handle : job ≡ None → i < before.sizes.handles
+  pub may_end : MayEnd before.sizes i after.seen
   pub was_out : out_of before.seen ≡ i ∷ out_of after.seen
   pub rest : after ≡ record before { seen = after.seen; mine = after.mine; did = after.did; stage = after.stage; told = after.told }
   pub steps : home_steps after.did ≡ home_steps before.did + 2
   pub progress : polled_after ≡ record polled { progress = polled.progress || (ran && not (is_idle i (others ++ before.seen))) }
 
--- what follows a dequeue of a handle in its turn
-abbrev pub Calls : (Place → Place → Type 0) → ℕ → ℕ → Bool → Place → Place → Type 0
-Calls frame nests index ran before after =
-    MatchBool ran (Body frame index None true nests before after) (after ≡ before)
+-- the body of what is called
+abbrev pub Calls : (Place → Place → Type 0) → ℕ → ℕ → Option ℕ → Bool → Place → Place → Type 0
+Calls frame nests index job ran before after =
+    MatchBool ran (Body frame index job true nests before after) (after ≡ before)
+
+-- a lot is freed
+abbrev pub Ends : Sizes → ℕ → Place → Place → Type 0
+Ends sizes index before after =
+    MatchBool (is_lot sizes index) (Makes (Free index) before after) (after ≡ before)
+
+-- what follows a dequeue in its turn
+abbrev pub Follows : Sizes → (Place → Place → Type 0) → ℕ → ℕ → Option ℕ → Bool → Place → Place → Type 0
+Follows sizes frame nests index job ran before after =
+    (ended : Place) × Calls frame nests index job ran before ended × Ends sizes index ended after
 
 -- one take, and then some turns
 abbrev pub TakesAndSome : Sizes → (Place → Place → Type 0) → ℕ → Place → Place → Type 0

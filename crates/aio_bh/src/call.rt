@@ -1,4 +1,4 @@
-ghost use Rattle.std.specs.Prelude.{◌≡◌, None, true};
+ghost use Rattle.std.specs.Prelude.{◌≡◌, true};
 
 /// What a callback is lent for one entry. Only a poll makes one, and lends it, so that nobody has one outside a callback.
 #[derive(Drop)]
@@ -15,13 +15,13 @@ pub struct Call<J> {
 }
 
 impl<J> Call<J> {
-    /// The first entry into the callback of a handle.
-    pub(crate) fn of_handle(bh: u32, nests_left: u32) -> Call<J>
-        ensures { (result.bh ≡ bh) × (result.job ≡ None) × (result.first ≡ true) × (result.nests_left ≡ nests_left) }
+    /// The first entry into a callback, with the job of a one-shot.
+    pub(crate) fn first_entry(bh: u32, job: Option<J>, nests_left: u32) -> Call<J>
+        ensures { (result.bh ≡ bh) × (result.job ≡ job) × (result.first ≡ true) × (result.nests_left ≡ nests_left) }
     {
         Call {
             bh,
-            job: None,
+            job,
             first: true,
             nests_left,
             by_poll: (),

@@ -1,20 +1,23 @@
 //! A poll, after aio_bh_poll of QEMU's util/async.c: the home thread takes the list whole, and dequeues until nothing that it took
-//! is left. What a callback schedules goes into the list behind its back, for the next poll.
-ghost use Rattle.std.specs.Prelude.{◌≡◌, ◌+◌, ◌-◌, ◌^◌, ◌<◌, min, not, ◌&&◌, ◌||◌, true, false, None, Some, length, MatchOption, MatchResult, if◌then◌else◌};
+//! is left. What a callback schedules goes into the list behind its back, for the next poll. A lot is free again once its callback
+//! has ended.
+ghost use Rattle.std.specs.Prelude.{◌≡◌, ◌+◌, ◌-◌, ◌^◌, ◌<◌, min, not, ◌&&◌, ◌||◌, true, false, None, Some, option_map, length, MatchBool, MatchOption, MatchResult, if◌then◌else◌};
 ghost use Rattle.aio_model.specs.LoopHistory.{ToCall, ToCallIdle, ToDelete};
 ghost use Rattle.aio_model.specs.InFlight.{AtRest, Announced as announced};
-ghost use Rattle.aio_model.specs.LoopFlags.{are_due};
+ghost use Rattle.aio_model.specs.LoopFlags.{are_due, is_lot};
 ghost use Rattle.aio_model.specs.LoopLists.{out_of};
 ghost use Rattle.aio_model.specs.LoopLegal.{IsLegal};
 ghost use Rattle.aio_model.specs.LoopFrame.{Frame, Body, lent_of};
 ghost use Rattle.aio_model.specs.LoopFrame.{Turn as OneTurn};
 ghost use Rattle.aio_core.specs.Known.{empty_stage};
+ghost use Rattle.aio_core.specs.Words.{index_count};
+ghost use Rattle.aio_core.specs.Standing.{Frees};
 ghost use Rattle.aio_core.specs.Calls.{IsSeatOf};
 ghost use Rattle.aio_bh.specs.Enqueuing.{PushesAndNotifies, MissesOnce, Schedules, enqueue_entries, Stands};
 ghost use Rattle.aio_bh.specs.Puts.{TriedToPut};
 ghost use Rattle.aio_bh.specs.Running.{answer_by, RunsOnce};
 ghost use Rattle.aio_bh.specs.Polling.{Polls};
-ghost use Rattle.aio_bh.specs.SoFar.{far, Goes, Calls, IsBetween, FindsNone, TakesNext, noted};
+ghost use Rattle.aio_bh.specs.SoFar.{far, Goes, Calls, Follows, IsBetween, FindsNone, MayEnd, TakesNext, noted};
 
 use crate::call::Call;
 use crate::enqueue::{push_and_notify, schedule_as, try_schedule_as};
@@ -22,39 +25,41 @@ use crate::polled::Polled;
 use crate::put::Put;
 use crate::runner::Runner;
 use crate::turn::Turn;
-use aio_core::{Announced, Home, Job, LoopTable, Seat};
+use aio_core::{Announced, Dequeued, Home, Job, LoopTable, Seat};
 use aio_model::{Flags, Kind};
 use std::sync::Wait;
 
 /// How many nested polls a callback may ask for: none, as polls don't nest yet.
 const NESTS: u32 = 0;
 
-/// What was dequeued, and whether it is to be called.
-#[derive(Clone, Copy)]
-struct Dequeued {
-    bh: u32,
-    ran: bool,
-}
-
-/// Enters the callback of a handle, which is called.
+/// Enters a callback for the first time. What it leaves of what it is lent is dropped.
 fn enter<J: Job + Drop, R: Runner<J>>(
     table: &LoopTable<J>,
     seat: &mut Seat<J>,
     runner: &mut R,
     bh: u32,
+    job: Option<J>,
 ) -> Turn
     requires can_run { R.can_run runner.old table.now.sizes.handles }
     requires seat { IsSeatOf table.now seat.old }
     requires home { (seat.old.known.first ≡ 64) × (seat.old.known.count ≡ 1) }
     requires rest { seat.old.known.phase ≡ AtRest }
     requires legal { IsLegal table.now.sizes seat.old.known.seen }
-    requires handle { bh < table.now.sizes.handles }
+    requires index { bh < index_count table.now.sizes }
+    requires handle { job ≡ None → bh < table.now.sizes.handles }
     ensures can_run { R.can_run runner.new table.now.sizes.handles }
     ensures seat { IsSeatOf table.now seat.new }
-    ensures runs { RunsOnce R.does (lent_of bh None true 0) (answer_by result) runner.old seat.old.known runner.new seat.new.known }
+    ensures runs { RunsOnce R.does (lent_of bh (option_map J.number_of job) true 0) (answer_by result) runner.old seat.old.known runner.new seat.new.known }
 {
-    let mut call = Call::of_handle(bh, NESTS);
+    let mut call = Call::first_entry(bh, job, NESTS);
     runner.run(table, seat, &mut call)
+}
+
+/// Whether what had these flags is called.
+fn is_due(was: Flags) -> bool
+    ensures { result ≡ are_due was }
+{
+    was.scheduled && !was.deleted
 }
 
 impl Polled {
@@ -68,14 +73,11 @@ impl Polled {
         }
     }
 
-    /// Whether what had these flags is called. That is progress, unless it was idle.
-    fn note_dequeue(&mut self, was: Flags) -> bool
-        ensures ran { result ≡ are_due was }
-        ensures progress { self.new ≡ record self.old { progress = self.old.progress || (are_due was && not was.idle) } }
+    /// A dequeue of what had these flags. A call is progress, unless it is idle.
+    fn note_dequeue(&mut self, was: Flags)
+        ensures { self.new ≡ record self.old { progress = self.old.progress || (are_due was && not was.idle) } }
     {
-        let ran = was.scheduled && !was.deleted;
-        self.progress = self.progress || (ran && !was.idle);
-        ran
+        self.progress = self.progress || (is_due(was) && !was.idle);
     }
 
     /// A first entry into a callback that could nest no more.
@@ -94,16 +96,14 @@ fn next<J: Job + Drop>(
     table: &LoopTable<J>,
     home: &mut Home<J>,
     polled: &mut Polled,
-) -> Option<Dequeued>
+) -> Option<Dequeued<J>>
     requires between { IsBetween table.now home.old.seat }
     ensures between { IsBetween table.now home.new.seat }
-    ensures next { MatchOption result (FindsNone home.old.seat.known home.new.seat.known polled.old polled.new) (λ next. TakesNext next.bh next.ran home.old.seat.known home.new.seat.known polled.old polled.new) }
+    ensures next { MatchOption result (FindsNone home.old.seat.known home.new.seat.known polled.old polled.new) (λ next. TakesNext next.bh (are_due next.flags) (option_map J.number_of next.job) home.old.seat.known home.new.seat.known polled.old polled.new) }
 {
-    let hand = table.lift(home)?;
-    let bh = hand.bh();
-    let was = table.dequeue(home, hand);
-    let ran = polled.note_dequeue(was);
-    Some(Dequeued { bh, ran })
+    let next = table.dequeue_next(home)?;
+    polled.note_dequeue(next.flags);
+    Some(next)
 }
 
 /// Calls a callback.
@@ -112,18 +112,58 @@ fn body<J: Job + Drop, R: Runner<J>>(
     home: &mut Home<J>,
     runner: &mut R,
     bh: u32,
+    job: Option<J>,
     polled: &mut Polled,
 )
     requires can_run { R.can_run runner.old table.now.sizes.handles }
     requires between { IsBetween table.now home.old.seat }
-    requires handle { bh < table.now.sizes.handles }
+    requires index { bh < index_count table.now.sizes }
+    requires handle { job ≡ None → bh < table.now.sizes.handles }
     ensures can_run { R.can_run runner.new table.now.sizes.handles }
     ensures between { IsBetween table.now home.new.seat }
     ensures same_out { out_of home.new.seat.known.seen ≡ out_of home.old.seat.known.seen }
-    ensures goes { Goes (Body (Frame table.now.sizes 0) bh None true 0) R.does (far home.old.seat.known runner.old polled.old) (far home.new.seat.known runner.new polled.new) }
+    ensures may_end { MayEnd table.now.sizes bh home.old.seat.known.seen → MayEnd table.now.sizes bh home.new.seat.known.seen }
+    ensures goes { Goes (Body (Frame table.now.sizes 0) bh (option_map J.number_of job) true 0) R.does (far home.old.seat.known runner.old polled.old) (far home.new.seat.known runner.new polled.new) }
 {
-    let turn = enter(table, &mut home.seat, runner, bh);
+    let turn = enter(table, &mut home.seat, runner, bh, job);
     polled.note(turn);
+}
+
+/// Calls what was dequeued, where it is due.
+fn call<J: Job + Drop, R: Runner<J>>(
+    table: &LoopTable<J>,
+    home: &mut Home<J>,
+    runner: &mut R,
+    next: Dequeued<J>,
+    polled: &mut Polled,
+)
+    requires can_run { R.can_run runner.old table.now.sizes.handles }
+    requires between { IsBetween table.now home.old.seat }
+    requires index { next.bh < index_count table.now.sizes }
+    requires handle { next.job ≡ None → next.bh < table.now.sizes.handles }
+    ensures can_run { R.can_run runner.new table.now.sizes.handles }
+    ensures between { IsBetween table.now home.new.seat }
+    ensures same_out { out_of home.new.seat.known.seen ≡ out_of home.old.seat.known.seen }
+    ensures may_end { MayEnd table.now.sizes next.bh home.old.seat.known.seen → MayEnd table.now.sizes next.bh home.new.seat.known.seen }
+    ensures goes { Goes (Calls (Frame table.now.sizes 0) 0 next.bh (option_map J.number_of next.job) (are_due next.flags)) R.does (far home.old.seat.known runner.old polled.old) (far home.new.seat.known runner.new polled.new) }
+{
+    if is_due(next.flags) {
+        body(table, home, runner, next.bh, next.job, polled);
+    }
+}
+
+/// Ends a turn: the life of a lot is over.
+fn finish<J: Job + Drop>(table: &LoopTable<J>, home: &mut Home<J>, bh: u32)
+    requires seat { IsSeatOf table.now home.old.seat }
+    requires index { bh < index_count table.now.sizes }
+    requires may_end { MayEnd table.now.sizes bh home.old.seat.known.seen }
+    ensures seat { IsSeatOf table.now home.new.seat }
+    ensures ends { MatchBool (is_lot table.now.sizes bh) (Frees bh home.old.seat.known home.new.seat.known) (home.new.seat.known ≡ home.old.seat.known) }
+{
+    if bh < table.handles() {
+        return;
+    }
+    table.free(home, bh);
 }
 
 /// What follows a dequeue in its turn.
@@ -131,20 +171,22 @@ fn follow<J: Job + Drop, R: Runner<J>>(
     table: &LoopTable<J>,
     home: &mut Home<J>,
     runner: &mut R,
-    next: Dequeued,
+    next: Dequeued<J>,
     polled: &mut Polled,
 )
     requires can_run { R.can_run runner.old table.now.sizes.handles }
     requires between { IsBetween table.now home.old.seat }
-    requires handle { next.bh < table.now.sizes.handles }
+    requires index { next.bh < index_count table.now.sizes }
+    requires handle { next.job ≡ None → next.bh < table.now.sizes.handles }
+    requires may_end { MayEnd table.now.sizes next.bh home.old.seat.known.seen }
     ensures can_run { R.can_run runner.new table.now.sizes.handles }
     ensures between { IsBetween table.now home.new.seat }
     ensures same_out { out_of home.new.seat.known.seen ≡ out_of home.old.seat.known.seen }
-    ensures goes { Goes (Calls (Frame table.now.sizes 0) 0 next.bh next.ran) R.does (far home.old.seat.known runner.old polled.old) (far home.new.seat.known runner.new polled.new) }
+    ensures goes { Goes (Follows table.now.sizes (Frame table.now.sizes 0) 0 next.bh (option_map J.number_of next.job) (are_due next.flags)) R.does (far home.old.seat.known runner.old polled.old) (far home.new.seat.known runner.new polled.new) }
 {
-    if next.ran {
-        body(table, home, runner, next.bh, polled);
-    }
+    let bh = next.bh;
+    call(table, home, runner, next, polled);
+    finish(table, home, bh);
 }
 
 /// One turn. False where nothing was out.

@@ -35,4 +35,4 @@ returns-clause-polls g c =
     let a = c.args in
     let v = c.loop.invariant in
     let none = c.turn.ensures.none c.loop-test.false in
-    Polls-end a.self.now.sizes g.R.Runner.does a.home.now.seat.known c.loop.home.seat.known c.turn.new.home.seat.known a.runner.now c.loop.runner c.turn.new.runner c.loop.polled c.turn.new.polled c.requires.seat.sizes v.goes v.between.hand none.0 none.1
+    Polls-end a.self.now.sizes g.R.Runner.does a.home.now.seat.known c.loop.home.seat.known c.turn.new.home.seat.known a.runner.now c.loop.runner c.turn.new.runner c.loop.polled c.turn.new.polled c.requires.seat.sizes v.goes (v.between.hand, v.between.job) none.0 none.1
