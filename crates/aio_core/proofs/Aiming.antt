@@ -13,7 +13,7 @@ use Rattle.aio_core.specs.Known.{HeadLoad, NextStore, Known}
 use Rattle.aio_core.specs.Rule.{IsOwed, Owes, Stands, Kept}
 use Rattle.aio_core.specs.Standing.{done, index_in}
 use Rattle.aio_core.specs.Plays.{HeadIsLoaded, NextIsStored, head_loaded, next_stored}
-use Rattle.aio_core.proofs.Placing.{same_lot, same_entry, same_hand, no_lot_here, slots_kept}
+use Rattle.aio_core.proofs.Slots.{same_lot, same_entry, same_hand, no_lot_here, slots_kept}
 use Rattle.aio_core.proofs.Seats.{seats_keep}
 use Rattle.aio_core.proofs.Histories.{announced_alone}
 use Rattle.aio_core.proofs.Flags.{events_apart, read_here, read_else, flags_apart}

@@ -14,7 +14,7 @@ use Rattle.aio_core.specs.Known.{CancelFetchAnd, Known, numbers_of}
 use Rattle.aio_core.specs.Rule.{Stands, Kept}
 use Rattle.aio_core.specs.Standing.{done, Cancels}
 use Rattle.aio_core.specs.Plays.{Canceled, canceled}
-use Rattle.aio_core.proofs.Placing.{same_lot, same_entry, same_hand, no_lot_here, slots_kept}
+use Rattle.aio_core.proofs.Slots.{same_lot, same_entry, same_hand, no_lot_here, slots_kept}
 use Rattle.aio_core.proofs.Entries.{owns_first}
 use Rattle.aio_core.proofs.Seats.{seats_make, makes_of}
 use Rattle.aio_core.proofs.Histories.{owed_still}

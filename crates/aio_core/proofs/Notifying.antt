@@ -15,7 +15,7 @@ use Rattle.aio_core.specs.Known.{Done, Sleep, NotifiedStore, NotifyMeLoad, Notif
 use Rattle.aio_core.specs.Rule.{Owes, HasOut, push_of, store_of, is_wanted, AreCovered, IsSleepSafe, Sleeps, SleepStands, Stands, Kept}
 use Rattle.aio_core.specs.Standing.{may_notify, done, after_load, StoresNotified, LoadsNotifyMe, SetsNotifier}
 use Rattle.aio_core.specs.Plays.{notified_stored, notify_me_loaded, notifier_set}
-use Rattle.aio_core.proofs.Placing.{same_lot, same_entry, same_hand, no_lot_here, slots_kept}
+use Rattle.aio_core.proofs.Slots.{same_lot, same_entry, same_hand, no_lot_here, slots_kept}
 use Rattle.aio_core.proofs.Seats.{IsSame, seats_keep}
 use Rattle.aio_core.proofs.Flags.{events_apart, read_here, read_else, flags_apart}
 use Rattle.aio_core.proofs.Lists.{each_all, owes_kept, has_out_kept, lists_after}

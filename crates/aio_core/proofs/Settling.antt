@@ -21,7 +21,7 @@ use Rattle.aio_core.specs.Rule.{everyone, SeatsStand, IsSeat, is_wanted, is_open
 use Rattle.aio_core.specs.Standing.{done, Looks}
 use Rattle.aio_core.specs.SleepSteps.{OwnsAll}
 use Rattle.aio_core.specs.Plays.{notifier_looked_at, event_told, flags_told}
-use Rattle.aio_core.proofs.Placing.{same_lot, same_entry, same_hand, no_lot_here, slots_kept}
+use Rattle.aio_core.proofs.Slots.{same_lot, same_entry, same_hand, no_lot_here, slots_kept}
 use Rattle.aio_core.proofs.Entries.{own-append, owns_first, owns_everyone, own_of_seen}
 use Rattle.aio_core.proofs.Keeping.{load_stands}
 use Rattle.aio_core.proofs.Sleeping.{something, same_flight}

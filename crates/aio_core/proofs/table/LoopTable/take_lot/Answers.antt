@@ -6,7 +6,7 @@ use Rattle.aio_core.specs.Words.{index_count, flags_at, next_at}
 use Rattle.aio_core.specs.Calls.{TableState}
 use Rattle.aio_core.specs.Plays.{Dequeued}
 use Rattle.aio_core.specs.Standing.{Lifts}
-use Rattle.aio_core.proofs.Lots.{lot_lift_allowed, lot_dequeue_of}
+use Rattle.aio_core.proofs.Fetching.{lot_lift_allowed, lot_dequeue_of}
 use Rattle.aio_core.proofs.Opened.{flags_within, next_within, home_owned}
 use Rattle.aio_core.proofs.table.LoopTable.take_lot.Goals as goal
 
