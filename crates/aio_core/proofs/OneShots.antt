@@ -96,10 +96,15 @@ lot_dequeued_next sizes i word found job flags more v m w sizes_are lot first li
     }
 
 -- a lot that was dequeued may be freed
-pub may_free-next : (i job : ℕ) (flags : Flags) (v w : Known) → DequeuesNext i flags (Some job) v w → MayFollow v.sizes (Free i) w.seen
-may_free-next i job flags v w next =
+pub may_free-lot : (i : ℕ) (job : Option ℕ) (flags : Flags) (v w : Known) → v.sizes.handles ≤ i → DequeuesNext i flags job v w → MayFollow v.sizes (Free i) w.seen
+may_free-lot i job flags v w above next =
     let makes = next.dequeues.makes in
     let sizes : next.lifted.sizes ≡ v.sizes = ap (λ (k : Known). k.sizes) next.lifts.rest in
     let legal : IsLegal v.sizes (Dequeue i (are_due flags) ∷ (makes.others ++ next.lifted.seen)) = subst (λ z. IsLegal z (Dequeue i (are_due flags) ∷ (makes.others ++ next.lifted.seen))) sizes (subst (IsLegal next.lifted.sizes) makes.seen makes.legal) in
-    let lot : is_lot v.sizes i ≡ true = and_from _ _ (sym next.of_lot) (lt-ltb i (v.sizes.handles + v.sizes.lots) next.below) in
+    let lot : is_lot v.sizes i ≡ true = and_from _ _ (ap not (le-ltb i v.sizes.handles above)) (lt-ltb i (v.sizes.handles + v.sizes.lots) next.below) in
     subst (MayFollow v.sizes (Free i)) (sym makes.seen) (may_free-dequeued v.sizes i (are_due flags) (makes.others ++ next.lifted.seen) legal lot)
+
+-- what had a job is a lot
+pub may_free-next : (i job : ℕ) (flags : Flags) (v w : Known) → DequeuesNext i flags (Some job) v w → MayFollow v.sizes (Free i) w.seen
+may_free-next i job flags v w next =
+    may_free-lot i (Some job) flags v w (ltb-false i v.sizes.handles (not-true _ (sym next.of_lot))) next
