@@ -1,5 +1,5 @@
 -- The claim of a lot keeps the rule: its life begins for the job that the step announces, and its slot is taken.
-use Rattle.std.proofs.Common.{◌≡◌, ◌≢◌, ◌⊎◌, ℕ, ◌+◌, ◌-◌, ◌<◌, Bool, true, false, not, cond, ◌||◌, eqb, ltb, Option, Some, None, List, ◌∷◌, set, slice_index, inl, inr, refl, sym, ap, ◌∙◌, subst, ⊎_elim, arith}
+use Rattle.std.proofs.Common.{◌≡◌, ◌≢◌, ℕ, ◌+◌, ◌<◌, Bool, true, false, not, cond, ◌||◌, eqb, ltb, Option, Some, None, List, ◌∷◌, set, slice_index, inl, inr, refl, sym, ap, ◌∙◌, subst, ⊎_elim, arith}
 use Rattle.std.proofs.lemmas.Bool.{and_parts, and_from, cases_eq, ne_eqb, eqb-true, eq-eqb, ltb-true, lt-ltb, le-ltb, not_from_false}
 use mathlib.Core.Option.{some, none}
 use lib.ListN.{get_elem?, length-set}

@@ -1,5 +1,5 @@
 -- The enqueue of a claimed lot keeps the rule: its slot is given back with the job.
-use Rattle.std.proofs.Common.{◌≡◌, ◌≢◌, ℕ, ◌+◌, ◌-◌, ◌<◌, true, false, eqb, ltb, Option, Some, None, List, ◌∷◌, set, slice_index, bit_or, refl, sym, ap, ◌∙◌, subst, arith}
+use Rattle.std.proofs.Common.{◌≡◌, ◌≢◌, ℕ, ◌+◌, ◌<◌, true, false, eqb, ltb, Option, Some, None, List, ◌∷◌, set, slice_index, bit_or, refl, sym, ap, ◌∙◌, subst, arith}
 use Rattle.std.proofs.lemmas.Bool.{ne_eqb, eq-eqb}
 use mathlib.Core.Option.{some, none}
 use lib.ListN.{get_elem?}
@@ -7,7 +7,7 @@ use Rattle.atomic_table.specs.Table.{Me, gives, step, Allows}
 use Rattle.atomic_table.proofs.Lists.{set_else, set_here}
 use Rattle.aio_model.specs.FlagsWord.{word_of}
 use Rattle.aio_model.specs.LoopHistory.{Sizes, ToCallOnce, Enqueue, History}
-use Rattle.aio_model.specs.LoopFlags.{has_life, was_dequeued, is_pending, flags_of, is_due, enqueues}
+use Rattle.aio_model.specs.LoopFlags.{has_life, was_dequeued, is_pending, flags_of, is_due}
 use Rattle.aio_model.specs.LoopLists.{claimer_of, job_of, out_of, head_of}
 use Rattle.aio_model.specs.LoopLegal.{IsLegal}
 use Rattle.aio_model.specs.LoopSeats.{owns, home}

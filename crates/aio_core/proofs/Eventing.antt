@@ -1,25 +1,25 @@
 -- The rule's part on events, and the steps on their words.
-use Rattle.std.proofs.Common.{◌≡◌, ◌≢◌, ◌⊎◌, ℕ, suc, ◌+◌, ◌<◌, ◌≤◌, Bool, true, false, not, cond, ◌&&◌, ◌||◌, eqb, Option, Some, None, List, [], ◌∷◌, ◌++◌, length, set, slice_index, inl, inr, refl, sym, ap, ◌∙◌, subst, ⊎_elim, arith}
-use Rattle.std.proofs.lemmas.Bool.{cases_eq, cases_Bool, ne_eqb, eqb-true, eq-eqb, or_cases}
+use Rattle.std.proofs.Common.{◌≡◌, ◌≢◌, ◌⊎◌, ℕ, ◌+◌, ◌<◌, ◌≤◌, Bool, true, false, not, cond, eqb, Option, List, ◌∷◌, length, set, slice_index, inl, inr, refl, sym, ap, ◌∙◌, subst, ⊎_elim, arith}
+use Rattle.std.proofs.lemmas.Bool.{cases_eq, ne_eqb, eqb-true, eq-eqb}
 use mathlib.Core.Option.{some, none}
 use lib.ListN.{get_elem?, length-set}
 use Rattle.atomic_table.specs.Table.{Me, keeps, step, Allows}
 use Rattle.aio_model.specs.FlagsWord.{bit}
 use Rattle.aio_model.specs.LoopHistory.{Sizes, SetEvent, ClearEvent, History}
-use Rattle.aio_model.specs.LoopLists.{is_announced, stack_of, out_of, is_set}
+use Rattle.aio_model.specs.LoopLists.{stack_of, out_of, is_set}
 use Rattle.aio_model.specs.LoopSeats.{owns, home}
 use Rattle.aio_model.specs.InFlight.{Reason, ForIndex, ForEvent, ForNothing, AtRest, ToStore, flight_of}
 use Rattle.aio_chain.specs.Chains.{IsChain}
 use Rattle.aio_chain.proofs.Chains.{chain_kept}
-use Rattle.aio_core.specs.Words.{head_at, notified_at, notify_me_at, notifier_at, event_at, flags_at, next_at, next_in}
-use Rattle.aio_core.specs.Known.{Done, EventSetSwap, EventClearSwap, EventLoad, empty_stage, Scan, Sleep, Running, Scanning, Armed, ToDisarm, Committed, Known, numbers_of}
-use Rattle.aio_core.specs.Rule.{push_of, store_of, is_wanted, is_among, is_open, AreCovered, IsScan, Sleeps, SleepStands, EventsStand, Stands, Kept}
+use Rattle.aio_core.specs.Words.{head_at, notified_at, notify_me_at, notifier_at, event_at, next_at, next_in}
+use Rattle.aio_core.specs.Known.{Done, EventSetSwap, EventClearSwap, EventLoad, Scan, Sleep, Running, Scanning, Armed, ToDisarm, Committed, Known, numbers_of}
+use Rattle.aio_core.specs.Rule.{push_of, store_of, is_wanted, is_among, AreCovered, IsScan, Sleeps, EventsStand, Stands, Kept}
 use Rattle.aio_core.specs.Standing.{done, Makes}
 use Rattle.aio_core.specs.SleepSteps.{made_after, SetsEvent, ClearsEvent, after_event, after_any_load, LoadsEvent}
 use Rattle.aio_core.specs.Plays.{event_set, event_cleared, event_loaded}
-use Rattle.aio_core.proofs.Slots.{same_lot, same_entry, same_hand, no_lot_here, slots_kept}
+use Rattle.aio_core.proofs.Slots.{same_lot, same_entry, same_hand, slots_kept}
 use Rattle.aio_core.proofs.Entries.{owns_first}
-use Rattle.aio_core.proofs.Seats.{IsSame, seats_make, seats_keep, makes_of}
+use Rattle.aio_core.proofs.Seats.{seats_make, seats_keep, makes_of}
 use Rattle.aio_core.proofs.Histories.{owed_still}
 use Rattle.aio_core.proofs.Flags.{read_here, read_else, flags_apart}
 use Rattle.aio_core.proofs.Lists.{claimed_still, each_all, owes_kept, has_out_kept, lists_after}

@@ -1,5 +1,5 @@
 -- The lift and the dequeue of a lot keep the rule: its slot is taken with the job by the one, and given back empty by the other.
-use Rattle.std.proofs.Common.{◌≡◌, ◌⊎◌, ℕ, ◌+◌, ◌-◌, ◌<◌, ◌≤◌, true, false, eqb, Option, Some, None, List, ◌∷◌, ◌++◌, set, slice_index, bit_and, refl, sym, ap, ◌∙◌, subst, ⊎_elim, arith}
+use Rattle.std.proofs.Common.{◌≡◌, ℕ, ◌+◌, ◌<◌, ◌≤◌, true, false, eqb, Option, Some, None, List, ◌∷◌, ◌++◌, set, slice_index, bit_and, refl, sym, ap, ◌∙◌, subst, ⊎_elim, arith}
 use Rattle.std.proofs.lemmas.Bool.{cases_Bool, ne_eqb, eq-eqb}
 use mathlib.Core.Option.{some, none}
 use lib.ListN.{get_elem?}
@@ -7,7 +7,7 @@ use Rattle.atomic_table.specs.Table.{Me, takes, gives, step, Allows}
 use Rattle.atomic_table.proofs.Lists.{set_else, set_here}
 use Rattle.aio_model.specs.FlagsWord.{word_of}
 use Rattle.aio_model.specs.LoopHistory.{Sizes, Dequeue, History}
-use Rattle.aio_model.specs.LoopFlags.{is_lot, was_dequeued, is_pending, flags_of, are_due, is_due, dequeues}
+use Rattle.aio_model.specs.LoopFlags.{is_lot, was_dequeued, is_pending, flags_of, are_due, is_due}
 use Rattle.aio_model.specs.LoopLists.{claimer_of, job_of, out_of, head_of}
 use Rattle.aio_model.specs.LoopLegal.{IsLegal}
 use Rattle.aio_model.specs.LoopSeats.{owns, home}

@@ -1,17 +1,17 @@
 -- What the calls on lots say, from what their steps tell.
-use Rattle.std.proofs.Common.{◌≡◌, ◌≢◌, ℕ, ◌+◌, ◌-◌, ◌<◌, ◌≤◌, Bool, true, false, not, cond, eqb, ltb, Option, Some, None, MatchBool, MatchOption, List, [], ◌∷◌, ◌++◌, refl, sym, ap, ◌∙◌, subst, arith}
-use Rattle.std.proofs.lemmas.Bool.{and_parts, and_from, eq-eqb, ne_eqb, lt-ltb, le-ltb, ltb-true, ltb-false, not-true}
+use Rattle.std.proofs.Common.{◌≡◌, ℕ, ◌+◌, ◌<◌, ◌≤◌, Bool, true, false, not, cond, eqb, Option, Some, None, MatchOption, List, [], ◌∷◌, ◌++◌, refl, sym, ap, ◌∙◌, subst, arith}
+use Rattle.std.proofs.lemmas.Bool.{and_from, ne_eqb, lt-ltb, le-ltb, ltb-false, not-true}
 use Rattle.aio_model.specs.declared.flags.Flags.{Flags}
 use Rattle.aio_model.specs.LoopHistory.{Sizes, ToCallOnce, New, Enqueue, Put, Cancel, Take, Dequeue, Free, SetEvent, ClearEvent, History}
 use Rattle.aio_model.specs.FlagsWord.{flags_in}
-use Rattle.aio_model.specs.LoopFlags.{is_lot, is_pending, are_due}
+use Rattle.aio_model.specs.LoopFlags.{is_lot, are_due}
 use Rattle.aio_model.specs.LoopLists.{job_of}
 use Rattle.aio_model.specs.LoopLegal.{MayFollow, IsLegal}
 use Rattle.aio_model.proofs.AnnouncedOnce.{fits, lot_is_no_handle}
 use Rattle.aio_model.proofs.LotLives.{may_free-dequeued}
-use Rattle.aio_core.specs.Known.{LotClaimCompare, Known}
-use Rattle.aio_core.specs.Words.{free_word, flags_at, index_count}
-use Rattle.aio_core.specs.Standing.{Claims, Enqueues, Lifts, Dequeues, Looks, PlacesJob}
+use Rattle.aio_core.specs.Known.{Known}
+use Rattle.aio_core.specs.Words.{free_word, index_count}
+use Rattle.aio_core.specs.Standing.{Claims, Lifts, Dequeues, PlacesJob}
 use Rattle.aio_core.specs.Plays.{Enqueued, Dequeued}
 use Rattle.aio_core.specs.Calls.{IsTaken, HasLifted, DequeuesNext}
 use Rattle.aio_core.proofs.Told.{dequeues_told}

@@ -1,4 +1,4 @@
-use Rattle.std.proofs.Common.{◌≡◌, ◌≤◌, sym, ap, ◌∙◌, subst, arith}
+use Rattle.std.proofs.Common.{◌≡◌, ap, ◌∙◌, subst, arith}
 use Rattle.aio_model.specs.LoopHistory.{Sizes, Free}
 use Rattle.aio_model.specs.LoopLegal.{MayFollow}
 use Rattle.aio_core.proofs.OneShots.{may_free-lot}

@@ -1,10 +1,8 @@
-use Rattle.std.proofs.Common.{◌≡◌, ◌<◌, ◌+◌, ◌∷◌, Some, None, true, drop, length, refl, sym, ap, ◌∙◌, subst, arith}
-use Rattle.aio_core.specs.Words.{index_count}
-use Rattle.aio_core.specs.Known.{Known, Scanning, Armed, empty_stage, is_running}
-use Rattle.aio_core.specs.SleepSteps.{scan_in, watched_in, is_to_disarm}
-use Rattle.aio_core.specs.Calls.{SeatState}
+use Rattle.std.proofs.Common.{◌≡◌, length, refl, sym, subst, arith}
+use Rattle.aio_core.specs.Known.{Scanning, empty_stage}
+use Rattle.aio_core.specs.SleepSteps.{scan_in}
 use Rattle.aio_core.proofs.Arming.{arm_allowed}
-use Rattle.aio_core.proofs.Opened.{same_table, held_numbers, held_still, seat_still, head_within, word_within, flags_within, next_within, home_opened}
+use Rattle.aio_core.proofs.Opened.{same_table, held_numbers, word_within, home_opened}
 use Rattle.aio_core.proofs.table.LoopTable.add_notify_me.Goals as goal
 
 pub fetch_add-requires : goal.fetch_add-requires

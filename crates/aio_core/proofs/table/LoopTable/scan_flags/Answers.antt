@@ -1,11 +1,10 @@
 use Rattle.aio_core.specs.Plays.{FlagsAreScanned}
-use Rattle.std.proofs.Common.{◌≡◌, ◌<◌, ◌+◌, ◌∷◌, Some, None, true, drop, length, refl, sym, ap, ◌∙◌, subst, arith}
+use Rattle.std.proofs.Common.{◌≡◌, ◌<◌, Some, length, refl, sym, ap, subst}
 use Rattle.aio_core.specs.Words.{index_count}
-use Rattle.aio_core.specs.Known.{Known, Scanning, Armed, empty_stage, is_running}
-use Rattle.aio_core.specs.SleepSteps.{scan_in, watched_in, is_to_disarm}
-use Rattle.aio_core.specs.Calls.{SeatState}
+use Rattle.aio_core.specs.Known.{Known, Scanning}
+use Rattle.aio_core.specs.SleepSteps.{scan_in}
 use Rattle.aio_core.proofs.Scanning.{scan_flags_allowed}
-use Rattle.aio_core.proofs.Opened.{same_table, held_numbers, held_still, seat_still, head_within, word_within, flags_within, next_within, home_opened}
+use Rattle.aio_core.proofs.Opened.{same_table, held_numbers, held_still, seat_still, flags_within, home_opened}
 use Rattle.aio_core.proofs.table.LoopTable.scan_flags.Goals as goal
 
 pub load-requires : goal.load-requires

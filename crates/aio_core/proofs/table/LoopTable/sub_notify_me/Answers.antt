@@ -1,10 +1,7 @@
-use Rattle.std.proofs.Common.{◌≡◌, ◌<◌, ◌+◌, ◌∷◌, Some, None, true, drop, length, refl, sym, ap, ◌∙◌, subst, arith}
-use Rattle.aio_core.specs.Words.{index_count}
-use Rattle.aio_core.specs.Known.{Known, Scanning, Armed, empty_stage, is_running}
-use Rattle.aio_core.specs.SleepSteps.{scan_in, watched_in, is_to_disarm}
-use Rattle.aio_core.specs.Calls.{SeatState}
+use Rattle.std.proofs.Common.{◌≡◌, true, sym, subst, arith}
+use Rattle.aio_core.specs.SleepSteps.{is_to_disarm}
 use Rattle.aio_core.proofs.Arming.{disarm_allowed}
-use Rattle.aio_core.proofs.Opened.{same_table, held_numbers, held_still, seat_still, head_within, word_within, flags_within, next_within, home_opened}
+use Rattle.aio_core.proofs.Opened.{same_table, held_numbers, word_within, home_opened}
 use Rattle.aio_core.proofs.table.LoopTable.sub_notify_me.Goals as goal
 
 pub fetch_sub-requires : goal.fetch_sub-requires
