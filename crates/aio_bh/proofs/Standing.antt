@@ -7,10 +7,11 @@ use Rattle.aio_model.specs.LoopLists.{seat_of}
 use Rattle.aio_model.specs.LoopSeats.{entries_of, newest_of, StandsInHistory, StandsAtTheEnd}
 use Rattle.aio_model.specs.InFlight.{Phase}
 use Rattle.aio_core.specs.Known.{Done, Known, numbers_of}
-use Rattle.aio_core.specs.Standing.{Makes, Enqueues, Aims}
+use Rattle.aio_core.specs.Standing.{Makes, Enqueues, Aims, SetsNotifier}
 use Rattle.aio_bh.proofs.Entries.{entries_of-append, none_of_own}
 use Rattle.aio_bh.specs.HomeSteps.{home_steps}
-use Rattle.aio_bh.specs.Enqueuing.{MissesOnce, PushesOnce, Tries, PushesAtLast, Schedules, SchedulesAtOnce, SchedulesLater, enqueue_entries, Stands}
+use Rattle.aio_notify.specs.Notifying.{Notifies}
+use Rattle.aio_bh.specs.Enqueuing.{MissesOnce, PushesOnce, Tries, PushesAtLast, Inserts, InsertsAtOnce, Schedules, SchedulesAtOnce, SchedulesLater, enqueue_entries, Stands}
 
 -- one entry
 pub makes_stand : (e : Entry) (v w : Known) → Makes e v w → seat_of e ≡ v.first → StandsAtTheEnd v.sizes v.first (e ∷ []) v.seen v.mine w.seen w.mine
@@ -96,6 +97,15 @@ quiet_refl : (v : Known) → IsQuiet v v
 quiet_refl v =
     record { same = record { sizes = refl; first = refl; count = refl; stage = refl; sleep = refl; told = refl; steps = refl }; seen = refl; mine = refl }
 
+-- by whether home was about to sleep
+sets_quiet : (b : Bool) (v w : Known) → MatchBool b (w ≡ v) ((was : ℕ) × SetsNotifier was v w) → IsQuiet v w
+sets_quiet true v w same = subst (IsQuiet v) (sym same) (quiet_refl v)
+sets_quiet false v w set = quieted v w _ _ set.1.rest refl
+
+notifies_quiet : (v w : Known) → Notifies v w → IsQuiet v w
+notifies_quiet v w run =
+    quiet_then v run.stored w (quieted v run.stored _ _ run.stores.rest refl) (quiet_then run.stored run.loaded w (quieted run.stored run.loaded _ _ run.loads.rest refl) (sets_quiet (eqb run.armed 0) run.loaded w run.sets))
+
 tries_quiet : (i misses : ℕ) (v w : Known) → Tries i misses v w → IsQuiet v w
 tries_quiet i zero v w h = subst (IsQuiet v) (sym h) (quiet_refl v)
 tries_quiet i (suc misses) v w h =
@@ -142,6 +152,13 @@ enqueue_alone i asked flags v a enqueues =
 to_stands : (entries : History) (v w : Known) → AtEnd v entries w × IsSame v w → Stands entries v w
 to_stands entries v w h = record { stands = h.0; rest = same_rest v w h.1; steps = h.1.steps }
 
+-- quiet steps behind a call
+then_quiet : (entries : History) (v w x : Known) → Stands entries v w → IsQuiet w x → Stands entries v x
+then_quiet entries v w x h quiet =
+    let one = subst (λ s. StandsAtTheEnd v.sizes v.first entries v.seen v.mine s w.mine) (sym quiet.seen) h.stands in
+    let same = changed v w w.seen w.mine w.did w.phase h.rest h.steps in
+    to_stands entries v x (subst (λ m. StandsAtTheEnd v.sizes v.first entries v.seen v.mine x.seen m) (sym quiet.mine) one, same_then v w x same quiet.same)
+
 -- by whether the index was pending
 by_pending : (b : Bool) (i : ℕ) (asked : Asked) (flags : Flags) (v a w : Known) (P : Type 0) → Enqueues i asked flags v a → MatchBool b (w ≡ a) P → (P → AtEnd a (Put i a.first ∷ []) w × IsSame a w) → Stands (cond b (Enqueue i asked v.first flags ∷ []) (Put i v.first ∷ Enqueue i asked v.first flags ∷ [])) v w
 by_pending true i asked flags v a w P enqueues h push =
@@ -149,17 +166,22 @@ by_pending true i asked flags v a w P enqueues h push =
 by_pending false i asked flags v a w P enqueues h push =
     to_stands (Put i v.first ∷ Enqueue i asked v.first flags ∷ []) v w (enqueue_then_push i asked flags v a w enqueues (push h))
 
+inserts_stand : (i : ℕ) (asked : Asked) (flags : Flags) (v w : Known) → Inserts i asked flags v w → Stands (enqueue_entries i asked v.first flags) v w
+inserts_stand i asked flags v w run =
+    by_pending flags.pending i asked flags v run.announced w (PushesAtLast i run.announced w) run.enqueues run.pushes (pushes_at_last_stands i run.announced w)
+
+inserts_at_once_stand : (i : ℕ) (asked : Asked) (flags : Flags) (v w : Known) → InsertsAtOnce i asked flags v w → Stands (enqueue_entries i asked v.first flags) v w
+inserts_at_once_stand i asked flags v w run =
+    by_pending flags.pending i asked flags v run.announced w (PushesOnce i run.announced w) run.enqueues run.pushes (pushes_once_stands i run.announced w)
+
 pub schedules_stands : (i : ℕ) (asked : Asked) (flags : Flags) (v w : Known) → Schedules i asked flags v w → Stands (enqueue_entries i asked v.first flags) v w
 schedules_stands i asked flags v w run =
-    by_pending flags.pending i asked flags v run.announced w (PushesAtLast i run.announced w) run.enqueues run.pushes (pushes_at_last_stands i run.announced w)
+    then_quiet (enqueue_entries i asked v.first flags) v run.inserted w (inserts_stand i asked flags v run.inserted run.inserts) (notifies_quiet run.inserted w run.notifies)
 
 pub schedules_at_once_stands : (i : ℕ) (asked : Asked) (flags : Flags) (v w : Known) → SchedulesAtOnce i asked flags v w → Stands (enqueue_entries i asked v.first flags) v w
 schedules_at_once_stands i asked flags v w run =
-    by_pending flags.pending i asked flags v run.announced w (PushesOnce i run.announced w) run.enqueues run.pushes (pushes_once_stands i run.announced w)
+    then_quiet (enqueue_entries i asked v.first flags) v run.inserted w (inserts_at_once_stand i asked flags v run.inserted run.inserts) (notifies_quiet run.inserted w run.notifies)
 
 pub schedules_later_stands : (i : ℕ) (asked : Asked) (flags : Flags) (v w : Known) → SchedulesLater i asked flags v w → Stands (Enqueue i asked v.first flags ∷ []) v w
 schedules_later_stands i asked flags v w run =
-    let first = enqueue_alone i asked flags v run.announced run.enqueues in
-    let quiet = missed_quiet i run.announced w run.missed in
-    let one = subst (λ s. StandsAtTheEnd v.sizes v.first (Enqueue i asked v.first flags ∷ []) v.seen v.mine s run.announced.mine) (sym quiet.seen) first.0 in
-    to_stands (Enqueue i asked v.first flags ∷ []) v w (subst (λ m. StandsAtTheEnd v.sizes v.first (Enqueue i asked v.first flags ∷ []) v.seen v.mine w.seen m) (sym quiet.mine) one, same_then v run.announced w first.1 quiet.same)
+    then_quiet (Enqueue i asked v.first flags ∷ []) v run.announced w (to_stands (Enqueue i asked v.first flags ∷ []) v run.announced (enqueue_alone i asked flags v run.announced run.enqueues)) (missed_quiet i run.announced w run.missed)

@@ -6,6 +6,7 @@ use Rattle.aio_model.specs.LoopSeats.{StandsAtTheEnd}
 use Rattle.aio_core.specs.Known.{Known}
 use Rattle.aio_core.specs.Standing.{Enqueues, Aims, Pushes}
 use Rattle.aio_core.specs.Calls.{IsMissed}
+use Rattle.aio_notify.specs.Notifying.{Notifies}
 use Rattle.aio_bh.specs.HomeSteps.{home_steps}
 
 -- one try that found another head than the one that it had loaded
@@ -36,18 +37,35 @@ pub record PushesAtLast (i : ℕ) (before after : Known) : Type 0 where
   pub pushes : PushesOnce i last after
 
 -- the enqueue, and the push of an index that wasn't pending
-pub record Schedules (i : ℕ) (asked : Asked) (flags : Flags) (before after : Known) : Type 0 where
+pub record Inserts (i : ℕ) (asked : Asked) (flags : Flags) (before after : Known) : Type 0 where
   pub announced : Known
   pub enqueues : Enqueues i asked flags before announced
   pub pushes : MatchBool flags.pending (after ≡ announced) (PushesAtLast i announced after)
 
--- the enqueue, and one try to push: it pushed
-pub record SchedulesAtOnce (i : ℕ) (asked : Asked) (flags : Flags) (before after : Known) : Type 0 where
+-- the same with one try to push: it pushed
+pub record InsertsAtOnce (i : ℕ) (asked : Asked) (flags : Flags) (before after : Known) : Type 0 where
   pub announced : Known
   pub enqueues : Enqueues i asked flags before announced
   pub pushes : MatchBool flags.pending (after ≡ announced) (PushesOnce i announced after)
 
--- it missed, and the index is still to be pushed
+-- whatever there was to push was pushed, and home was notified
+pub record Schedules (i : ℕ) (asked : Asked) (flags : Flags) (before after : Known) : Type 0 where
+  pub inserted : Known
+  pub inserts : Inserts i asked flags before inserted
+  pub notifies : Notifies inserted after
+
+pub record SchedulesAtOnce (i : ℕ) (asked : Asked) (flags : Flags) (before after : Known) : Type 0 where
+  pub inserted : Known
+  pub inserts : InsertsAtOnce i asked flags before inserted
+  pub notifies : Notifies inserted after
+
+-- one try pushed the index, and home was notified
+pub record PushesAndNotifies (i : ℕ) (before after : Known) : Type 0 where
+  pub pushed : Known
+  pub pushes : PushesOnce i before pushed
+  pub notifies : Notifies pushed after
+
+-- the one try missed, the index is still to be pushed, and nobody was notified
 pub record SchedulesLater (i : ℕ) (asked : Asked) (flags : Flags) (before after : Known) : Type 0 where
   pub announced : Known
   pub enqueues : Enqueues i asked flags before announced

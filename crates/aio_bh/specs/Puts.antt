@@ -7,7 +7,8 @@ use Rattle.aio_bh.specs.declared.put.Put.{Put}
 use Rattle.aio_bh.specs.declared.put.Put.TheVariants.{Done, Owed}
 use Rattle.aio_bh.specs.Enqueuing.{SchedulesAtOnce, SchedulesLater, enqueue_entries, Stands}
 
--- done: what there was to push was pushed, and the seat is at rest; owed: the try found another head
+-- done: what there was to push was pushed, home was notified, and the seat is at rest; owed: the try found another head, and nobody was
+-- notified
 abbrev pub TriedToPut : ℕ → Asked → Put → Known → Known → Type 0
 TriedToPut i asked (Done flags) before after =
     SchedulesAtOnce i asked flags before after × Stands (enqueue_entries i asked before.first flags) before after × (after.phase ≡ AtRest)

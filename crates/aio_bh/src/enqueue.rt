@@ -1,20 +1,21 @@
-//! Enqueues from any thread, after qemu_bh_schedule, qemu_bh_schedule_idle and qemu_bh_delete of QEMU's util/async.c; nobody
-//! is notified yet.
+//! Enqueues from any thread, after qemu_bh_schedule, qemu_bh_schedule_idle and qemu_bh_delete of QEMU's util/async.c. Each ends
+//! with a notify, also where the index was pending, so that a home about to sleep hears of it.
 ghost use Rattle.std.specs.Prelude.{◌≡◌, ◌<◌, ◌∷◌, [], MatchResult, false};
 ghost use Rattle.aio_model.specs.LoopHistory.{Put as pushed, Enqueue as enqueued};
-ghost use Rattle.aio_model.specs.InFlight.{AtRest, Announced as announced};
+ghost use Rattle.aio_model.specs.InFlight.{AtRest, Announced as announced, ToStore, ForIndex};
 ghost use Rattle.aio_core.specs.Standing.{asked_by};
 ghost use Rattle.aio_core.specs.Calls.{IsSeatOf};
-ghost use Rattle.aio_bh.specs.Enqueuing.{MissesOnce, PushesOnce, Schedules, SchedulesAtOnce, SchedulesLater, PushesAtLast, enqueue_entries, Stands};
+ghost use Rattle.aio_bh.specs.Enqueuing.{MissesOnce, PushesOnce, PushesAtLast, PushesAndNotifies, Inserts, Schedules, enqueue_entries, Stands};
 ghost use Rattle.aio_bh.specs.Puts.{TriedToPut};
 
 use crate::put::Put;
 use aio_core::{Announced, Job, LoopTable, Seat};
 use aio_model::{Flags, Kind};
+use aio_notify::Notify;
 use std::sync::Wait;
 
 /// One more try to push an index that the seat has announced. Err gives the debt back, where another head was found.
-pub fn try_to_push<J: Job>(
+fn try_to_push<J: Job>(
     table: &LoopTable<J>,
     seat: &mut Seat<J>,
     owed: Announced,
@@ -23,7 +24,7 @@ pub fn try_to_push<J: Job>(
     requires phase { seat.old.known.phase ≡ announced owed }
     ensures seat { IsSeatOf table.now seat.new }
     ensures step { MatchResult result (λ _. PushesOnce owed seat.old.known seat.new.known) (λ again. (again ≡ owed) × MissesOnce owed seat.old.known seat.new.known) }
-    ensures phase { MatchResult result (λ _. seat.new.known.phase ≡ AtRest) (λ again. seat.new.known.phase ≡ announced again) }
+    ensures phase { MatchResult result (λ _. seat.new.known.phase ≡ ToStore (ForIndex owed)) (λ again. seat.new.known.phase ≡ announced again) }
 {
     let aimed = table.aim(seat, owed);
     table.link(seat, aimed)
@@ -35,7 +36,7 @@ fn push<J: Job, R: Wait>(rt: &R, table: &LoopTable<J>, seat: &mut Seat<J>, owed:
     requires phase { seat.old.known.phase ≡ announced owed }
     ensures seat { IsSeatOf table.now seat.new }
     ensures steps { PushesAtLast owed seat.old.known seat.new.known }
-    ensures phase { seat.new.known.phase ≡ AtRest }
+    ensures phase { seat.new.known.phase ≡ ToStore (ForIndex owed) }
 {
     let mut owed = owed;
     for _ in rt.forever() {
@@ -47,7 +48,29 @@ fn push<J: Job, R: Wait>(rt: &R, table: &LoopTable<J>, seat: &mut Seat<J>, owed:
     unreachable!()
 }
 
-/// An enqueue of this kind. One atomic step where the index is pending; else three more for each try to push it.
+/// The part of an enqueue before its notify. One atomic step where the index is pending; else three more for each try to push it.
+fn insert<J: Job, R: Wait>(
+    rt: &R,
+    table: &LoopTable<J>,
+    seat: &mut Seat<J>,
+    bh: u32,
+    kind: Kind,
+) -> Flags
+    requires seat { IsSeatOf table.now seat.old }
+    requires rest { seat.old.known.phase ≡ AtRest }
+    requires handle { bh < table.now.sizes.handles }
+    ensures seat { IsSeatOf table.now seat.new }
+    ensures steps { Inserts bh (asked_by kind) result seat.old.known seat.new.known }
+    ensures phase { seat.new.known.phase ≡ ToStore (ForIndex bh) }
+{
+    let (flags, owed) = table.announce(seat, bh, kind);
+    if let Some(owed) = owed {
+        push(rt, table, seat, owed);
+    }
+    flags
+}
+
+/// An enqueue of this kind.
 pub fn schedule_as<J: Job, R: Wait>(
     rt: &R,
     table: &LoopTable<J>,
@@ -63,11 +86,25 @@ pub fn schedule_as<J: Job, R: Wait>(
     ensures stands { Stands (enqueue_entries bh (asked_by kind) seat.old.known.first result) seat.old.known seat.new.known }
     ensures rest { seat.new.known.phase ≡ AtRest }
 {
-    let (flags, owed) = table.announce(seat, bh, kind);
-    if let Some(owed) = owed {
-        push(rt, table, seat, owed);
-    }
+    let flags = insert(rt, table, seat, bh, kind);
+    table.notify(seat);
     flags
+}
+
+/// One more try to push an index that the seat has announced, with the notify where it pushed.
+pub fn push_and_notify<J: Job>(
+    table: &LoopTable<J>,
+    seat: &mut Seat<J>,
+    owed: Announced,
+) -> Result<(), Announced>
+    requires seat { IsSeatOf table.now seat.old }
+    requires phase { seat.old.known.phase ≡ announced owed }
+    ensures seat { IsSeatOf table.now seat.new }
+    ensures step { MatchResult result (λ _. PushesAndNotifies owed seat.old.known seat.new.known × (seat.new.known.phase ≡ AtRest)) (λ again. (again ≡ owed) × MissesOnce owed seat.old.known seat.new.known × (seat.new.known.phase ≡ announced again)) }
+{
+    try_to_push(table, seat, owed)?;
+    table.notify(seat);
+    Ok(())
 }
 
 /// An enqueue of this kind that tries once to push.
@@ -80,9 +117,10 @@ pub fn try_schedule_as<J: Job>(table: &LoopTable<J>, seat: &mut Seat<J>, bh: u32
 {
     let (flags, owed) = table.announce(seat, bh, kind);
     let Some(owed) = owed else {
+        table.notify(seat);
         return Put::Done(flags);
     };
-    match try_to_push(table, seat, owed) {
+    match push_and_notify(table, seat, owed) {
         Ok(()) => Put::Done(flags),
         Err(owed) => Put::Owed(flags, owed),
     }

@@ -13,14 +13,14 @@ ghost use Rattle.aio_core.specs.Known.{empty_stage};
 ghost use Rattle.aio_core.specs.Words.{index_count};
 ghost use Rattle.aio_core.specs.Standing.{Frees};
 ghost use Rattle.aio_core.specs.Calls.{IsSeatOf};
-ghost use Rattle.aio_bh.specs.Enqueuing.{PushesOnce, MissesOnce, Schedules, enqueue_entries, Stands};
+ghost use Rattle.aio_bh.specs.Enqueuing.{PushesAndNotifies, MissesOnce, Schedules, enqueue_entries, Stands};
 ghost use Rattle.aio_bh.specs.Puts.{TriedToPut};
 ghost use Rattle.aio_bh.specs.Running.{answer_by, RunsOnce};
 ghost use Rattle.aio_bh.specs.Polling.{Polls};
 ghost use Rattle.aio_bh.specs.SoFar.{far, Goes, Calls, Follows, IsBetween, FindsNone, MayEnd, TakesNext, noted};
 
 use crate::call::Call;
-use crate::enqueue::{schedule_as, try_schedule_as, try_to_push};
+use crate::enqueue::{push_and_notify, schedule_as, try_schedule_as};
 use crate::polled::Polled;
 use crate::put::Put;
 use crate::runner::Runner;
@@ -261,7 +261,7 @@ pub trait BottomHalves<J: Job + Drop> {
         requires seat { IsSeatOf (table self.now) seat.old }
         requires phase { seat.old.known.phase ≡ announced owed }
         ensures seat { IsSeatOf (table self.now) seat.new }
-        ensures step { MatchResult result (λ _. PushesOnce owed seat.old.known seat.new.known × (seat.new.known.phase ≡ AtRest)) (λ again. (again ≡ owed) × MissesOnce owed seat.old.known seat.new.known × (seat.new.known.phase ≡ announced again)) };
+        ensures step { MatchResult result (λ _. PushesAndNotifies owed seat.old.known seat.new.known × (seat.new.known.phase ≡ AtRest)) (λ again. (again ≡ owed) × MissesOnce owed seat.old.known seat.new.known × (seat.new.known.phase ≡ announced again)) };
 
     /// Calls back all that is due of what was scheduled before, one after another, the last one first, and dequeues the
     /// rest. What a callback schedules is for the next poll. The home thread, outside any poll.
@@ -295,7 +295,7 @@ impl<J: Job + Drop> BottomHalves<J> for LoopTable<J> {
     }
 
     fn push_owed(&self, seat: &mut Seat<J>, owed: Announced) -> Result<(), Announced> {
-        try_to_push(self, seat, owed)
+        push_and_notify(self, seat, owed)
     }
 
     fn poll<R: Runner<J>>(&self, home: &mut Home<J>, runner: &mut R) -> Polled {

@@ -6,7 +6,8 @@ ghost use Rattle.aio_core.specs.Calls.{IsSeatOf};
 ghost use Rattle.aio_core.specs.Known.{empty_stage};
 ghost use Rattle.aio_bh.specs.Running.{GivesBack};
 
-use crate::{BottomHalves, Call, Polled, Runner, Turn};
+use crate::enqueue::try_schedule_as;
+use crate::{BottomHalves, Call, Polled, Put, Runner, Turn};
 use aio_core::{Built, Home, LoopTable, Seat};
 use aio_model::Kind;
 use std::alloc::Global;
@@ -14,23 +15,17 @@ use std::process::Abort;
 use std::sync::Wait;
 use std::test::Fail;
 
-/// Announces a bottom half and pushes it, on one thread.
+/// Enqueues a bottom half, on one thread.
 fn push(rt: &impl Abort, table: &LoopTable<()>, seat: &mut Seat<()>, bh: u32, kind: Kind)
     requires seat { IsSeatOf table.now seat.old }
-    requires some { 0 < seat.old.known.count }
     requires rest { seat.old.known.phase ≡ AtRest }
     requires handle { bh < table.now.sizes.handles }
     ensures seat { IsSeatOf table.now seat.new }
     ensures back { (made : History) × GivesBack made seat.old.known seat.new.known }
 {
-    let (_, owed) = table.announce(seat, bh, kind);
-    let Some(owed) = owed else {
-        return;
-    };
-    let aimed = table.aim(seat, owed);
-    match table.link(seat, aimed) {
-        Ok(()) => {}
-        Err(owed) => panic!(rt; "the head moved on under {}", owed.bh()),
+    match try_schedule_as(table, seat, bh, kind) {
+        Put::Done(_) => {}
+        Put::Owed(_, owed) => panic!(rt; "the head moved on under {}", owed.bh()),
     }
 }
 

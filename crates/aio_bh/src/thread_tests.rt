@@ -100,13 +100,12 @@ fn times_taken(table: &LoopTable<u64>, home: &mut Home<u64>) -> [u32; 64]
     let mut times = [0u32; 64];
     table.take(home);
     for _ in 0..u64::MAX {
-        let Some(hand) = table.lift(home) else {
+        let Some(next) = table.dequeue_next(home) else {
             break;
         };
-        if let Some(place) = times.get_mut(hand.bh() as usize) {
+        if let Some(place) = times.get_mut(next.bh as usize) {
             *place = place.saturating_add(1);
         }
-        table.dequeue(home, hand);
     }
     times
 }

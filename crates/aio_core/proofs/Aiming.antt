@@ -13,13 +13,13 @@ use Rattle.aio_core.specs.Known.{HeadLoad, NextStore, Known}
 use Rattle.aio_core.specs.Rule.{IsOwed, Owes, Stands, Kept}
 use Rattle.aio_core.specs.Standing.{done, index_in}
 use Rattle.aio_core.specs.Plays.{HeadIsLoaded, NextIsStored, head_loaded, next_stored}
-use Rattle.aio_core.proofs.Placing.{same_lot, same_entry, same_hand, no_lot_here, slots_kept}
+use Rattle.aio_core.proofs.Slots.{same_entry, same_hand, slots_kept}
 use Rattle.aio_core.proofs.Seats.{seats_keep}
 use Rattle.aio_core.proofs.Histories.{announced_alone}
 use Rattle.aio_core.proofs.Flags.{events_apart, read_here, read_else, flags_apart}
 use Rattle.aio_core.proofs.Lists.{owes_kept, owed_apart, has_out_kept, lists_after}
 use Rattle.aio_core.proofs.Keeping.{load_stands}
-use Rattle.aio_core.proofs.Sleeping.{SameFlight, flight_by, sleep_still, put_not_announced}
+use Rattle.aio_core.proofs.Sleeping.{flight_by, sleep_still, put_not_announced}
 
 -- what a phase with this index owes
 pub owed_of : (sizes : Sizes) (words : List ℕ) (h : History) (n : ℕ) (phase other : Phase) → phase ≡ other → Owes sizes words h n phase → Owes sizes words h n other

@@ -1,11 +1,11 @@
 -- The cancel keeps the rule.
-use Rattle.std.proofs.Common.{◌+◌, Option, ◌≡◌, ℕ, ◌<◌, true, List, ◌∷◌, set, slice_index, bit_and, inl, inr, refl, sym, ap, ◌∙◌, subst, arith}
+use Rattle.std.proofs.Common.{◌+◌, Option, ◌≡◌, ℕ, ◌<◌, List, ◌∷◌, set, slice_index, bit_and, inl, inr, refl, sym, ap, ◌∙◌, subst, arith}
 use mathlib.Core.Option.{some, none}
 use lib.ListN.{get_elem?, length-set}
 use Rattle.atomic_table.specs.Table.{Me, keeps, step, Allows}
 use Rattle.aio_model.specs.FlagsWord.{word_of}
 use Rattle.aio_model.specs.LoopHistory.{Sizes, Cancel, History}
-use Rattle.aio_model.specs.LoopFlags.{has_life, flags_of}
+use Rattle.aio_model.specs.LoopFlags.{flags_of}
 use Rattle.aio_model.specs.LoopLists.{stack_of, out_of}
 use Rattle.aio_chain.specs.Chains.{IsChain}
 use Rattle.aio_chain.proofs.Chains.{chain_kept}
@@ -14,7 +14,7 @@ use Rattle.aio_core.specs.Known.{CancelFetchAnd, Known, numbers_of}
 use Rattle.aio_core.specs.Rule.{Stands, Kept}
 use Rattle.aio_core.specs.Standing.{done, Cancels}
 use Rattle.aio_core.specs.Plays.{Canceled, canceled}
-use Rattle.aio_core.proofs.Placing.{same_lot, same_entry, same_hand, no_lot_here, slots_kept}
+use Rattle.aio_core.proofs.Slots.{same_lot, same_hand, slots_kept}
 use Rattle.aio_core.proofs.Entries.{owns_first}
 use Rattle.aio_core.proofs.Seats.{seats_make, makes_of}
 use Rattle.aio_core.proofs.Histories.{owed_still}

@@ -17,7 +17,7 @@ use Rattle.aio_core.specs.Known.{DequeueFetchAnd, Known, numbers_of}
 use Rattle.aio_core.specs.Rule.{is_at_hand, IsOwed, IsOut, NoneEmpty, Stands, Kept}
 use Rattle.aio_core.specs.Standing.{done, is_empty, Makes, Dequeues}
 use Rattle.aio_core.specs.Plays.{Dequeued, dequeued}
-use Rattle.aio_core.proofs.Placing.{same_lot, same_entry, same_hand, no_lot_here, slots_kept}
+use Rattle.aio_core.proofs.Slots.{same_lot, no_lot_here, slots_kept}
 use Rattle.aio_core.proofs.Seats.{seats_make, makes_of}
 use Rattle.aio_core.proofs.Histories.{pending_below, announced_alone, owed_still}
 use Rattle.aio_core.proofs.Masks.{dequeued_flags, dequeued_word}

@@ -18,7 +18,7 @@ use Rattle.aio_core.specs.Known.{EnqueueFetchOr, Known, numbers_of}
 use Rattle.aio_core.specs.Rule.{IsOwed, IsClaimed, Owes, push_of, store_of, Stands, Kept}
 use Rattle.aio_core.specs.Standing.{mask_of, done, after_enqueue, Enqueues}
 use Rattle.aio_core.specs.Plays.{Enqueued, enqueued}
-use Rattle.aio_core.proofs.Placing.{same_lot, same_entry, same_hand, no_lot_here, slots_kept}
+use Rattle.aio_core.proofs.Slots.{same_lot, same_hand, no_lot_here, slots_kept}
 use Rattle.aio_core.proofs.Entries.{owns_first}
 use Rattle.aio_core.proofs.Seats.{seats_make, makes_of}
 use Rattle.aio_core.proofs.Histories.{idle_has_none, idle_was_not_put, owed_still}

@@ -1,25 +1,25 @@
 -- The rule's part on events, and the steps on their words.
-use Rattle.std.proofs.Common.{◌≡◌, ◌≢◌, ◌⊎◌, ℕ, suc, ◌+◌, ◌<◌, ◌≤◌, Bool, true, false, not, cond, ◌&&◌, ◌||◌, eqb, Option, Some, None, List, [], ◌∷◌, ◌++◌, length, set, slice_index, inl, inr, refl, sym, ap, ◌∙◌, subst, ⊎_elim, arith}
-use Rattle.std.proofs.lemmas.Bool.{cases_eq, cases_Bool, ne_eqb, eqb-true, eq-eqb, or_cases}
+use Rattle.std.proofs.Common.{◌≡◌, ◌≢◌, ◌⊎◌, ℕ, ◌+◌, ◌<◌, ◌≤◌, Bool, true, false, not, cond, eqb, Option, List, ◌∷◌, length, set, slice_index, inl, inr, refl, sym, ap, ◌∙◌, subst, ⊎_elim, arith}
+use Rattle.std.proofs.lemmas.Bool.{cases_eq, ne_eqb, eqb-true, eq-eqb}
 use mathlib.Core.Option.{some, none}
 use lib.ListN.{get_elem?, length-set}
 use Rattle.atomic_table.specs.Table.{Me, keeps, step, Allows}
 use Rattle.aio_model.specs.FlagsWord.{bit}
 use Rattle.aio_model.specs.LoopHistory.{Sizes, SetEvent, ClearEvent, History}
-use Rattle.aio_model.specs.LoopLists.{is_announced, stack_of, out_of, is_set}
+use Rattle.aio_model.specs.LoopLists.{stack_of, out_of, is_set}
 use Rattle.aio_model.specs.LoopSeats.{owns, home}
 use Rattle.aio_model.specs.InFlight.{Reason, ForIndex, ForEvent, ForNothing, AtRest, ToStore, flight_of}
 use Rattle.aio_chain.specs.Chains.{IsChain}
 use Rattle.aio_chain.proofs.Chains.{chain_kept}
-use Rattle.aio_core.specs.Words.{head_at, notified_at, notify_me_at, notifier_at, event_at, flags_at, next_at, next_in}
-use Rattle.aio_core.specs.Known.{Done, EventSetSwap, EventClearSwap, EventLoad, empty_stage, Scan, Sleep, Running, Scanning, Armed, ToDisarm, Committed, Known, numbers_of}
-use Rattle.aio_core.specs.Rule.{push_of, store_of, is_wanted, is_among, is_open, AreCovered, IsScan, Sleeps, SleepStands, EventsStand, Stands, Kept}
+use Rattle.aio_core.specs.Words.{head_at, notified_at, notify_me_at, notifier_at, event_at, next_at, next_in}
+use Rattle.aio_core.specs.Known.{Done, EventSetSwap, EventClearSwap, EventLoad, Scan, Sleep, Running, Scanning, Armed, ToDisarm, Committed, Known, numbers_of}
+use Rattle.aio_core.specs.Rule.{push_of, store_of, is_wanted, is_among, AreCovered, IsScan, Sleeps, EventsStand, Stands, Kept}
 use Rattle.aio_core.specs.Standing.{done, Makes}
-use Rattle.aio_core.specs.SleepSteps.{made_after, SetsEvent, ClearsEvent, after_event, LooksAtEvent, after_any_load, LoadsEvent}
-use Rattle.aio_core.specs.Plays.{event_set, event_cleared, event_looked_at, event_loaded}
-use Rattle.aio_core.proofs.Placing.{same_lot, same_entry, same_hand, no_lot_here, slots_kept}
+use Rattle.aio_core.specs.SleepSteps.{made_after, SetsEvent, ClearsEvent, after_event, after_any_load, LoadsEvent}
+use Rattle.aio_core.specs.Plays.{event_set, event_cleared, event_loaded}
+use Rattle.aio_core.proofs.Slots.{same_lot, same_entry, same_hand, slots_kept}
 use Rattle.aio_core.proofs.Entries.{owns_first}
-use Rattle.aio_core.proofs.Seats.{IsSame, seats_make, seats_keep, makes_of}
+use Rattle.aio_core.proofs.Seats.{seats_make, seats_keep, makes_of}
 use Rattle.aio_core.proofs.Histories.{owed_still}
 use Rattle.aio_core.proofs.Flags.{read_here, read_else, flags_apart}
 use Rattle.aio_core.proofs.Lists.{claimed_still, each_all, owes_kept, has_out_kept, lists_after}
@@ -168,14 +168,10 @@ event_clear_allowed number sizes slots id e me numbered is_home below s kept lon
     let told : ClearsEvent e found v w = record { makes = subst (λ b. Makes (ClearEvent e b) v w) (sym was) (makes_of sizes h (ClearEvent e (is_set e h)) v w (stand.seats.each id v at) numbered refl refl now.legal); rest = refl } in
     (w, keeps, tt, (ClearEvent e (is_set e h) ∷ h, now, slots_kept number sizes h (ClearEvent e (is_set e h) ∷ h) s.homes s.views id me.0 w kept.2 at refl (λ m low. (same_lot (sizes.handles + m) (ClearEvent e (is_set e h)) h refl refl refl refl, same_hand (sizes.handles + m) me.0.stage w.stage refl refl))), (refl, λ other same. let is_e : e ≡ other = omega arith in subst (λ k. ClearsEvent k found v w) is_e told))
 
--- A look at an event, on the way to sleep: one that isn't set is watched from then on.
+-- A look at an event by home: one that isn't set is watched from then on, where a scan is fresh.
 
 abbrev pub watching : Scan → ℕ → Scan
 watching scan e = record scan { watched = e ∷ scan.watched }
-
-abbrev pub after_event_load : Known → Scan → ℕ → ℕ → Known
-after_event_load v scan e found =
-    record v { did = done EventLoad (event_at e) found ∷ v.did; sleep = after_event found e (made_after v) scan }
 
 among_other : (other e : ℕ) (rest : List ℕ) → other ≢ e → is_among other (e ∷ rest) ≡ is_among other rest
 among_other other e rest ne = let away : eqb other e ≡ false = ne_eqb other e ne in rw away refl
@@ -208,34 +204,6 @@ module _ (sizes : Sizes) (h : History) (words : List ℕ) (views : List Known) (
   event_sleep w d phase false set_now =
       (home_sleeps sizes h words views id v stand at is_home (Scanning made scan) asleep).0
 
-scans_same : (m n : ℕ) (s t : Scan) → Scanning m s ≡ Scanning n t → s ≡ t
-scans_same m n s t e = cc
-
-pub event_load_allowed : {J : Type 0} (number : J → ℕ) (sizes : Sizes) (slots id made e : ℕ) (scan : Scan) (me : Me (Option J) Known) → 0 < me.0.count → owns (numbers_of me.0) home ≡ true → me.0.sleep ≡ Scanning made scan → made ≡ length me.0.did → e < 64 → Allows (Kept number sizes) slots id me (event_at e) (λ n. n) (event_looked_at (step slots (event_at e) 0 0 none) me)
-event_load_allowed number sizes slots id made e scan me numbered is_home asleep fresh below s kept long at fits_word =
-    let h = kept.0 in
-    let stand = kept.1 in
-    let v = me.0 in
-    let found = slice_index s.words (event_at e) in
-    let w = after_event_load v scan e found in
-    let sleep = sleep_home sizes h s.words s.views id v stand at is_home s.words w refl refl (stand.sleep.notified, stand.sleep.notifier) (event_sleep sizes h s.words s.views id v made e scan stand at is_home asleep fresh below w (done EventLoad (event_at e) found) refl (eqb found 0) refl) in
-    let seats = seats_keep sizes h s.views id v w stand.seats at (record { sizes_are = refl; numbers_are = refl; told_is = refl }) refl refl numbered in
-    let told : LooksAtEvent e found scan v w = record { rest = refl } in (
-      w,
-      keeps,
-      tt,
-      (h, subst (λ ws. Stands sizes h ws (set s.views id w)) (sym (loaded_words s.words (event_at e))) (view_stands sizes h s.words s.views id v w stand seats (stand.lists.owed id v at) (stand.lists.out id v at) sleep), slots_kept number sizes h h s.homes s.views id me.0 w kept.2 at refl (λ m low. (same_entry h (sizes.handles + m), same_hand (sizes.handles + m) me.0.stage w.stage refl refl))),
-      (
-        refl,
-        λ made' other scan' same_word asleep'.
-            let same : scan ≡ scan' = scans_same made made' scan scan' (sym asleep ∙ asleep') in
-            let is_e : e ≡ other = omega arith in
-            subst (λ k. LooksAtEvent k found scan' v w) is_e (subst (λ x. LooksAtEvent e found x v w) same told),
-      ),
-    )
-
--- A look at an event by home, wherever it is on its way.
-
 bit_at_most : (b : Bool) → bit b ≤ 1
 bit_at_most true = omega arith
 bit_at_most false = omega arith
@@ -258,8 +226,8 @@ module _ (sizes : Sizes) (h : History) (words : List ℕ) (views : List Known) (
       by ToDisarm q s = s
       by (Committed watched) q s = own (Committed watched) s
 
-pub any_event_load_allowed : {J : Type 0} (number : J → ℕ) (sizes : Sizes) (slots id e : ℕ) (me : Me (Option J) Known) → 0 < me.0.count → owns (numbers_of me.0) home ≡ true → e < 64 → Allows (Kept number sizes) slots id me (event_at e) (λ n. n) (event_loaded (step slots (event_at e) 0 0 none) me)
-any_event_load_allowed number sizes slots id e me numbered is_home below s kept long at fits_word =
+pub event_load_allowed : {J : Type 0} (number : J → ℕ) (sizes : Sizes) (slots id e : ℕ) (me : Me (Option J) Known) → 0 < me.0.count → owns (numbers_of me.0) home ≡ true → e < 64 → Allows (Kept number sizes) slots id me (event_at e) (λ n. n) (event_loaded (step slots (event_at e) 0 0 none) me)
+event_load_allowed number sizes slots id e me numbered is_home below s kept long at fits_word =
     let h = kept.0 in
     let stand = kept.1 in
     let v = me.0 in

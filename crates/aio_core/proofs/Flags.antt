@@ -1,6 +1,6 @@
 -- The rule's part on flags: what keeps it when a word changes.
-use Rattle.std.proofs.Common.{◌≡◌, ◌≢◌, ℕ, ◌<◌, Bool, true, false, cond, eqb, ltb, ◌+◌, List, [], ◌∷◌, length, set, get_or-set_same, get_or-set_other, slice_index, refl, sym, ap, ◌∙◌, subst, ⊎_elim, arith}
-use Rattle.std.proofs.lemmas.Bool.{cond-true, cases_eq, cases_Bool, and_parts, and_from, not-true, not_from_false, ltb-true, lt-ltb, eq-eqb, ne_eqb}
+use Rattle.std.proofs.Common.{◌≡◌, ◌≢◌, ℕ, ◌<◌, Bool, true, false, cond, eqb, ltb, List, [], ◌∷◌, length, set, get_or-set_same, get_or-set_other, slice_index, refl, sym, ap, ◌∙◌, subst, ⊎_elim, arith}
+use Rattle.std.proofs.lemmas.Bool.{cond-true, cases_eq, and_parts, not-true, lt-ltb, eq-eqb, ne_eqb}
 use Rattle.aio_model.specs.declared.flags.Flags.{Flags}
 use Rattle.aio_model.specs.FlagsWord.{bit, word_of}
 use Rattle.aio_model.specs.LoopLists.{is_set}
@@ -9,7 +9,7 @@ use Rattle.aio_model.specs.LoopFlags.{has_life, is_lot, flags_of, is_once}
 use Rattle.aio_model.specs.LoopLegal.{MayAsk}
 use Rattle.aio_core.specs.Words.{event_at, flags_at, index_count, word_count, flags_word, free_word}
 use Rattle.aio_core.specs.Rule.{FlagsStand, EventsStand}
-use Rattle.aio_core.proofs.Masks.{word_of-below, enqueued_flags, canceled_flags, dequeued_flags}
+use Rattle.aio_core.proofs.Masks.{enqueued_flags, canceled_flags, dequeued_flags}
 
 -- the word of what has a life
 pub word_alive : (sizes : Sizes) (i : ℕ) (h : History) → has_life sizes i h ≡ true → flags_word sizes i h ≡ word_of (flags_of i h)

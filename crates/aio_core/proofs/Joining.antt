@@ -17,7 +17,6 @@ use Rattle.aio_core.specs.Rule.{EachView, AreApart, IsPart, AreParts, NoneMissed
 use Rattle.aio_core.specs.Joining.{both_numbers, told_of, joined_known, spent_known, IsJoined}
 use Rattle.aio_core.specs.Plays.{learned}
 use Rattle.aio_core.proofs.Splitting.{HasSlots}
-use Rattle.aio_core.proofs.Placing.{same_lot, same_entry, same_hand, no_lot_here, slots_kept}
 use Rattle.aio_core.proofs.Entries.{own-append}
 use Rattle.aio_core.proofs.Seats.{each_set}
 use Rattle.aio_core.proofs.Keeping.{loaded_words}

@@ -5,7 +5,7 @@ pub mod Masks
 pub mod Flags
 pub mod Lists
 pub mod Sleeping
-pub mod Placing
+pub mod Slots
 pub mod Wanting
 pub mod Enqueuing
 pub mod Keeping
@@ -17,10 +17,16 @@ pub mod Taking
 pub mod Lifting
 pub mod Dequeuing
 pub mod Notifying
+pub mod Pushed
 pub mod Scanning
+pub mod Arming
 pub mod Eventing
 pub mod Settling
-pub mod Lots
+pub mod Lives
+pub mod Claiming
+pub mod Delivering
+pub mod Fetching
+pub mod Freeing
 pub mod Splitting
 pub mod Joining
 pub mod Opening

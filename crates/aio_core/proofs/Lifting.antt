@@ -10,7 +10,7 @@ use Rattle.aio_core.specs.Known.{NextLoad, Known, numbers_of}
 use Rattle.aio_core.specs.Rule.{is_at_hand, IsOut, NoneEmpty, HasOut, Kept}
 use Rattle.aio_core.specs.Standing.{done, without_first, Lifts}
 use Rattle.aio_core.specs.Plays.{next_loaded}
-use Rattle.aio_core.proofs.Placing.{same_lot, same_entry, same_hand, no_lot_here, slots_kept}
+use Rattle.aio_core.proofs.Slots.{same_entry, no_lot_here, slots_kept}
 use Rattle.aio_core.proofs.Histories.{out_below}
 use Rattle.aio_core.proofs.Keeping.{load_stands}
 use Rattle.aio_core.proofs.Sleeping.{same_flight}

@@ -1,21 +1,21 @@
 -- The three steps of a notify keep the rule.
-use Rattle.std.proofs.Common.{◌+◌, Option, ◌≡◌, ◌≢◌, ℕ, ◌<◌, ◌≤◌, Bool, true, false, cond, eqb, List, ◌∷◌, set, slice_index, inl, inr, refl, sym, ap, ◌∙◌, subst, ⊎_elim, arith}
+use Rattle.std.proofs.Common.{◌+◌, Option, ◌≡◌, ℕ, ◌<◌, ◌≤◌, Bool, true, false, cond, eqb, List, ◌∷◌, set, slice_index, inl, inr, refl, sym, ap, ◌∙◌, subst, ⊎_elim, arith}
 use Rattle.std.proofs.lemmas.Bool.{ne_eqb}
 use mathlib.Core.Option.{some, none}
 use lib.ListN.{get_elem?, length-set}
 use Rattle.atomic_table.specs.Table.{Me, keeps, step, Allows}
 use Rattle.aio_model.specs.LoopHistory.{Sizes, History}
-use Rattle.aio_model.specs.LoopLists.{is_announced, stack_of, out_of}
+use Rattle.aio_model.specs.LoopLists.{stack_of, out_of}
 use Rattle.aio_model.specs.LoopSeats.{owns, home}
 use Rattle.aio_model.specs.InFlight.{Reason, ForIndex, ForNothing, Phase, AtRest, LotClaimed, Announced, HeadLoaded, Linked, ToStore, ToLoad, ToSet, flight_of}
 use Rattle.aio_chain.specs.Chains.{IsChain}
 use Rattle.aio_chain.proofs.Chains.{chain_kept}
 use Rattle.aio_core.specs.Words.{head_at, notified_at, notify_me_at, notifier_at, next_at, next_in}
-use Rattle.aio_core.specs.Known.{Done, Sleep, NotifiedStore, NotifyMeLoad, NotifierSwap, Known, numbers_of}
+use Rattle.aio_core.specs.Known.{NotifiedStore, NotifyMeLoad, NotifierSwap, Known, numbers_of}
 use Rattle.aio_core.specs.Rule.{Owes, HasOut, push_of, store_of, is_wanted, AreCovered, IsSleepSafe, Sleeps, SleepStands, Stands, Kept}
 use Rattle.aio_core.specs.Standing.{may_notify, done, after_load, StoresNotified, LoadsNotifyMe, SetsNotifier}
 use Rattle.aio_core.specs.Plays.{notified_stored, notify_me_loaded, notifier_set}
-use Rattle.aio_core.proofs.Placing.{same_lot, same_entry, same_hand, no_lot_here, slots_kept}
+use Rattle.aio_core.proofs.Slots.{same_entry, same_hand, slots_kept}
 use Rattle.aio_core.proofs.Seats.{IsSame, seats_keep}
 use Rattle.aio_core.proofs.Flags.{events_apart, read_here, read_else, flags_apart}
 use Rattle.aio_core.proofs.Lists.{each_all, owes_kept, has_out_kept, lists_after}

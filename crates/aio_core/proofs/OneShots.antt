@@ -1,17 +1,17 @@
 -- What the calls on lots say, from what their steps tell.
-use Rattle.std.proofs.Common.{◌≡◌, ◌≢◌, ℕ, ◌+◌, ◌-◌, ◌<◌, ◌≤◌, Bool, true, false, not, cond, eqb, ltb, Option, Some, None, MatchBool, MatchOption, List, [], ◌∷◌, ◌++◌, refl, sym, ap, ◌∙◌, subst, arith}
-use Rattle.std.proofs.lemmas.Bool.{and_parts, and_from, eq-eqb, ne_eqb, lt-ltb, le-ltb, ltb-true, ltb-false, not-true}
+use Rattle.std.proofs.Common.{◌≡◌, ℕ, ◌+◌, ◌<◌, ◌≤◌, Bool, true, false, not, cond, eqb, Option, Some, None, MatchOption, List, [], ◌∷◌, ◌++◌, refl, sym, ap, ◌∙◌, subst, arith}
+use Rattle.std.proofs.lemmas.Bool.{and_from, ne_eqb, lt-ltb, le-ltb, ltb-false, not-true}
 use Rattle.aio_model.specs.declared.flags.Flags.{Flags}
 use Rattle.aio_model.specs.LoopHistory.{Sizes, ToCallOnce, New, Enqueue, Put, Cancel, Take, Dequeue, Free, SetEvent, ClearEvent, History}
 use Rattle.aio_model.specs.FlagsWord.{flags_in}
-use Rattle.aio_model.specs.LoopFlags.{is_lot, is_pending, are_due}
+use Rattle.aio_model.specs.LoopFlags.{is_lot, are_due}
 use Rattle.aio_model.specs.LoopLists.{job_of}
 use Rattle.aio_model.specs.LoopLegal.{MayFollow, IsLegal}
 use Rattle.aio_model.proofs.AnnouncedOnce.{fits, lot_is_no_handle}
 use Rattle.aio_model.proofs.LotLives.{may_free-dequeued}
-use Rattle.aio_core.specs.Known.{LotClaimCompare, Known}
-use Rattle.aio_core.specs.Words.{free_word, flags_at, index_count}
-use Rattle.aio_core.specs.Standing.{Claims, Enqueues, Lifts, Dequeues, Looks, PlacesJob}
+use Rattle.aio_core.specs.Known.{Known}
+use Rattle.aio_core.specs.Words.{free_word, index_count}
+use Rattle.aio_core.specs.Standing.{Claims, Lifts, Dequeues, PlacesJob}
 use Rattle.aio_core.specs.Plays.{Enqueued, Dequeued}
 use Rattle.aio_core.specs.Calls.{IsTaken, HasLifted, DequeuesNext}
 use Rattle.aio_core.proofs.Told.{dequeues_told}
@@ -96,10 +96,15 @@ lot_dequeued_next sizes i word found job flags more v m w sizes_are lot first li
     }
 
 -- a lot that was dequeued may be freed
-pub may_free-next : (i job : ℕ) (flags : Flags) (v w : Known) → DequeuesNext i flags (Some job) v w → MayFollow v.sizes (Free i) w.seen
-may_free-next i job flags v w next =
+pub may_free-lot : (i : ℕ) (job : Option ℕ) (flags : Flags) (v w : Known) → v.sizes.handles ≤ i → DequeuesNext i flags job v w → MayFollow v.sizes (Free i) w.seen
+may_free-lot i job flags v w above next =
     let makes = next.dequeues.makes in
     let sizes : next.lifted.sizes ≡ v.sizes = ap (λ (k : Known). k.sizes) next.lifts.rest in
     let legal : IsLegal v.sizes (Dequeue i (are_due flags) ∷ (makes.others ++ next.lifted.seen)) = subst (λ z. IsLegal z (Dequeue i (are_due flags) ∷ (makes.others ++ next.lifted.seen))) sizes (subst (IsLegal next.lifted.sizes) makes.seen makes.legal) in
-    let lot : is_lot v.sizes i ≡ true = and_from _ _ (sym next.of_lot) (lt-ltb i (v.sizes.handles + v.sizes.lots) next.below) in
+    let lot : is_lot v.sizes i ≡ true = and_from _ _ (ap not (le-ltb i v.sizes.handles above)) (lt-ltb i (v.sizes.handles + v.sizes.lots) next.below) in
     subst (MayFollow v.sizes (Free i)) (sym makes.seen) (may_free-dequeued v.sizes i (are_due flags) (makes.others ++ next.lifted.seen) legal lot)
+
+-- what had a job is a lot
+pub may_free-next : (i job : ℕ) (flags : Flags) (v w : Known) → DequeuesNext i flags (Some job) v w → MayFollow v.sizes (Free i) w.seen
+may_free-next i job flags v w next =
+    may_free-lot i (Some job) flags v w (ltb-false i v.sizes.handles (not-true _ (sym next.of_lot))) next

@@ -1,18 +1,18 @@
 -- What a scan has found, from what its steps tell.
-use Rattle.std.proofs.Common.{◌≡◌, ◌⊎◌, ℕ, suc, ◌+◌, ◌<◌, ◌≤◌, Bool, true, false, not, cond, ◌&&◌, ◌||◌, eqb, ltb, leb, Option, Some, None, MatchOption, MatchBool, List, [], ◌∷◌, ◌++◌, drop, length, inl, inr, refl, sym, ap, ◌∙◌, subst, ⊎_elim, arith, append-nil, append_assoc}
+use Rattle.std.proofs.Common.{◌≡◌, ◌⊎◌, ℕ, ◌≤◌, Bool, true, false, not, cond, ◌&&◌, ◌||◌, eqb, Option, Some, None, MatchOption, MatchBool, List, [], ◌∷◌, ◌++◌, drop, length, inr, refl, sym, ap, ◌∙◌, subst, ⊎_elim, arith, append-nil, append_assoc}
 use Rattle.std.proofs.lemmas.Bool.{and_parts, and_from, lt-ltb, le-leb, eqb-false, not_from_false}
 use Rattle.aio_model.specs.declared.flags.Flags.{Flags}
-use Rattle.aio_model.specs.FlagsWord.{word_of, flags_in}
+use Rattle.aio_model.specs.FlagsWord.{flags_in}
 use Rattle.aio_model.specs.LoopHistory.{Sizes}
-use Rattle.aio_model.specs.LoopFlags.{flags_of, are_due, are_urgent, is_urgent}
+use Rattle.aio_model.specs.LoopFlags.{are_due, are_urgent, is_urgent}
 use Rattle.aio_model.specs.LoopLists.{stack_of, out_of}
 use Rattle.aio_model.proofs.FlagsWords.{flags_in-word_of}
 use Rattle.aio_core.specs.Words.{index_count}
 use Rattle.aio_core.specs.HomeState.{are_within}
-use Rattle.aio_core.specs.Known.{Done, Stage, Scan, Sleep, Running, Scanning, Known}
+use Rattle.aio_core.specs.Known.{Stage, Scan, Sleep, Running, Scanning, Known}
 use Rattle.aio_core.specs.Standing.{is_empty, without_first}
-use Rattle.aio_core.specs.SleepSteps.{scan_of, scan_in, is_scanning, made_after, BeginsScan, ScansNext, after_flags, ScansFlags}
-use Rattle.aio_core.specs.Scans.{ScanFrom, ScansOn, ScanIsOver, ScanMeets, SameButSleep, LookedAt, Passes, PassesAll, some_idle, none_urgent, indices_of, IsAhead, FoundNone, FoundUrgent, Scans, ScanSoFar}
+use Rattle.aio_core.specs.SleepSteps.{scan_of, scan_in, is_scanning, made_after, BeginsScan, ScansNext, ScansFlags}
+use Rattle.aio_core.specs.Scans.{ScanFrom, ScansOn, ScanIsOver, ScanMeets, SameButSleep, LookedAt, Passes, PassesAll, indices_of, IsAhead, FoundNone, FoundUrgent, Scans}
 use Rattle.aio_core.specs.Plays.{FlagsAreScanned}
 
 within_lifted : (sizes : Sizes) (word : ℕ) (more : List ℕ) (b : Bool) → eqb word 0 ≡ b → word ≤ index_count sizes → are_within sizes more ≡ true → are_within sizes (cond b more (word ∷ more)) ≡ true

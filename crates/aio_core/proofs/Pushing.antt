@@ -15,7 +15,7 @@ use Rattle.aio_core.specs.Known.{HeadCompare, Known, numbers_of}
 use Rattle.aio_core.specs.Rule.{IsOwed, Owes, push_of, store_of, Stands, Kept}
 use Rattle.aio_core.specs.Standing.{done, index_in, Pushes, Misses}
 use Rattle.aio_core.specs.Plays.{head_compared}
-use Rattle.aio_core.proofs.Placing.{same_lot, same_entry, same_hand, no_lot_here, slots_kept}
+use Rattle.aio_core.proofs.Slots.{same_lot, same_entry, same_hand, slots_kept}
 use Rattle.aio_core.proofs.Entries.{owns_first}
 use Rattle.aio_core.proofs.Seats.{seats_make, makes_of}
 use Rattle.aio_core.proofs.Histories.{owed_still}

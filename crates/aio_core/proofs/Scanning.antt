@@ -1,112 +1,35 @@
--- The steps of a home on its way to sleep keep the rule: scan, arm, test, disarm, accept.
-use Rattle.std.proofs.Common.{◌≡◌, ◌≢◌, ◌⊎◌, ℕ, zero, suc, ◌+◌, ◌-◌, ◌%◌, ◌^◌, ◌<◌, ◌≤◌, Bool, true, false, not, cond, ◌&&◌, ◌||◌, eqb, Option, Some, None, List, [], ◌∷◌, ◌++◌, drop, length, set, slice_index, inl, inr, refl, sym, ap, ◌∙◌, subst, ⊎_elim, arith}
-use Rattle.std.proofs.lemmas.Bool.{and_parts, cases_eq, cases_Bool, ne_eqb, eqb-true, eqb-false, eq-eqb, or_cases}
+-- The loads of a scan keep the rule.
+use Rattle.std.proofs.Common.{◌≡◌, ◌≢◌, ℕ, ◌+◌, ◌<◌, ◌≤◌, Bool, true, false, cond, ◌||◌, eqb, Option, Some, None, List, [], ◌∷◌, ◌++◌, drop, length, set, slice_index, inl, inr, refl, sym, ap, ◌∙◌, subst, ⊎_elim, arith}
+use Rattle.std.proofs.lemmas.Bool.{cases_eq, ne_eqb, eqb-true, eqb-false, eq-eqb}
 use mathlib.Core.Option.{some, none}
-use lib.ListN.{get_elem?, length-set}
+use lib.ListN.{get_elem?}
 use Rattle.atomic_table.specs.Table.{Me, keeps, step, Allows}
-use Rattle.aio_model.specs.declared.flags.Flags.{Flags}
-use Rattle.aio_model.specs.FlagsWord.{bit, word_of, flags_in}
+use Rattle.aio_model.specs.FlagsWord.{word_of}
 use Rattle.aio_model.specs.LoopHistory.{Sizes, History}
-use Rattle.aio_model.specs.LoopFlags.{has_life, is_pending, is_scheduled, flags_of, are_due, are_urgent, is_urgent, enqueues, asks, is_scheduling, cancels, ends_round}
-use Rattle.aio_model.specs.LoopHistory.{Entry, New, Enqueue, Put, Cancel, Take, Dequeue, Free, SetEvent, ClearEvent}
-use Rattle.aio_model.specs.LoopLists.{was_put, is_announced, stack_of, out_of}
+use Rattle.aio_model.specs.LoopFlags.{flags_of, are_urgent, is_urgent}
+use Rattle.aio_model.specs.LoopLists.{was_put, stack_of, out_of}
 use Rattle.aio_model.specs.LoopLegal.{IsLegal}
-use Rattle.aio_model.specs.LoopLaws.{times_of}
-use Rattle.aio_model.specs.LoopSeats.{owns, own_entries, home, IsSeenOf}
-use Rattle.aio_model.specs.InFlight.{Reason, ForIndex, ForEvent, ForNothing, Phase, flight_of}
+use Rattle.aio_model.specs.LoopSeats.{owns, home}
+use Rattle.aio_model.specs.InFlight.{ForIndex, ForEvent, ForNothing, Phase}
 use Rattle.aio_model.proofs.AnnouncedOnce.{fits}
-use Rattle.aio_model.proofs.Indices.{times_of-append}
-use Rattle.aio_model.proofs.FlagsWords.{flags_in-word_of}
 use Rattle.aio_chain.specs.Chains.{IsChain, AreChains}
-use Rattle.aio_chain.proofs.Chains.{Each, none_taken}
+use Rattle.aio_chain.proofs.Chains.{none_taken}
 use Rattle.aio_core.specs.Words.{head_at, notified_at, notify_me_at, notifier_at, flags_at, next_at, index_count, next_in}
-use Rattle.aio_core.specs.Known.{Done, ScanHeadLoad, ScanNextLoad, ScanFlagsLoad, ArmFetchAdd, TestLoad, DisarmFetchSub, AcceptStore, NotifierClearSwap, Stage, empty_stage, Scan, Sleep, Running, Scanning, Armed, ToDisarm, Committed, is_running, Known, numbers_of}
-use Rattle.aio_core.specs.Rule.{SeatsStand, IsSeat, IsOut, NoneEmpty, HasOut, push_of, store_of, is_wanted, SomeSeat, WillPush, WillStore, is_among, is_open, AreCovered, IsSleepSafe, IsScan, Sleeps, SleepStands, Stands, Kept}
+use Rattle.aio_core.specs.Known.{Done, ScanHeadLoad, ScanNextLoad, ScanFlagsLoad, Scan, Sleep, Running, Scanning, Armed, ToDisarm, Committed, is_running, Known, numbers_of}
+use Rattle.aio_core.specs.Rule.{IsSeat, IsOut, NoneEmpty, push_of, store_of, SomeSeat, is_among, is_open, AreCovered, IsScan, Sleeps, SleepStands, Stands, Kept}
 use Rattle.aio_core.specs.Standing.{done, is_empty, without_first}
-use Rattle.aio_core.specs.SleepSteps.{is_to_disarm, Learns, scan_of, made_after, BeginsScan, ScansNext, after_flags, ScansFlags, Arms, after_test, Tests, Disarms, ClearsNotifier, Accepts}
-use Rattle.aio_core.specs.Plays.{FlagsAreScanned, scan_begun, scan_lifted, flags_scanned, armed, tested, disarmed, notifier_cleared, accepted}
-use Rattle.aio_core.proofs.Placing.{same_lot, same_entry, same_hand, no_lot_here, slots_kept}
+use Rattle.aio_core.specs.SleepSteps.{Learns, scan_of, made_after, BeginsScan, ScansNext, after_flags, ScansFlags}
+use Rattle.aio_core.specs.Plays.{FlagsAreScanned, scan_begun, scan_lifted, flags_scanned}
+use Rattle.aio_core.proofs.Slots.{same_entry, same_hand, slots_kept}
 use Rattle.aio_core.proofs.Seats.{IsSame, seats_keep, seats_learn}
-use Rattle.aio_core.proofs.Histories.{pending_below, stack_below, on_stack_is_pending, out_is_pending}
-use Rattle.aio_core.proofs.Flags.{read_here, read_else, flags_again}
+use Rattle.aio_core.proofs.Histories.{pending_below, stack_below}
+use Rattle.aio_core.proofs.Flags.{flags_again}
 use Rattle.aio_core.proofs.Keeping.{loaded_words, view_stands}
 use Rattle.aio_core.proofs.Sliced.{chains_empty, chain_word_below, out_lifted, none_empty-lifted, lifted_word_below}
-use Rattle.aio_core.proofs.Sleeping.{something, no_reason, some_set, some_mono, push_stores, store_flies, each_among, sleep_after, sleeps_own}
-use Rattle.aio_core.proofs.Notifying.{word_stands}
+use Rattle.aio_core.proofs.Sleeping.{some_set, some_mono, push_stores, each_among, sleep_after}
+use Rattle.aio_core.proofs.Pushed.{urgent_is_pending, unlisted_is_announced, listed_was_put, put_is_below}
 
--- What an urgent index is.
-
-asked_is_enqueue : (i : ℕ) (e : Entry) → asks is_scheduling i e ≡ true → enqueues i e ≡ true
-asked_is_enqueue i (New j s job) h = absurd cc
-asked_is_enqueue i (Enqueue j asked s was) h = (and_parts (eqb i j) (is_scheduling asked) h).0
-asked_is_enqueue i (Put j s) h = absurd cc
-asked_is_enqueue i (Cancel j s was) h = absurd cc
-asked_is_enqueue i Take h = absurd cc
-asked_is_enqueue i (Dequeue j ran) h = absurd cc
-asked_is_enqueue i (Free j) h = absurd cc
-asked_is_enqueue i (SetEvent e s) h = absurd cc
-asked_is_enqueue i (ClearEvent e was) h = absurd cc
-
-pending_more : (ends canceled asked enqueued scheduled pending : Bool) → (asked ≡ true → enqueued ≡ true) → (scheduled ≡ true → pending ≡ true) → cond (ends || canceled) false (asked || scheduled) ≡ true → cond ends false (enqueued || pending) ≡ true
-pending_more true canceled asked enqueued scheduled pending k l h = absurd cc
-pending_more false true asked enqueued scheduled pending k l h = absurd cc
-pending_more false false true enqueued scheduled pending k l h = ap (λ (b : Bool). b || pending) (k refl)
-pending_more false false false true scheduled pending k l h = refl
-pending_more false false false false scheduled pending k l h = l h
-
-pub scheduled_is_pending : (i : ℕ) (h : History) → is_scheduled i h ≡ true → is_pending i h ≡ true
-scheduled_is_pending i [] is = absurd cc
-scheduled_is_pending i (e ∷ h) is =
-    pending_more (ends_round i e) (cancels i e) (asks is_scheduling i e) (enqueues i e) (is_scheduled i h) (is_pending i h) (asked_is_enqueue i e) (scheduled_is_pending i h) is
-
-pub urgent_is_pending : (i : ℕ) (h : History) → is_urgent i h ≡ true → is_pending i h ≡ true
-urgent_is_pending i h is =
-    scheduled_is_pending i h (and_parts _ _ (and_parts _ _ is).0).0
-
--- Members, by how often they stand there.
-
-among_times : (i : ℕ) (xs : List ℕ) → is_among i xs ≡ true → 1 ≤ times_of i xs
-among_times i [] e = absurd cc
-among_times i (x ∷ xs) e = by (eqb i x) (among_times i xs) e
-  where
-    by : (b : Bool) → (is_among i xs ≡ true → 1 ≤ times_of i xs) → (b || is_among i xs) ≡ true → 1 ≤ bit b + times_of i xs
-    by true k h = omega arith
-    by false k h = let more = k h in omega arith
-
-none_times : (i : ℕ) (xs : List ℕ) → is_among i xs ≡ false → times_of i xs ≡ 0
-none_times i [] e = refl
-none_times i (x ∷ xs) e = by (eqb i x) (none_times i xs) e
-  where
-    by : (b : Bool) → (is_among i xs ≡ false → times_of i xs ≡ 0) → (b || is_among i xs) ≡ false → bit b + times_of i xs ≡ 0
-    by true k h = absurd cc
-    by false k h = let none_left = k h in omega arith
-
--- what is pending and neither in the stack nor out is announced, and what is there was pushed
-is_announced_by : (a p : Bool) (s o : ℕ) → bit a + s + o ≡ bit p → p ≡ true → s + o ≡ 0 → a ≡ true
-is_announced_by true p s o once pending unlisted = refl
-is_announced_by false true s o once pending unlisted = absurd (omega arith)
-is_announced_by false false s o once pending unlisted = absurd cc
-
-was_put_by : (p w : Bool) (s o : ℕ) → bit (p && not w) + s + o ≡ bit p → 1 ≤ s + o → w ≡ true
-was_put_by p true s o once there = refl
-was_put_by true false s o once there = absurd (omega arith)
-was_put_by false false s o once there = absurd (omega arith)
-
-module _ (sizes : Sizes) (h : History) (legal : IsLegal sizes h) where
-  pub unlisted_is_announced : (i : ℕ) → is_pending i h ≡ true → is_among i (stack_of h ++ out_of h) ≡ false → is_announced i h ≡ true
-  unlisted_is_announced i pending unlisted =
-      is_announced_by (is_announced i h) (is_pending i h) (times_of i (stack_of h)) (times_of i (out_of h)) (fits sizes h i legal).once pending (omega (arith, times_of-append i (stack_of h) (out_of h), none_times i (stack_of h ++ out_of h) unlisted))
-
-  pub listed_was_put : (i : ℕ) → is_among i (stack_of h ++ out_of h) ≡ true → was_put i h ≡ true
-  listed_was_put i there =
-      was_put_by (is_pending i h) (was_put i h) (times_of i (stack_of h)) (times_of i (out_of h)) (fits sizes h i legal).once (omega (arith, times_of-append i (stack_of h) (out_of h), among_times i (stack_of h ++ out_of h) there))
-
-  pub put_is_below : (i : ℕ) → was_put i h ≡ true → i < index_count sizes
-  put_is_below i put = pending_below sizes h i legal ((fits sizes h i legal).enqueued put)
-
--- The home.
-
-running_me : (h : History) (words : List ℕ) (views : List Known) (did : List Done) (t : Sleep) → is_running t ≡ true → Sleeps h words views did t → slice_index words notify_me_at ≡ 0
+pub running_me : (h : History) (words : List ℕ) (views : List Known) (did : List Done) (t : Sleep) → is_running t ≡ true → Sleeps h words views did t → slice_index words notify_me_at ≡ 0
 running_me h words views did Running e s = s
 running_me h words views did (Scanning made scan) e s = s.0
 running_me h words views did (Armed made watched) e s = absurd cc
@@ -134,7 +57,7 @@ module _ (sizes : Sizes) (h : History) (words : List ℕ) (views : List Known) (
   covered_still other w left watched phase same covered r wanted closed =
       ⊎_elim (λ s. inl (some_set (λ p. store_of p ≡ r) views id v w at (λ e. ap store_of phase ∙ e) s)) (λ n. inr (same ∙ n)) (covered r wanted closed)
 
-same_view : (v w : Known) → w.sizes ≡ v.sizes → numbers_of w ≡ numbers_of v → w.told ≡ v.told → IsSame v w
+pub same_view : (v w : Known) → w.sizes ≡ v.sizes → numbers_of w ≡ numbers_of v → w.told ≡ v.told → IsSame v w
 same_view v w sizes numbers told = record { sizes_are = sizes; numbers_are = numbers; told_is = told }
 
 learns_of : (sizes : Sizes) (h : History) (v w : Known) → IsSeat sizes h v → 0 < v.count → w.seen ≡ h → IsLegal sizes h → Learns v w
@@ -218,7 +141,7 @@ abbrev pub after_scan_next : Known → Scan → ℕ → ℕ → List ℕ → Kno
 after_scan_next v scan i found more =
     record v { did = done ScanNextLoad (next_at i) found ∷ v.did; sleep = Scanning (made_after v) (lifted_scan scan i found more) }
 
-made_same : (m n : ℕ) (s t : Scan) → Scanning m s ≡ Scanning n t → s ≡ t
+pub made_same : (m n : ℕ) (s t : Scan) → Scanning m s ≡ Scanning n t → s ≡ t
 made_same m n s t e = cc
 
 first_is : (i j : ℕ) (more others : List ℕ) → (i + 1) ∷ more ≡ (j + 1) ∷ others → i ≡ j
@@ -351,158 +274,3 @@ scan_flags_allowed number sizes slots id made i scan me numbered is_home asleep 
   where
     same_some : (a b : ℕ) → Some a ≡ Some b → a ≡ b
     same_some a b e = cc
-
--- The arm.
-
-abbrev pub after_arm : Known → List ℕ → ℕ → Known
-after_arm v watched found =
-    record v { did = done ArmFetchAdd notify_me_at found ∷ v.did; sleep = Armed (made_after v) watched }
-
-pub arm_allowed : {J : Type 0} (number : J → ℕ) (sizes : Sizes) (slots id made : ℕ) (scan : Scan) (me : Me (Option J) Known) → 0 < me.0.count → owns (numbers_of me.0) home ≡ true → me.0.sleep ≡ Scanning made scan → made ≡ length me.0.did → scan.stage ≡ empty_stage → Allows (Kept number sizes) slots id me notify_me_at (λ n. (n + 2) % 2 ^ 64) (armed (step slots notify_me_at 2 0 none) me)
-arm_allowed number sizes slots id made scan me numbered is_home asleep fresh over s kept long at fits_word =
-    let h = kept.0 in
-    let stand = kept.1 in
-    let v = me.0 in
-    let found = slice_index s.words notify_me_at in
-    let w = after_arm v scan.watched found in
-    let words' = set s.words notify_me_at 2 in
-    let count = stand.long in
-    let was = home_sleeps sizes h s.words s.views id v stand at is_home (Scanning made scan) asleep in
-    let old : IsScan scan h s.words s.views = was.2 fresh in
-    let none_left : scan.left ≡ [] = subst (λ (t : Stage). IsOut (next_in s.words) t.slices t.hand scan.left) over old.leads in
-    let new : (found + 2) % 2 ^ 64 ≡ 2 = ap (λ n. (n + 2) % 2 ^ 64) was.0 in
-    let now : slice_index words' notify_me_at ≡ 2 = read_here s.words notify_me_at 2 (omega arith) in
-    let mark : slice_index words' notified_at ≡ slice_index s.words notified_at = read_else s.words notify_me_at notified_at 2 (λ q. omega arith) in
-    let bell : slice_index words' notifier_at ≡ slice_index s.words notifier_at = read_else s.words notify_me_at notifier_at 2 (λ q. omega arith) in
-    let covered = covered_still sizes h s.words s.views id v stand at is_home words' w [] scan.watched refl mark (subst (λ l. AreCovered l scan.watched h s.words s.views) none_left old.covered) in
-    let sleep = sleep_home sizes h s.words s.views id v stand at is_home words' w refl refl (subst (λ n. n ≤ 1) (sym mark) stand.sleep.notified, subst (λ n. n ≤ 1) (sym bell) stand.sleep.notifier) (now, omega arith, λ e. covered) in
-    let told : Arms scan.watched found v w = record { rest = refl } in (
-      w,
-      keeps,
-      tt,
-      (h, subst (λ n. Stands sizes h (set s.words notify_me_at n) (set s.views id w)) (sym new) (word_stands sizes h s.words s.views id notify_me_at 2 v w stand at numbered (same_view v w refl refl refl) refl refl refl (omega arith) (omega arith) (stand.lists.owed id v at) sleep), slots_kept number sizes h h s.homes s.views id me.0 w kept.2 at refl (λ m low. (same_entry h (sizes.handles + m), same_hand (sizes.handles + m) me.0.stage w.stage refl refl))),
-      (
-        refl,
-        λ made' scan' asleep'.
-            let same : scan ≡ scan' = made_same made made' scan scan' (sym asleep ∙ asleep') in
-            subst (λ (x : Scan). Arms x.watched found v w) same told,
-      ),
-    )
-
--- The test.
-
-abbrev pub after_testing : Known → List ℕ → ℕ → Known
-after_testing v watched found =
-    record v { did = done TestLoad notified_at found ∷ v.did; sleep = after_test found watched }
-
-armed_same : (m n : ℕ) (a b : List ℕ) → Armed m a ≡ Armed n b → a ≡ b
-armed_same m n a b e = cc
-
-module _ (sizes : Sizes) (h : History) (words : List ℕ) (views : List Known) (id : ℕ) (v : Known) (made : ℕ) (watched : List ℕ) (stand : Stands sizes h words views) (at : get_elem? views id ≡ some v) (is_home : owns (numbers_of v) home ≡ true) (asleep : v.sleep ≡ Armed made watched) (fresh : made ≡ length v.did) where
-  abbrev mark_now : ℕ
-  mark_now = slice_index words notified_at
-
-  test_sleep : (w : Known) (did : List Done) → w.phase ≡ v.phase → (b : Bool) → eqb mark_now 0 ≡ b → Sleeps h words (set views id w) did (cond b (Committed watched) ToDisarm)
-  test_sleep w did phase true zero_found =
-      let was = home_sleeps sizes h words views id v stand at is_home (Armed made watched) asleep in
-      let none_stored : mark_now ≡ 0 = eqb-true mark_now 0 zero_found in
-      (was.0, λ r wanted closed. ⊎_elim (λ s. inl (some_set (λ p. flight_of p ≡ r) views id v w at (λ e. ap flight_of phase ∙ e) (some_mono (λ p. store_of p ≡ r) (λ p. flight_of p ≡ r) views (λ p. store_flies r h p wanted) s))) (λ n. absurd (omega arith)) (was.2 fresh r wanted closed))
-  test_sleep w did phase false found =
-      (home_sleeps sizes h words views id v stand at is_home (Armed made watched) asleep).0
-
-pub test_allowed : {J : Type 0} (number : J → ℕ) (sizes : Sizes) (slots id made : ℕ) (watched : List ℕ) (me : Me (Option J) Known) → 0 < me.0.count → owns (numbers_of me.0) home ≡ true → me.0.sleep ≡ Armed made watched → made ≡ length me.0.did → Allows (Kept number sizes) slots id me notified_at (λ n. n) (tested (step slots notified_at 0 0 none) me)
-test_allowed number sizes slots id made watched me numbered is_home asleep fresh s kept long at fits_word =
-    let h = kept.0 in
-    let stand = kept.1 in
-    let v = me.0 in
-    let found = slice_index s.words notified_at in
-    let w = after_testing v watched found in
-    let sleep = sleep_home sizes h s.words s.views id v stand at is_home s.words w refl refl (stand.sleep.notified, stand.sleep.notifier) (test_sleep sizes h s.words s.views id v made watched stand at is_home asleep fresh w w.did refl (eqb found 0) refl) in
-    let seats = seats_keep sizes h s.views id v w stand.seats at (same_view v w refl refl refl) refl refl numbered in
-    let told : Tests watched found v w = record { bit = stand.sleep.notified; rest = refl } in (
-      w,
-      keeps,
-      tt,
-      (h, subst (λ ws. Stands sizes h ws (set s.views id w)) (sym (loaded_words s.words notified_at)) (view_stands sizes h s.words s.views id v w stand seats (stand.lists.owed id v at) (stand.lists.out id v at) sleep), slots_kept number sizes h h s.homes s.views id me.0 w kept.2 at refl (λ m low. (same_entry h (sizes.handles + m), same_hand (sizes.handles + m) me.0.stage w.stage refl refl))),
-      (
-        refl,
-        λ made' watched' asleep'.
-            let same : watched ≡ watched' = armed_same made made' watched watched' (sym asleep ∙ asleep') in
-            subst (λ x. Tests x found v w) same told,
-      ),
-    )
-
--- The disarm.
-
-armed_me : (h : History) (words : List ℕ) (views : List Known) (did : List Done) (t : Sleep) → is_to_disarm t ≡ true → Sleeps h words views did t → slice_index words notify_me_at ≡ 2
-armed_me h words views did Running e s = absurd cc
-armed_me h words views did (Scanning made scan) e s = absurd cc
-armed_me h words views did (Armed made watched) e s = absurd cc
-armed_me h words views did ToDisarm e s = s
-armed_me h words views did (Committed watched) e s = s.0
-
-abbrev pub after_disarm : Known → ℕ → Known
-after_disarm v found =
-    record v { did = done DisarmFetchSub notify_me_at found ∷ v.did; sleep = Running }
-
-pub disarm_allowed : {J : Type 0} (number : J → ℕ) (sizes : Sizes) (slots id : ℕ) (me : Me (Option J) Known) → 0 < me.0.count → owns (numbers_of me.0) home ≡ true → is_to_disarm me.0.sleep ≡ true → Allows (Kept number sizes) slots id me notify_me_at (λ n. (n + (2 ^ 64 - 2)) % 2 ^ 64) (disarmed (step slots notify_me_at 2 0 none) me)
-disarm_allowed number sizes slots id me numbered is_home due s kept long at fits_word =
-    let h = kept.0 in
-    let stand = kept.1 in
-    let v = me.0 in
-    let found = slice_index s.words notify_me_at in
-    let w = after_disarm v found in
-    let words' = set s.words notify_me_at 0 in
-    let count = stand.long in
-    let two : found ≡ 2 = armed_me h s.words s.views v.did v.sleep due (stand.sleep.home id v at is_home) in
-    let new : (found + (2 ^ 64 - 2)) % 2 ^ 64 ≡ 0 = ap (λ n. (n + (2 ^ 64 - 2)) % 2 ^ 64) two in
-    let now : slice_index words' notify_me_at ≡ 0 = read_here s.words notify_me_at 0 (omega arith) in
-    let mark : slice_index words' notified_at ≡ slice_index s.words notified_at = read_else s.words notify_me_at notified_at 0 (λ q. omega arith) in
-    let bell : slice_index words' notifier_at ≡ slice_index s.words notifier_at = read_else s.words notify_me_at notifier_at 0 (λ q. omega arith) in
-    let sleep = sleep_home sizes h s.words s.views id v stand at is_home words' w refl refl (subst (λ n. n ≤ 1) (sym mark) stand.sleep.notified, subst (λ n. n ≤ 1) (sym bell) stand.sleep.notifier) now in
-    let told : Disarms found v w = record { rest = refl } in
-    (w, keeps, tt, (h, subst (λ n. Stands sizes h (set s.words notify_me_at n) (set s.views id w)) (sym new) (word_stands sizes h s.words s.views id notify_me_at 0 v w stand at numbered (same_view v w refl refl refl) refl refl refl (omega arith) (omega arith) (stand.lists.owed id v at) sleep), slots_kept number sizes h h s.homes s.views id me.0 w kept.2 at refl (λ m low. (same_entry h (sizes.handles + m), same_hand (sizes.handles + m) me.0.stage w.stage refl refl))), (refl, told))
-
--- Accepting: a running home clears the notifier, and then `notified`.
-
--- what a running home keeps, where `notify_me` stays
-running_sleeps : (h : History) (words other : List ℕ) (views after : List Known) (step : Done) (did : List Done) (t : Sleep) → is_running t ≡ true → slice_index other notify_me_at ≡ slice_index words notify_me_at → Sleeps h words views did t → Sleeps h other after (step ∷ did) t
-running_sleeps h words other views after step did t running same s =
-    sleeps_own h h words other views after same (λ two watched safe r wanted closed. absurd (let none = running_me h words views did t running s in omega arith)) step did t s
-
-abbrev pub after_notifier_clear : Known → ℕ → Known
-after_notifier_clear v found = record v { did = done NotifierClearSwap notifier_at found ∷ v.did }
-
-pub notifier_clear_allowed : {J : Type 0} (number : J → ℕ) (sizes : Sizes) (slots id : ℕ) (me : Me (Option J) Known) → 0 < me.0.count → owns (numbers_of me.0) home ≡ true → is_running me.0.sleep ≡ true → Allows (Kept number sizes) slots id me notifier_at (λ _. 0) (notifier_cleared (step slots notifier_at 0 0 none) me)
-notifier_clear_allowed number sizes slots id me numbered is_home running s kept long at fits_word =
-    let h = kept.0 in
-    let stand = kept.1 in
-    let v = me.0 in
-    let found = slice_index s.words notifier_at in
-    let w = after_notifier_clear v found in
-    let words' = set s.words notifier_at 0 in
-    let count = stand.long in
-    let now : slice_index words' notifier_at ≡ 0 = read_here s.words notifier_at 0 (omega arith) in
-    let mark : slice_index words' notified_at ≡ slice_index s.words notified_at = read_else s.words notifier_at notified_at 0 (λ q. omega arith) in
-    let same : slice_index words' notify_me_at ≡ slice_index s.words notify_me_at = read_else s.words notifier_at notify_me_at 0 (λ q. omega arith) in
-    let sleep = sleep_home sizes h s.words s.views id v stand at is_home words' w refl refl (subst (λ n. n ≤ 1) (sym mark) stand.sleep.notified, omega arith) (running_sleeps h s.words words' s.views (set s.views id w) (done NotifierClearSwap notifier_at found) v.did v.sleep running same (stand.sleep.home id v at is_home)) in
-    let told : ClearsNotifier found v w = record { bit = stand.sleep.notifier; rest = refl } in
-    (w, keeps, tt, (h, word_stands sizes h s.words s.views id notifier_at 0 v w stand at numbered (same_view v w refl refl refl) refl refl refl (omega arith) (omega arith) (stand.lists.owed id v at) sleep, slots_kept number sizes h h s.homes s.views id me.0 w kept.2 at refl (λ m low. (same_entry h (sizes.handles + m), same_hand (sizes.handles + m) me.0.stage w.stage refl refl))), (refl, told))
-
-abbrev pub after_accept : Known → Known
-after_accept v = record v { did = done AcceptStore notified_at 0 ∷ v.did }
-
-pub accept_allowed : {J : Type 0} (number : J → ℕ) (sizes : Sizes) (slots id : ℕ) (me : Me (Option J) Known) → 0 < me.0.count → owns (numbers_of me.0) home ≡ true → is_running me.0.sleep ≡ true → Allows (Kept number sizes) slots id me notified_at (λ _. 0) (λ _. accepted (step slots notified_at 0 0 none) me 0)
-accept_allowed number sizes slots id me numbered is_home running s kept long at fits_word =
-    let h = kept.0 in
-    let stand = kept.1 in
-    let v = me.0 in
-    let w = after_accept v in
-    let words' = set s.words notified_at 0 in
-    let count = stand.long in
-    let now : slice_index words' notified_at ≡ 0 = read_here s.words notified_at 0 (omega arith) in
-    let bell : slice_index words' notifier_at ≡ slice_index s.words notifier_at = read_else s.words notified_at notifier_at 0 (λ q. omega arith) in
-    let same : slice_index words' notify_me_at ≡ slice_index s.words notify_me_at = read_else s.words notified_at notify_me_at 0 (λ q. omega arith) in
-    let sleep = sleep_home sizes h s.words s.views id v stand at is_home words' w refl refl (omega arith, subst (λ n. n ≤ 1) (sym bell) stand.sleep.notifier) (running_sleeps h s.words words' s.views (set s.views id w) (done AcceptStore notified_at 0) v.did v.sleep running same (stand.sleep.home id v at is_home)) in
-    let told : Accepts v w = record { rest = refl } in
-    (w, keeps, tt, (h, word_stands sizes h s.words s.views id notified_at 0 v w stand at numbered (same_view v w refl refl refl) refl refl refl (omega arith) (omega arith) (stand.lists.owed id v at) sleep, slots_kept number sizes h h s.homes s.views id me.0 w kept.2 at refl (λ m low. (same_entry h (sizes.handles + m), same_hand (sizes.handles + m) me.0.stage w.stage refl refl))), (refl, told))

@@ -1,28 +1,28 @@
 -- Who owns all numbers, at rest: it has seen the whole history, nobody is in flight, and a look at the notifier of a committed loop
 -- finds it set where home is not to sleep.
-use Rattle.std.proofs.Common.{Option, ◌≡◌, ◌≢◌, ◌⊎◌, ℕ, suc, ◌+◌, ◌<◌, ◌≤◌, Bool, true, false, not, cond, eqb, List, [], ◌∷◌, ◌++◌, length, set, slice_index, inl, inr, refl, sym, ap, ◌∙◌, subst, ⊎_elim, arith, length-append, eq-zero-or-pos}
+use Rattle.std.proofs.Common.{Option, ◌≡◌, ◌≢◌, ℕ, suc, ◌+◌, ◌<◌, ◌≤◌, Bool, true, false, cond, eqb, List, [], ◌∷◌, ◌++◌, length, set, slice_index, refl, sym, ap, ◌∙◌, subst, ⊎_elim, arith, length-append, eq-zero-or-pos}
 use Rattle.std.proofs.lemmas.Bool.{cases_eq, cases_Bool, eq-eqb, ne_eqb, cond-true}
 use mathlib.Core.Option.{some, none, some-injective}
 use lib.ListN.{get_elem?}
 use Rattle.atomic_table.specs.Table.{Me, keeps, step, Allows}
 use Rattle.aio_model.specs.declared.flags.Flags.{Flags}
 use Rattle.aio_model.specs.FlagsWord.{bit, word_of, flags_in}
-use Rattle.aio_model.specs.LoopHistory.{Sizes, Entry, History}
+use Rattle.aio_model.specs.LoopHistory.{Sizes, History}
 use Rattle.aio_model.specs.LoopFlags.{has_life, is_pending, flags_of}
 use Rattle.aio_model.specs.LoopLists.{seat_of, is_set}
 use Rattle.aio_model.specs.LoopLegal.{IsLegal}
 use Rattle.aio_model.specs.LoopSeats.{Numbers, owns, own_entries}
-use Rattle.aio_model.specs.InFlight.{Reason, ForNothing, Phase, AtRest, LotClaimed, Announced, HeadLoaded, Linked, ToStore, ToLoad, ToSet, is_at_rest, flight_of}
+use Rattle.aio_model.specs.InFlight.{Reason, Phase, AtRest, LotClaimed, Announced, HeadLoaded, Linked, ToStore, ToLoad, ToSet, is_at_rest, flight_of}
 use Rattle.aio_model.proofs.AnnouncedOnce.{fits}
 use Rattle.aio_model.proofs.FlagsWords.{flags_in-word_of}
 use Rattle.aio_core.specs.Words.{notifier_at, event_at, flags_at, index_count, flags_word, free_word}
-use Rattle.aio_core.specs.Known.{NotifierLoad, EventLoad, ScanFlagsLoad, Kind, Sleep, Committed, Known, numbers_of}
-use Rattle.aio_core.specs.Rule.{everyone, SeatsStand, IsSeat, is_wanted, is_open, SomeSeat, IsSleepSafe, Sleeps, Stands, Kept}
+use Rattle.aio_core.specs.Known.{NotifierLoad, EventLoad, ScanFlagsLoad, Kind, Committed, Known, numbers_of}
+use Rattle.aio_core.specs.Rule.{everyone, is_wanted, SomeSeat, Sleeps, Stands, Kept}
 use Rattle.aio_core.specs.Standing.{done, Looks}
 use Rattle.aio_core.specs.SleepSteps.{OwnsAll}
 use Rattle.aio_core.specs.Plays.{notifier_looked_at, event_told, flags_told}
-use Rattle.aio_core.proofs.Placing.{same_lot, same_entry, same_hand, no_lot_here, slots_kept}
-use Rattle.aio_core.proofs.Entries.{own-append, owns_first, owns_everyone, own_of_seen}
+use Rattle.aio_core.proofs.Slots.{same_entry, same_hand, slots_kept}
+use Rattle.aio_core.proofs.Entries.{own-append, owns_first, owns_everyone}
 use Rattle.aio_core.proofs.Keeping.{load_stands}
 use Rattle.aio_core.proofs.Sleeping.{something, same_flight}
 

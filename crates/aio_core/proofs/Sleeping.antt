@@ -1,5 +1,5 @@
 -- The rule's part on sleep: what keeps it when a word, an entry or a view changes.
-use Rattle.std.proofs.Common.{◌≡◌, ◌≢◌, ◌⊎◌, ℕ, zero, suc, ◌<◌, ◌≤◌, Bool, true, false, not, ◌&&◌, ◌||◌, eqb, List, [], ◌∷◌, length, set, slice_index, inl, inr, refl, sym, ap, ◌∙◌, subst, ⊎_elim, arith}
+use Rattle.std.proofs.Common.{◌≡◌, ◌≢◌, ◌⊎◌, ℕ, zero, suc, ◌≤◌, Bool, true, false, not, ◌&&◌, ◌||◌, eqb, List, [], ◌∷◌, length, set, slice_index, inl, inr, refl, sym, ap, ◌∙◌, subst, ⊎_elim, arith}
 use Rattle.std.proofs.lemmas.Bool.{cases_eq, eq-eqb}
 use mathlib.Core.Option.{some, some-injective}
 use lib.ListN.{get_elem?}
@@ -11,8 +11,8 @@ use Rattle.aio_model.specs.LoopSeats.{owns, home}
 use Rattle.aio_model.specs.InFlight.{Reason, ForIndex, ForNothing, Phase, AtRest, LotClaimed, Announced, HeadLoaded, Linked, ToStore, ToLoad, ToSet, flight_of}
 use Rattle.aio_chain.proofs.Chains.{Each}
 use Rattle.aio_core.specs.Words.{notified_at, notify_me_at, notifier_at, next_in}
-use Rattle.aio_core.specs.Known.{Done, Scan, Sleep, Running, Scanning, Armed, ToDisarm, Committed, calmed, Known, numbers_of}
-use Rattle.aio_core.specs.Rule.{SeatsStand, push_of, store_of, is_wanted, SomeSeat, WillPush, is_among, is_open, AreCovered, IsSleepSafe, IsScan, Sleeps, HasSleep, SleepStands}
+use Rattle.aio_core.specs.Known.{Done, Sleep, Running, Scanning, Armed, ToDisarm, Committed, calmed, Known, numbers_of}
+use Rattle.aio_core.specs.Rule.{SeatsStand, push_of, store_of, is_wanted, SomeSeat, WillPush, is_among, AreCovered, IsSleepSafe, Sleeps, HasSleep, SleepStands}
 use Rattle.aio_core.proofs.Seats.{each_set}
 use Rattle.aio_core.proofs.Lists.{is_out_kept}
 

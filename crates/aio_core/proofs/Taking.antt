@@ -14,7 +14,7 @@ use Rattle.aio_core.specs.Known.{TakeSwap, Known, numbers_of}
 use Rattle.aio_core.specs.Rule.{IsOut, NoneEmpty, HasOut, Stands, Kept}
 use Rattle.aio_core.specs.Standing.{done, is_empty, with_slice, Takes}
 use Rattle.aio_core.specs.Plays.{taken}
-use Rattle.aio_core.proofs.Placing.{same_lot, same_entry, same_hand, no_lot_here, slots_kept}
+use Rattle.aio_core.proofs.Slots.{same_lot, same_hand, slots_kept}
 use Rattle.aio_core.proofs.Seats.{seats_make, makes_of}
 use Rattle.aio_core.proofs.Histories.{stack_below, owed_still}
 use Rattle.aio_core.proofs.Flags.{events_apart, read_here, read_else, flags_apart}

@@ -5,7 +5,7 @@ use Rattle.aio_model.specs.declared.flags.Flags.{Flags}
 use Rattle.aio_model.specs.LoopHistory.{Asked, Enqueue, Put, Cancel, Dequeue, History}
 use Rattle.aio_model.specs.LoopFlags.{is_pending, flags_of, are_urgent, is_urgent}
 use Rattle.aio_model.specs.LoopLists.{was_put, is_announced, is_set}
-use Rattle.aio_model.specs.InFlight.{Reason, ForIndex, ForEvent, ForNothing, Phase, Announced, ToStore, flight_of}
+use Rattle.aio_model.specs.InFlight.{Reason, ForIndex, ForEvent, ForNothing, Announced, ToStore}
 use Rattle.aio_core.specs.Rule.{push_of, store_of, is_wanted}
 use Rattle.aio_core.proofs.Masks.{canceled_flags, dequeued_flags}
 use Rattle.aio_core.proofs.Flags.{flags_of-cancel, flags_of-cancel_other, flags_of-dequeue, flags_of-dequeue_other, flags_of-enqueue_other}

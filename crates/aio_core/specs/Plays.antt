@@ -14,7 +14,7 @@ use Rattle.aio_model.specs.LoopLegal.{IsLegal}
 use Rattle.aio_core.specs.Rule.{longer_of, is_wanted, is_open}
 use Rattle.aio_core.specs.Joining.{IsJoined}
 use Rattle.aio_core.specs.Standing.{may_notify, StoresNotified, LoadsNotifyMe, SetsNotifier, Claims, Frees, Looks, done, asked_with, Enqueues, Pushes, Misses, Cancels, Takes, Lifts, Dequeues}
-use Rattle.aio_core.specs.SleepSteps.{BeginsScan, ScansNext, ScansFlags, Arms, Tests, Disarms, ClearsNotifier, Accepts, SetsEvent, ClearsEvent, LooksAtEvent, LoadsEvent, OwnsAll}
+use Rattle.aio_core.specs.SleepSteps.{BeginsScan, ScansNext, ScansFlags, Arms, Tests, Disarms, ClearsNotifier, Accepts, SetsEvent, ClearsEvent, LoadsEvent, OwnsAll}
 
 -- the enqueue of the index whose flags word this is
 pub record Enqueued (i mask found : ℕ) (before after : Known) : Type 0 where
@@ -69,9 +69,9 @@ module _ {S : Type 0} where
   event_cleared step before found after =
       (after.1 ≡ before.1) × ((e : ℕ) → step.word ≡ event_at e → ClearsEvent e found before.0 after.0)
 
-  abbrev pub event_looked_at : Step S → Me S Known → ℕ → Me S Known → Type 0
-  event_looked_at step before found after =
-      (after.1 ≡ before.1) × ((made e : ℕ) (scan : Scan) → step.word ≡ event_at e → before.0.sleep ≡ Scanning made scan → LooksAtEvent e found scan before.0 after.0)
+  abbrev pub event_loaded : Step S → Me S Known → ℕ → Me S Known → Type 0
+  event_loaded step before found after =
+      (after.1 ≡ before.1) × ((e : ℕ) → step.word ≡ event_at e → LoadsEvent e found before.0 after.0)
 
   -- the steps of a home on its way to sleep
   abbrev pub scan_begun : Step S → Me S Known → ℕ → Me S Known → Type 0
@@ -178,8 +178,3 @@ module _ {J : Type 0} (number : J → ℕ) where
   abbrev pub lot_freed : Step (Option J) → Me (Option J) Known → ℕ → Me (Option J) Known → Type 0
   lot_freed step before found after =
       (after.1 ≡ before.1) × ((i : ℕ) → step.word ≡ flags_at i → Frees i before.0 after.0)
-
-module _ {S : Type 0} where
-  abbrev pub event_loaded : Step S → Me S Known → ℕ → Me S Known → Type 0
-  event_loaded step before found after =
-      (after.1 ≡ before.1) × ((e : ℕ) → step.word ≡ event_at e → LoadsEvent e found before.0 after.0)

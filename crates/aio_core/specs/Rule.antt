@@ -12,7 +12,7 @@ use Rattle.aio_model.specs.LoopLegal.{IsLegal}
 use Rattle.aio_model.specs.LoopSeats.{Numbers, owns, own_entries, home, IsSeenOf}
 use Rattle.aio_model.specs.InFlight.{Reason, ForIndex, ForEvent, ForNothing, Phase, AtRest, LotClaimed, Announced, HeadLoaded, Linked, ToStore, ToLoad, ToSet, is_at_rest, flight_of}
 use Rattle.aio_chain.specs.Chains.{IsChain, AreChains}
-use Rattle.aio_core.specs.Words.{head_at, notified_at, notify_me_at, notifier_at, event_at, flags_at, index_count, word_count, flags_word, free_word, next_in}
+use Rattle.aio_core.specs.Words.{head_at, notified_at, notify_me_at, notifier_at, event_at, flags_at, index_count, word_count, flags_word, next_in}
 use Rattle.aio_core.specs.Known.{Done, Stage, Scan, Sleep, Running, Scanning, Armed, ToDisarm, Committed, Told, Known, numbers_of}
 
 -- all numbers: those of seats, and the home's

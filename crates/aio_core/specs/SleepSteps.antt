@@ -123,10 +123,6 @@ abbrev pub after_event : ℕ → ℕ → ℕ → Scan → Sleep
 after_event found e made scan =
     if found == 0 then Scanning made (record scan { watched = e ∷ scan.watched }) else Running
 
--- the event was loaded on the way to sleep
-pub record LooksAtEvent (e found : ℕ) (scan : Scan) (before after : Known) : Type 0 where
-  pub rest : after ≡ record before { did = done EventLoad (event_at e) found ∷ before.did; sleep = after_event found e (made_after before) scan }
-
 -- A look at an event by home wherever it is: one that scans, or has just scanned, goes on as it should; nothing else changes.
 abbrev pub after_any_load : ℕ → ℕ → ℕ → Sleep → Sleep
 after_any_load found e made_now Running = Running

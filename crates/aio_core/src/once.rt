@@ -66,9 +66,11 @@ impl<J: Job> LoopTable<J> {
     {
         let bh = self.index_of_lot(lot);
         let empty = self.table.shared.exchange(inner, lot as usize, job);
-        self.table
-            .shared
-            .fetch_or::<EnqueueLot>(inner, flags_word(bh), Flags::PENDING | Flags::SCHEDULED | Flags::ONESHOT);
+        self.table.shared.fetch_or::<EnqueueLot>(
+            inner,
+            flags_word(bh),
+            Flags::PENDING | Flags::SCHEDULED | Flags::ONESHOT,
+        );
         empty
     }
 

@@ -2,7 +2,7 @@
 ghost use Rattle.aio_core.specs.Known.{first_known};
 ghost use Rattle.aio_core.specs.Splitting.{seats_known, home_known, first_half, last_half};
 ghost use Rattle.aio_core.specs.Joining.{joined_known, spent_known};
-ghost use Rattle.aio_core.specs.Plays.{enqueued, head_loaded, next_stored, head_compared, canceled, taken, next_loaded, dequeued, learned, notified_stored, notify_me_loaded, notifier_set, scan_begun, scan_lifted, flags_scanned, armed, tested, disarmed, notifier_cleared, accepted, notifier_looked_at, flags_told, event_told, event_set, event_cleared, event_looked_at};
+ghost use Rattle.aio_core.specs.Plays.{enqueued, head_loaded, next_stored, head_compared, canceled, taken, next_loaded, dequeued, learned, notified_stored, notify_me_loaded, notifier_set, scan_begun, scan_lifted, flags_scanned, armed, tested, disarmed};
 
 use crate::job::Job;
 use crate::sizes::Counts;
@@ -152,54 +152,6 @@ pub struct Disarm;
 
 impl<S> Play<S, View> for Disarm {
     ghost then = { disarmed };
-}
-
-pub struct ClearNotifier;
-
-impl<S> Play<S, View> for ClearNotifier {
-    ghost then = { notifier_cleared };
-}
-
-pub struct Accept;
-
-impl<S> Play<S, View> for Accept {
-    ghost then = { accepted };
-}
-
-pub struct LookAtNotifier;
-
-impl<S> Play<S, View> for LookAtNotifier {
-    ghost then = { notifier_looked_at };
-}
-
-pub struct LookAtFlags;
-
-impl<S> Play<S, View> for LookAtFlags {
-    ghost then = { flags_told };
-}
-
-pub struct LookAtEvent;
-
-impl<S> Play<S, View> for LookAtEvent {
-    ghost then = { event_told };
-}
-
-pub struct SetEvent;
-
-impl<S> Play<S, View> for SetEvent {
-    ghost then = { event_set };
-}
-
-pub struct ClearEvent;
-
-impl<S> Play<S, View> for ClearEvent {
-    ghost then = { event_cleared };
-}
-
-pub struct WatchEvent;
-
-impl<S> Play<S, View> for WatchEvent {
-    ghost then = { event_looked_at };
 }
 
 /// A seat of the base crate.

@@ -1,6 +1,6 @@
-ghost use Rattle.std.specs.Prelude.{◌≡◌, ◌<◌, None, MatchOption, MatchResult};
+ghost use Rattle.std.specs.Prelude.{◌≡◌, ◌<◌, true, [], None, IfSome, MatchOption, MatchResult};
 ghost use Rattle.aio_model.specs.InFlight.{AtRest, Announced as announced, Linked};
-ghost use Rattle.aio_core.specs.Known.{empty_stage};
+ghost use Rattle.aio_core.specs.Standing.{may_notify};
 ghost use Rattle.aio_core.specs.Calls.{IsSeatOf};
 ghost use Rattle.std.proofs.Props.{props};
 
@@ -74,47 +74,58 @@ fn a_seat_splits_in_halves_and_joins(rt: HostRuntime) -> Result<(), Fail> {
     Ok(())
 }
 
-/// Notes the flags that the next dequeue finds, at its handle.
-fn note_next(flags: &mut OneLoop, found: &mut [Option<Flags>; 2])
+/// The plain loops with which the table is compared: one for each handle, which is told of each call when its flags are set,
+/// and one for both, which is told of each handle when it is pushed.
+#[derive(Drop)]
+struct Plain {
+    first: OneLoop,
+    second: OneLoop,
+    order: OneLoop,
+    /// The handle that was pushed last and not taken since.
+    head: Option<u32>,
+    ghost first_sizes: { first.sizes.handles ≡ 1 },
+    ghost second_sizes: { second.sizes.handles ≡ 1 },
+    ghost order_sizes: { order.sizes.handles ≡ 2 },
+}
+
+fn ask(flags: &mut OneLoop, kind: Kind) -> Flags
+    requires { flags.old.sizes.handles ≡ 1 }
     ensures { flags.new.sizes ≡ flags.old.sizes }
 {
-    if let Some((bh, was)) = flags.dequeue() {
-        if let Some(place) = found.get_mut(bh as usize) {
-            *place = Some(was);
-        }
+    match kind {
+        Kind::Sched => flags.schedule(0),
+        Kind::Idle => flags.schedule_idle(0),
+        Kind::Del => flags.delete(0),
     }
 }
 
-/// The plain loops with which the table is compared: one is told of each call when its flags are set, the other of each
-/// index when it is pushed.
-#[derive(Drop)]
-struct Plain {
-    flags: OneLoop,
-    order: OneLoop,
-    /// How often an index was pushed.
-    pushes: u32,
-    ghost flags_sizes: { flags.sizes.handles ≡ 2 },
-    ghost order_sizes: { order.sizes.handles ≡ 2 },
+/// The flags that the next dequeue finds.
+fn dequeued(flags: &mut OneLoop) -> Option<Flags>
+    ensures { flags.new.sizes ≡ flags.old.sizes }
+{
+    flags.take();
+    let (_, found) = flags.dequeue()?;
+    Some(found)
 }
 
 impl Plain {
     fn build(alloc: Global) -> Result<Plain, Fail> {
-        let flags = OneLoop::build(alloc, 2, 0, 0)?;
+        let first = OneLoop::build(alloc, 1, 0, 0)?;
+        let second = OneLoop::build(alloc, 1, 0, 0)?;
         let order = OneLoop::build(alloc, 2, 0, 0)?;
         Ok(Plain {
-            flags,
+            first,
+            second,
             order,
-            pushes: 0,
+            head: None,
         })
     }
 
-    fn ask(&mut self, bh: u32, kind: Kind) -> Flags
-        requires { bh < 2 }
-    {
-        match kind {
-            Kind::Sched => self.flags.schedule(bh),
-            Kind::Idle => self.flags.schedule_idle(bh),
-            Kind::Del => self.flags.delete(bh),
+    fn ask(&mut self, bh: u32, kind: Kind) -> Flags {
+        if bh == 0 {
+            ask(&mut self.first, kind)
+        } else {
+            ask(&mut self.second, kind)
         }
     }
 
@@ -122,28 +133,35 @@ impl Plain {
         requires { bh < 2 }
     {
         self.order.schedule(bh);
-        self.pushes = self.pushes.wrapping_add(1);
+        self.head = Some(bh);
     }
 
-    fn cancel(&mut self, bh: u32) -> Flags
-        requires { bh < 2 }
-    {
-        self.flags.cancel(bh)
+    fn cancel(&mut self, bh: u32) -> Flags {
+        if bh == 0 {
+            self.first.cancel(0)
+        } else {
+            self.second.cancel(0)
+        }
     }
 
-    /// Takes all that was pushed, and tells which flags the dequeues of both handles find.
-    fn take(&mut self) -> [Option<Flags>; 2] {
-        let mut found = [None; 2];
+    fn take(&mut self) {
         self.order.take();
-        self.flags.take();
-        note_next(&mut self.flags, &mut found);
-        note_next(&mut self.flags, &mut found);
-        found
+        self.head = None;
     }
 
-    fn next(&mut self) -> Option<u32> {
+    fn flags_of(&mut self, bh: u32) -> Option<Flags> {
+        if bh == 0 {
+            dequeued(&mut self.first)
+        } else {
+            dequeued(&mut self.second)
+        }
+    }
+
+    /// The next handle that is dequeued, and the flags that it has.
+    fn next(&mut self) -> Option<(u32, Flags)> {
         let (bh, _) = self.order.dequeue()?;
-        Some(bh)
+        let flags = self.flags_of(bh)?;
+        Some((bh, flags))
     }
 }
 
@@ -153,8 +171,8 @@ struct Asking {
     bh: u32,
     kind: Kind,
     has_begun: bool,
-    /// How often an index was pushed when it loaded the head.
-    pushes: u32,
+    /// The head that it loaded.
+    head: Option<u32>,
     ghost known: { bh < 2 },
 }
 
@@ -166,16 +184,82 @@ impl Asking {
             bh,
             kind,
             has_begun: false,
-            pushes: 0,
+            head: None,
         }
     }
 }
 
-/// What a seat owes: an index to link, or else one to aim.
-type Debt = Option<Result<Aimed, Announced>>;
+/// What a seat has to push: an index to link, or else one to aim.
+type Push = Result<Aimed, Announced>;
 
-/// Its next step, if it has one left: what came of it is what the plain loops say, and the push is missed exactly where
-/// an index was pushed since the head was loaded.
+/// What a seat owes: a push, or else a notify.
+type Debt = Option<Option<Push>>;
+
+/// Tells home that there is work. It isn't about to sleep.
+fn notify(rt: &impl Abort, table: &LoopTable<u64>, seat: &mut Seat<u64>)
+    requires seat { IsSeatOf table.now seat.old }
+    requires phase { may_notify seat.old.known.phase ≡ true }
+    ensures seat { IsSeatOf table.now seat.new }
+    ensures rest { seat.new.known.phase ≡ AtRest }
+{
+    table.store_notified(seat);
+    if table.load_notify_me(seat) {
+        panic!(rt; "home sleeps");
+    }
+}
+
+/// Announces what is asked: the flags that it finds are the plain loop's.
+fn begin(
+    rt: &impl Abort,
+    table: &LoopTable<u64>,
+    seat: &mut Seat<u64>,
+    asking: &mut Asking,
+    plain: &mut Plain,
+) -> Option<Push>
+    requires seat { IsSeatOf table.now seat.old }
+    requires handles { table.now.sizes.handles ≡ 2 }
+    requires rest { seat.old.known.phase ≡ AtRest }
+    ensures seat { IsSeatOf table.now seat.new }
+    ensures owed { MatchOption result (may_notify seat.new.known.phase ≡ true) (λ push. MatchResult push (λ aimed. seat.new.known.phase ≡ Linked aimed.0 aimed.1) (λ owed. seat.new.known.phase ≡ announced owed)) }
+{
+    asking.has_begun = true;
+    let (found, owed) = table.announce(seat, asking.bh, asking.kind);
+    assert_eq!(rt; found, plain.ask(asking.bh, asking.kind));
+    match owed {
+        Some(owed) => Some(Err(owed)),
+        None => None,
+    }
+}
+
+/// Links what was aimed: that is missed exactly where another head is there than the one that was loaded.
+fn link(
+    rt: &impl Abort,
+    table: &LoopTable<u64>,
+    seat: &mut Seat<u64>,
+    aimed: Aimed,
+    asking: &Asking,
+    plain: &mut Plain,
+) -> Option<Push>
+    requires seat { IsSeatOf table.now seat.old }
+    requires phase { seat.old.known.phase ≡ Linked aimed.0 aimed.1 }
+    ensures seat { IsSeatOf table.now seat.new }
+    ensures owed { MatchOption result (may_notify seat.new.known.phase ≡ true) (λ push. MatchResult push (λ aimed. seat.new.known.phase ≡ Linked aimed.0 aimed.1) (λ owed. seat.new.known.phase ≡ announced owed)) }
+{
+    let is_same = asking.head == plain.head;
+    match table.link(seat, aimed) {
+        Ok(()) => {
+            assert!(rt; is_same);
+            plain.push(asking.bh);
+            None
+        }
+        Err(owed) => {
+            assert!(rt; !is_same);
+            Some(Err(owed))
+        }
+    }
+}
+
+/// The seat's next step, if it has one left.
 fn step(
     rt: &impl Abort,
     table: &LoopTable<u64>,
@@ -186,216 +270,346 @@ fn step(
 ) -> Debt
     requires seat { IsSeatOf table.now seat.old }
     requires handles { table.now.sizes.handles ≡ 2 }
-    requires debt { MatchOption debt (seat.old.known.phase ≡ AtRest) (λ due. MatchResult due (λ aimed. seat.old.known.phase ≡ Linked aimed.0 aimed.1) (λ owed. seat.old.known.phase ≡ announced owed)) }
+    requires debt { MatchOption debt (seat.old.known.phase ≡ AtRest) (λ due. MatchOption due (may_notify seat.old.known.phase ≡ true) (λ push. MatchResult push (λ aimed. seat.old.known.phase ≡ Linked aimed.0 aimed.1) (λ owed. seat.old.known.phase ≡ announced owed))) }
     ensures seat { IsSeatOf table.now seat.new }
-    ensures debt { MatchOption result (seat.new.known.phase ≡ AtRest) (λ due. MatchResult due (λ aimed. seat.new.known.phase ≡ Linked aimed.0 aimed.1) (λ owed. seat.new.known.phase ≡ announced owed)) }
-    ensures first { seat.new.known.first ≡ seat.old.known.first }
-    ensures count { seat.new.known.count ≡ seat.old.known.count }
-    ensures stage { seat.new.known.stage ≡ seat.old.known.stage }
+    ensures debt { MatchOption result (seat.new.known.phase ≡ AtRest) (λ due. MatchOption due (may_notify seat.new.known.phase ≡ true) (λ push. MatchResult push (λ aimed. seat.new.known.phase ≡ Linked aimed.0 aimed.1) (λ owed. seat.new.known.phase ≡ announced owed))) }
 {
     match debt {
         None if asking.has_begun => None,
-        None => {
-            asking.has_begun = true;
-            let (found, owed) = table.announce(seat, asking.bh, asking.kind);
-            assert_eq!(rt; found, plain.ask(asking.bh, asking.kind));
-            match owed {
-                Some(owed) => Some(Err(owed)),
-                None => None,
-            }
+        None => Some(begin(rt, table, seat, asking, plain)),
+        Some(None) => {
+            notify(rt, table, seat);
+            None
         }
-        Some(Err(owed)) => {
-            asking.pushes = plain.pushes;
-            Some(Ok(table.aim(seat, owed)))
+        Some(Some(Err(owed))) => {
+            asking.head = plain.head;
+            Some(Some(Ok(table.aim(seat, owed))))
         }
-        Some(Ok(aimed)) => {
-            let is_first = asking.pushes == plain.pushes;
-            match table.link(seat, aimed) {
-                Ok(()) => {
-                    assert!(rt; is_first);
-                    plain.push(asking.bh);
-                    None
-                }
-                Err(owed) => {
-                    assert!(rt; !is_first);
-                    Some(Err(owed))
-                }
-            }
-        }
+        Some(Some(Ok(aimed))) => Some(link(rt, table, seat, aimed, asking, plain)),
     }
 }
 
-/// A table of two handles, and two seats that each enqueue one.
+/// A seat, and what it owes.
+struct Side {
+    seat: Seat<u64>,
+    debt: Debt,
+    asking: Asking,
+    ghost owed: { MatchOption debt (seat.known.phase ≡ AtRest) (λ due. MatchOption due (may_notify seat.known.phase ≡ true) (λ push. MatchResult push (λ aimed. seat.known.phase ≡ Linked aimed.0 aimed.1) (λ owed. seat.known.phase ≡ announced owed))) } by { Prim.hlevel props },
+}
+
+impl Side {
+    fn of(seat: Seat<u64>, asking: Asking) -> Side
+        requires { seat.known.phase ≡ AtRest }
+        ensures { result.seat ≡ seat }
+    {
+        Side {
+            seat,
+            debt: None,
+            asking,
+        }
+    }
+
+    fn steps(self, rt: &impl Abort, table: &LoopTable<u64>, plain: &mut Plain) -> Side
+        requires seat { IsSeatOf table.now self.seat }
+        requires handles { table.now.sizes.handles ≡ 2 }
+        ensures seat { IsSeatOf table.now result.seat }
+    {
+        let Side {
+            mut seat,
+            debt,
+            mut asking,
+        } = self;
+        let debt = step(rt, table, &mut seat, debt, &mut asking, plain);
+        Side { seat, debt, asking }
+    }
+
+    /// It owes nothing more.
+    fn is_done(self, rt: &impl Abort) -> Seat<u64>
+        ensures { result ≡ self.seat }
+    {
+        let Side {
+            seat,
+            debt,
+            asking: _,
+        } = self;
+        match debt {
+            None => (),
+            Some(None) => panic!(rt; "home isn't notified"),
+            Some(Some(Err(owed))) => panic!(rt; "{} is not aimed", owed.into_bh()),
+            Some(Some(Ok(aimed))) => panic!(rt; "{} is not linked", aimed.into_parts().0),
+        }
+        seat
+    }
+}
+
+/// Home dequeues the handle that the plain loop does, and finds its flags, or nothing is left.
+fn compare_next(rt: &impl Abort, table: &LoopTable<u64>, home: &mut Home<u64>, plain: &mut Plain)
+    requires seat { IsSeatOf table.now home.old.seat }
+    requires free { home.old.seat.known.stage.hand ≡ None }
+    ensures seat { IsSeatOf table.now home.new.seat }
+    ensures free { home.new.seat.known.stage.hand ≡ None }
+{
+    let want = plain.next();
+    let found = match table.dequeue_next(home) {
+        Some(next) => {
+            assert!(rt; next.job.is_none());
+            Some((next.bh, next.flags))
+        }
+        None => None,
+    };
+    assert_eq!(rt; found, want);
+}
+
+/// Nothing is left that home took.
+fn compare_end(rt: &impl Abort, table: &LoopTable<u64>, home: &mut Home<u64>, plain: &mut Plain)
+    requires seat { IsSeatOf table.now home.old.seat }
+    requires free { home.old.seat.known.stage.hand ≡ None }
+    ensures seat { IsSeatOf table.now home.new.seat }
+    ensures free { home.new.seat.known.stage.hand ≡ None }
+    ensures empty { home.new.seat.known.stage.slices ≡ [] }
+{
+    assert!(rt; plain.next().is_none());
+    if let Some(next) = table.dequeue_next(home) {
+        panic!(rt; "{} is left", next.bh);
+    }
+}
+
+/// Home takes the list, and dequeues what was in it.
+fn poll(rt: &impl Abort, table: &LoopTable<u64>, home: &mut Home<u64>, plain: &mut Plain)
+    requires seat { IsSeatOf table.now home.old.seat }
+    requires free { home.old.seat.known.stage.hand ≡ None }
+    requires empty { home.old.seat.known.stage.slices ≡ [] }
+    ensures seat { IsSeatOf table.now home.new.seat }
+    ensures free { home.new.seat.known.stage.hand ≡ None }
+    ensures empty { home.new.seat.known.stage.slices ≡ [] }
+{
+    table.take(home);
+    plain.take();
+    compare_next(rt, table, home, plain);
+    compare_next(rt, table, home, plain);
+    compare_end(rt, table, home, plain);
+}
+
+/// A table of two handles, its home, and two seats that each enqueue one.
 struct World {
     table: LoopTable<u64>,
     home: Home<u64>,
-    seat: Seat<u64>,
-    homes: Debt,
-    others: Debt,
+    one: Side,
+    other: Side,
     ghost handles: { table.sizes.handles ≡ 2 },
     ghost home_of: { IsSeatOf table home.seat },
-    ghost seat_of: { IsSeatOf table seat },
-    ghost empty: { home.seat.known.stage ≡ empty_stage },
-    ghost homes_owed: { MatchOption homes (home.seat.known.phase ≡ AtRest) (λ due. MatchResult due (λ aimed. home.seat.known.phase ≡ Linked aimed.0 aimed.1) (λ owed. home.seat.known.phase ≡ announced owed)) } by { Prim.hlevel props },
-    ghost others_owed: { MatchOption others (seat.known.phase ≡ AtRest) (λ due. MatchResult due (λ aimed. seat.known.phase ≡ Linked aimed.0 aimed.1) (λ owed. seat.known.phase ≡ announced owed)) } by { Prim.hlevel props },
+    ghost one_of: { IsSeatOf table one.seat },
+    ghost other_of: { IsSeatOf table other.seat },
+    ghost empty: { home.seat.known.stage.slices ≡ [] },
+    ghost free: { home.seat.known.stage.hand ≡ None },
 }
 
 impl World {
-    fn build(alloc: Global) -> Result<World, Fail> {
-        match LoopTable::build(alloc, 2, 0, 0) {
-            Ok(Built { table, home, seat }) => Ok(World {
+    fn build(alloc: Global, by_one: Asking, by_other: Asking) -> Result<World, Fail> {
+        let Ok(
+            Built {
                 table,
                 home,
-                seat,
-                homes: None,
-                others: None,
-            }),
-            Err(_) => Err(Fail::from("no memory")),
+                mut seat,
+            },
+        ) = LoopTable::build(alloc, 2, 0, 0)
+        else {
+            return Err(Fail::from("no memory"));
+        };
+        let Some(other) = table.split(&mut seat) else {
+            return Err(Fail::from("no halves"));
+        };
+        Ok(World {
+            table,
+            home,
+            one: Side::of(seat, by_one),
+            other: Side::of(other, by_other),
+        })
+    }
+
+    fn one_steps(self, rt: &impl Abort, plain: &mut Plain) -> World {
+        let World {
+            table,
+            home,
+            one,
+            other,
+        } = self;
+        let one = one.steps(rt, &table, plain);
+        World {
+            table,
+            home,
+            one,
+            other,
         }
     }
 
-    fn home_steps(self, rt: &impl Abort, asking: &mut Asking, plain: &mut Plain) -> World {
+    fn other_steps(self, rt: &impl Abort, plain: &mut Plain) -> World {
+        let World {
+            table,
+            home,
+            one,
+            other,
+        } = self;
+        let other = other.steps(rt, &table, plain);
+        World {
+            table,
+            home,
+            one,
+            other,
+        }
+    }
+
+    fn polls(self, rt: &impl Abort, plain: &mut Plain) -> World {
         let World {
             table,
             mut home,
-            seat,
-            homes,
-            others,
+            one,
+            other,
         } = self;
-        let homes = step(rt, &table, &mut home.seat, homes, asking, plain);
+        poll(rt, &table, &mut home, plain);
         World {
             table,
             home,
-            seat,
-            homes,
-            others,
+            one,
+            other,
         }
     }
 
-    fn other_steps(self, rt: &impl Abort, asking: &mut Asking, plain: &mut Plain) -> World {
+    fn steps(self, rt: &impl Abort, is_ones: bool, plain: &mut Plain) -> World {
+        if is_ones {
+            self.one_steps(rt, plain)
+        } else {
+            self.other_steps(rt, plain)
+        }
+    }
+
+    /// Both seats are done: home polls, once more, after a cancel where that is asked.
+    fn ends(self, rt: &impl Abort, cancels: Option<u32>, plain: &mut Plain)
+        requires { IfSome cancels (λ bh. bh < 2) }
+    {
         let World {
             table,
-            home,
-            mut seat,
-            homes,
-            others,
+            mut home,
+            one,
+            other,
         } = self;
-        let others = step(rt, &table, &mut seat, others, asking, plain);
-        World {
-            table,
-            home,
-            seat,
-            homes,
-            others,
+        let mut seat = one.is_done(rt);
+        let _other = other.is_done(rt);
+        if let Some(bh) = cancels {
+            let found = table.cancel(&mut seat, bh);
+            assert_eq!(rt; found, plain.cancel(bh));
         }
+        poll(rt, &table, &mut home, plain);
     }
 }
 
-/// The first that home has at hand, dequeued.
-fn next(table: &LoopTable<u64>, home: &mut Home<u64>) -> Option<(u32, Flags)>
-    requires seat { IsSeatOf table.now home.old.seat }
-    requires free { home.old.seat.known.stage.hand ≡ None }
-    ensures seat { IsSeatOf table.now home.new.seat }
-    ensures free { home.new.seat.known.stage.hand ≡ None }
-{
-    let hand = table.lift(home)?;
-    let bh = hand.bh();
-    Some((bh, table.dequeue(home, hand)))
-}
-
-/// Home dequeues the index that the plain loop does, and finds these flags, or nothing is left.
-fn compare_next(
-    rt: &impl Abort,
-    table: &LoopTable<u64>,
-    home: &mut Home<u64>,
-    plain: &mut Plain,
-    flags: [Option<Flags>; 2],
-)
-    requires seat { IsSeatOf table.now home.old.seat }
-    requires free { home.old.seat.known.stage.hand ≡ None }
-    ensures seat { IsSeatOf table.now home.new.seat }
-    ensures free { home.new.seat.known.stage.hand ≡ None }
-{
-    let found = next(table, home);
-    match (found, plain.next()) {
-        (Some((bh, was)), Some(i)) => {
-            assert_eq!(rt; bh, i);
-            assert_eq!(rt; flags.get(bh as usize), Some(&Some(was)));
-        }
-        (found, bh) => assert!(rt; found.is_none() && bh.is_none()),
-    }
-}
-
-fn paid(rt: &impl Abort, debt: Debt) {
-    match debt {
-        None => (),
-        Some(Err(owed)) => panic!(rt; "{} is not aimed", owed.into_bh()),
-        Some(Ok(aimed)) => panic!(rt; "{} is not linked", aimed.into_parts().0),
-    }
-}
-
-/// Whether home does the step at this place: by the bits, then by turns.
-fn is_homes(order: u32, place: u32) -> bool {
-    if place < 6 {
+/// Whether the first seat does the step at this place: by the bits, then by turns.
+fn is_ones(order: u32, place: u32) -> bool {
+    if place < 8 {
         order >> place & 1 == 1
     } else {
         place % 2 == 0
     }
 }
 
-/// Both enqueue, in the order of the bits, then by turns; then home takes and dequeues all.
+/// Both enqueue, in the order of the bits, then by turns; home polls in between, and in the end.
 fn compare(
     rt: &impl Abort,
     alloc: Global,
     order: u32,
-    mut by_home: Asking,
-    mut by_other: Asking,
-    cancels: bool,
-) -> Result<(), Fail> {
+    polled_at: u32,
+    asking: (Asking, Asking),
+    cancels: Option<u32>,
+) -> Result<(), Fail>
+    requires { IfSome cancels (λ bh. bh < 2) }
+{
+    let (by_one, by_other) = asking;
     let mut plain = Plain::build(alloc)?;
-    let mut world = World::build(alloc)?;
-    for place in 0..16 {
-        world = if is_homes(order, place) {
-            world.home_steps(rt, &mut by_home, &mut plain)
-        } else {
-            world.other_steps(rt, &mut by_other, &mut plain)
-        };
+    let mut world = World::build(alloc, by_one, by_other)?;
+    for place in 0..24 {
+        if place == polled_at {
+            world = world.polls(rt, &mut plain);
+        }
+        world = world.steps(rt, is_ones(order, place), &mut plain);
     }
-    let World {
-        table,
-        mut home,
-        mut seat,
-        homes,
-        others,
-    } = world;
-    paid(rt, homes);
-    paid(rt, others);
-    assert_eq!(rt; plain.pushes, if by_home.bh == by_other.bh { 1 } else { 2 });
-    if cancels {
-        let found = table.cancel(&mut seat, by_home.bh);
-        assert_eq!(rt; found, plain.cancel(by_home.bh));
-    }
-    table.take(&mut home);
-    let flags = plain.take();
-    compare_next(rt, &table, &mut home, &mut plain, flags);
-    compare_next(rt, &table, &mut home, &mut plain, flags);
-    compare_next(rt, &table, &mut home, &mut plain, flags);
+    world.ends(rt, cancels, &mut plain);
     Ok(())
 }
 
 #[test]
-fn two_seats_in_each_order_do_what_the_plain_loop_does(rt: HostRuntime) -> Result<(), Fail> {
+fn two_seats_in_each_order_against_a_take_do_what_the_plain_loop_does(
+    rt: HostRuntime,
+) -> Result<(), Fail> {
     let cases = [
         (Asking::of(0, Kind::Sched), Asking::of(1, Kind::Sched)),
         (Asking::of(0, Kind::Idle), Asking::of(1, Kind::Del)),
         (Asking::of(0, Kind::Sched), Asking::of(0, Kind::Del)),
         (Asking::of(1, Kind::Idle), Asking::of(1, Kind::Sched)),
     ];
-    for (by_home, by_other) in cases {
-        for order in 0..64 {
-            compare(&rt, rt.alloc(), order, by_home, by_other, false)?;
-            compare(&rt, rt.alloc(), order, by_home, by_other, true)?;
+    for asking in cases {
+        for order in 0..256 {
+            for polled_at in 0..9 {
+                compare(&rt, rt.alloc(), order, polled_at, asking, None)?;
+                compare(&rt, rt.alloc(), order, polled_at, asking, Some(1))?;
+            }
         }
     }
+    Ok(())
+}
+
+/// Claims the lot for the job, and pushes it. The job comes back where the lot is taken.
+fn put(rt: &impl Abort, table: &LoopTable<u64>, seat: &mut Seat<u64>, job: u64) -> Option<u64>
+    requires seat { IsSeatOf table.now seat.old }
+    requires rest { seat.old.known.phase ≡ AtRest }
+    requires lot { (table.now.sizes.handles ≡ 0) × (table.now.sizes.lots ≡ 1) }
+    ensures seat { IsSeatOf table.now seat.new }
+    ensures rest { seat.new.known.phase ≡ AtRest }
+{
+    let owed = match table.announce_once(seat, 0, job) {
+        Ok(owed) => owed,
+        Err(job) => return Some(job),
+    };
+    let aimed = table.aim(seat, owed);
+    if let Err(owed) = table.link(seat, aimed) {
+        panic!(rt; "{} is not linked", owed.into_bh());
+    }
+    notify(rt, table, seat);
+    None
+}
+
+/// The first that home took, dequeued and set free.
+fn dequeue_and_free(table: &LoopTable<u64>, home: &mut Home<u64>) -> Option<(Flags, Option<u64>)>
+    requires seat { IsSeatOf table.now home.old.seat }
+    requires free { home.old.seat.known.stage.hand ≡ None }
+    requires lots { table.now.sizes.handles ≡ 0 }
+    ensures seat { IsSeatOf table.now home.new.seat }
+    ensures free { home.new.seat.known.stage.hand ≡ None }
+{
+    let next = table.dequeue_next(home)?;
+    table.free(home, next.bh);
+    Some((next.flags, next.job))
+}
+
+#[test]
+fn a_lot_gives_its_job_once_and_is_free_again(rt: HostRuntime) -> Result<(), Fail> {
+    let Ok(built) = LoopTable::<u64>::build(rt.alloc(), 0, 1, 0) else {
+        return Err(Fail::from("no memory"));
+    };
+    let table = built.table;
+    let mut home = built.home;
+    let mut seat = built.seat;
+    assert_eq!(rt; put(&rt, &table, &mut seat, 7), None);
+    assert_eq!(rt; put(&rt, &table, &mut seat, 8), Some(8));
+    table.take(&mut home);
+    let flags = Flags {
+        pending: true,
+        scheduled: true,
+        deleted: false,
+        oneshot: true,
+        idle: false,
+    };
+    assert_eq!(rt; dequeue_and_free(&table, &mut home), Some((flags, Some(7))));
+    assert_eq!(rt; dequeue_and_free(&table, &mut home), None);
+    assert_eq!(rt; put(&rt, &table, &mut seat, 8), None);
     Ok(())
 }

@@ -1,7 +1,7 @@
-use Rattle.std.proofs.Common.{◌≡◌, ◌<◌, ◌+◌, ℕ, Some, sym, ap, ◌∙◌, subst, arith}
-use Rattle.aio_core.specs.Words.{index_count, flags_at}
+use Rattle.std.proofs.Common.{◌≡◌, ◌<◌, ◌+◌, ℕ, sym, ap, ◌∙◌, subst, arith}
+use Rattle.aio_core.specs.Words.{flags_at}
 use Rattle.aio_core.specs.Calls.{TableState}
-use Rattle.aio_core.proofs.Lots.{claim_allowed}
+use Rattle.aio_core.proofs.Claiming.{claim_allowed}
 use Rattle.aio_core.proofs.Opened.{flags_within}
 use Rattle.aio_core.proofs.table.LoopTable.claim.Goals as goal
 

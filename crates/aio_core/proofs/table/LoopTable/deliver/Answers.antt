@@ -1,9 +1,7 @@
-use Rattle.std.proofs.Common.{◌≡◌, ◌≢◌, ◌<◌, ◌+◌, ℕ, true, false, eqb, Some, None, MatchBool, MatchOption, [], ◌∷◌, refl, sym, ap, ◌∙◌, subst}
+use Rattle.std.proofs.Common.{◌≡◌, ◌≢◌, ◌<◌, ℕ, true, false, eqb, None, MatchBool, ◌∷◌, refl, sym, ap, ◌∙◌, subst}
 use Rattle.std.proofs.lemmas.Bool.{eq-eqb, ne_eqb}
-use Rattle.aio_core.specs.Known.{LotClaimCompare, Known}
-use Rattle.aio_core.specs.Words.{free_word, flags_at}
-use Rattle.aio_core.specs.Standing.{Claims, Looks, PlacesJob}
-use Rattle.aio_core.specs.Calls.{IsTaken}
+use Rattle.aio_core.specs.Known.{Known}
+use Rattle.aio_core.specs.Words.{free_word}
 use Rattle.aio_core.proofs.OneShots.{placed_of}
 use Rattle.aio_core.proofs.table.LoopTable.deliver.Goals as goal
 

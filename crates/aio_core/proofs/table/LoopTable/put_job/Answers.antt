@@ -1,11 +1,11 @@
-use Rattle.std.proofs.Common.{◌≡◌, ◌<◌, ◌+◌, ℕ, Some, None, List, [], ◌∷◌, refl, sym, ap, ◌∙◌, subst, arith}
+use Rattle.std.proofs.Common.{◌≡◌, ◌<◌, ◌+◌, ℕ, Some, ◌∷◌, refl, sym, ap, ◌∙◌, subst, arith}
 use Rattle.aio_model.specs.InFlight.{LotClaimed}
-use Rattle.atomic_table.specs.Table.{Me, rest}
+use Rattle.atomic_table.specs.Table.{rest}
 use Rattle.aio_core.specs.Known.{Known}
-use Rattle.aio_core.specs.Words.{index_count, flags_at}
+use Rattle.aio_core.specs.Words.{flags_at}
 use Rattle.aio_core.specs.Calls.{TableState}
 use Rattle.aio_core.specs.Plays.{Enqueued}
-use Rattle.aio_core.proofs.Lots.{lot_enqueue_of}
+use Rattle.aio_core.proofs.Delivering.{lot_enqueue_of}
 use Rattle.aio_core.proofs.Opened.{flags_within}
 use Rattle.aio_core.proofs.table.LoopTable.put_job.Goals as goal
 

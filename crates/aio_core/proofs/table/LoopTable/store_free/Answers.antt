@@ -1,14 +1,9 @@
-use Rattle.std.proofs.Common.{◌≡◌, ◌<◌, ◌+◌, ℕ, true, sym, ap, ◌∙◌, subst, arith}
-use mathlib.Core.Option.{none}
-use Rattle.atomic_table.specs.Table.{step, Allows}
+use Rattle.std.proofs.Common.{sym, ap, subst}
 use Rattle.aio_model.specs.LoopHistory.{Free}
 use Rattle.aio_model.specs.LoopLegal.{MayFollow}
 use Rattle.aio_core.specs.Known.{Known}
-use Rattle.aio_core.specs.Words.{flags_at, free_word, index_count}
-use Rattle.aio_core.specs.Rule.{Kept}
 use Rattle.aio_core.specs.Standing.{Frees}
-use Rattle.aio_core.specs.Plays.{lot_freed}
-use Rattle.aio_core.proofs.Lots.{lot_below, free_allowed}
+use Rattle.aio_core.proofs.Freeing.{lot_below, free_allowed}
 use Rattle.aio_core.proofs.Opened.{same_table, held_numbers, flags_within, home_opened, held_still, seat_still}
 use Rattle.aio_core.proofs.table.LoopTable.store_free.Goals as goal
 

@@ -1,12 +1,11 @@
-use Rattle.std.proofs.Common.{◌≡◌, ◌<◌, ◌+◌, ℕ, Option, Some, None, List, [], ◌∷◌, drop, refl, sym, ap, ◌∙◌, subst, arith}
-use Rattle.atomic_table.specs.Table.{Me, rest}
-use Rattle.aio_model.specs.LoopLists.{job_of}
+use Rattle.std.proofs.Common.{◌≡◌, ◌<◌, ◌+◌, ℕ, Option, Some, List, ◌∷◌, drop, sym, ap, ◌∙◌, subst, arith}
+use Rattle.atomic_table.specs.Table.{rest}
 use Rattle.aio_core.specs.Known.{Known}
-use Rattle.aio_core.specs.Words.{index_count, flags_at, next_at}
+use Rattle.aio_core.specs.Words.{flags_at, next_at}
 use Rattle.aio_core.specs.Calls.{TableState}
 use Rattle.aio_core.specs.Plays.{Dequeued}
 use Rattle.aio_core.specs.Standing.{Lifts}
-use Rattle.aio_core.proofs.Lots.{lot_lift_allowed, lot_dequeue_of}
+use Rattle.aio_core.proofs.Fetching.{lot_lift_allowed, lot_dequeue_of}
 use Rattle.aio_core.proofs.Opened.{flags_within, next_within, home_owned}
 use Rattle.aio_core.proofs.table.LoopTable.take_lot.Goals as goal
 

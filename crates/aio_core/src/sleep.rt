@@ -1,0 +1,82 @@
+//! The steps by which home says that it is about to sleep, and that it is awake, after aio_poll of QEMU's util/aio-posix.c.
+ghost use Rattle.std.specs.Prelude.{◌≡◌, ℕ, [], length, true, ◌==◌};
+ghost use Rattle.aio_core.specs.Known.{Scanning, Armed, empty_stage};
+ghost use Rattle.aio_core.specs.SleepSteps.{Arms, Tests, Disarms, scan_in, watched_in, is_to_disarm};
+ghost use Rattle.aio_core.specs.Scans.{IsAhead};
+ghost use Rattle.aio_core.specs.Calls.{IsSeatOf};
+
+use crate::home::Home;
+use crate::job::Job;
+use crate::plays::{Arm, Disarm, Test};
+use crate::seat::Seat;
+use crate::table::LoopTable;
+use crate::words::{NOTIFIED, NOTIFY_ME};
+
+impl<J: Job> LoopTable<J> {
+    fn add_notify_me(&self, seat: &mut Seat<J>) -> u64
+        requires seat { IsSeatOf self.now seat.old }
+        requires number { (seat.old.known.first ≡ 64) × (seat.old.known.count ≡ 1) }
+        requires scanned { seat.old.known.sleep ≡ Scanning (length seat.old.known.did) (scan_in seat.old.known.sleep) }
+        requires over { (scan_in seat.old.known.sleep).stage ≡ empty_stage }
+        ensures seat { IsSeatOf self.now seat.new }
+        ensures step { Arms (scan_in seat.old.known.sleep).watched result seat.old.known seat.new.known }
+    {
+        self.table
+            .shared
+            .fetch_add::<Arm>(&mut seat.inner, NOTIFY_ME, 2)
+    }
+
+    fn load_notified(&self, seat: &mut Seat<J>) -> u64
+        requires seat { IsSeatOf self.now seat.old }
+        requires number { (seat.old.known.first ≡ 64) × (seat.old.known.count ≡ 1) }
+        requires armed { seat.old.known.sleep ≡ Armed (length seat.old.known.did) (watched_in seat.old.known.sleep) }
+        ensures seat { IsSeatOf self.now seat.new }
+        ensures step { Tests (watched_in seat.old.known.sleep) result seat.old.known seat.new.known }
+    {
+        self.table.shared.load::<Test>(&mut seat.inner, NOTIFIED)
+    }
+
+    fn sub_notify_me(&self, seat: &mut Seat<J>) -> u64
+        requires seat { IsSeatOf self.now seat.old }
+        requires number { (seat.old.known.first ≡ 64) × (seat.old.known.count ≡ 1) }
+        requires due { is_to_disarm seat.old.known.sleep ≡ true }
+        ensures seat { IsSeatOf self.now seat.new }
+        ensures step { Disarms result seat.old.known seat.new.known }
+    {
+        self.table
+            .shared
+            .fetch_sub::<Disarm>(&mut seat.inner, NOTIFY_ME, 2)
+    }
+
+    /// Says that home is about to sleep, by one atomic addition. A scan has found nothing urgent, and was home's last step but
+    /// for looks at events.
+    pub fn arm(&self, home: &mut Home<J>)
+        requires seat { IsSeatOf self.now home.old.seat }
+        requires scanned { IsAhead [] home.old.seat.known }
+        ensures seat { IsSeatOf self.now home.new.seat }
+        ensures step { (found : ℕ) × Arms (scan_in home.old.seat.known.sleep).watched found home.old.seat.known home.new.seat.known }
+    {
+        self.add_notify_me(&mut home.seat);
+    }
+
+    /// Whether anybody has notified the loop since home's last accept, by one atomic load. Home is committed where nobody has,
+    /// and is else to disarm.
+    pub fn test(&self, home: &mut Home<J>) -> bool
+        requires seat { IsSeatOf self.now home.old.seat }
+        requires armed { home.old.seat.known.sleep ≡ Armed (length home.old.seat.known.did) (watched_in home.old.seat.known.sleep) }
+        ensures seat { IsSeatOf self.now home.new.seat }
+        ensures step { (found : ℕ) × Tests (watched_in home.old.seat.known.sleep) found home.old.seat.known home.new.seat.known × (result ≡ (found == 1)) }
+    {
+        self.load_notified(&mut home.seat) == 1
+    }
+
+    /// Says that home is awake, by one atomic subtraction.
+    pub fn disarm(&self, home: &mut Home<J>)
+        requires seat { IsSeatOf self.now home.old.seat }
+        requires due { is_to_disarm home.old.seat.known.sleep ≡ true }
+        ensures seat { IsSeatOf self.now home.new.seat }
+        ensures step { (found : ℕ) × Disarms found home.old.seat.known home.new.seat.known }
+    {
+        self.sub_notify_me(&mut home.seat);
+    }
+}
