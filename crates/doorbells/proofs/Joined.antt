@@ -1,16 +1,20 @@
 -- Two seats rang at once, and were joined.
-use Rattle.std.proofs.Common.{◌≡◌, ℕ, ◌<◌, ◌+◌, ◌-◌, ◌++◌, sym, ap, ◌∙◌, subst, append_assoc, arith}
+use Rattle.std.proofs.Common.{◌≡◌, Option, None, Some, MatchOption, ℕ, false, ◌<◌, ◌+◌, ◌-◌, ◌++◌, sym, ap, ◌∙◌, subst, append_assoc, arith}
 use Rattle.std.proofs.lemmas.List.{append_cancel_right}
 use Rattle.aio_model.specs.declared.flags.Flags.{Flags}
 use Rattle.aio_model.specs.LoopHistory.{ToCall, History}
 use Rattle.aio_model.specs.LoopSeats.{Numbers, owns, own_entries}
+use Rattle.aio_model.specs.LoopCalls.{dequeue_times, stops}
+use Rattle.aio_model.specs.LoopLaws.{some_entry}
+use Rattle.aio_model.proofs.Awaiting.{dequeue_times-append, some_entry-parts}
 use Rattle.aio_core.specs.Known.{Known, numbers_of}
 use Rattle.aio_core.specs.Calls.{TableState, SeatState, IsSeatOf}
 use Rattle.aio_core.specs.Splitting.{front_numbers, back_numbers, front_known, back_known, half_of}
 use Rattle.aio_core.specs.Joining.{joined_known, told_of, IsJoined}
 use Rattle.aio_core.proofs.Entries.{own-append}
 use Rattle.aio_bh.specs.Enqueuing.{enqueue_entries}
-use Rattle.doorbells.specs.Rings.{Rings, RingsTwice}
+use Rattle.doorbells.specs.Rings.{Rings, RingsTwice, AwaitsUnless}
+use Rattle.doorbells.specs.Answering.{Counted, Answers, IsAnsweredIfFound, RingsAndAnswers}
 use Rattle.doorbells.proofs.Rang.{awaits_unless}
 
 -- what a seat made since is all that stands there of its numbers
@@ -55,3 +59,24 @@ rings_twice table low high found_low found_high seat a0 b0 a1 b1 joined low_hand
       low_awaits = awaits_unless table low seat.known.first found_low (owns front) since seat.known.seen joined.known.seen low_handle seen parts.legal low_made;
       high_awaits = awaits_unless table high (seat.known.first + cut) found_high (owns back) since seat.known.seen joined.known.seen high_handle seen parts.legal high_made;
     }
+
+-- of one of the two, and a poll
+found_once : (table : TableState) (bell : ℕ) (found : Flags) (since seen_before seen : History) (to : ℕ) (home_before home_after : History) (counted counted_after : Counted) → bell < table.sizes.handles → seen ≡ since ++ seen_before → AwaitsUnless bell found since seen → (polls : Answers table.sizes to home_before home_after counted counted_after) → IsAnsweredIfFound bell found since seen (polls.others ++ home_before) polls.later counted counted_after
+found_once table bell found since seen_before seen to home_before home_after counted counted_after handle is awaits polls newer new taken none still still_later =
+    let calm = some_entry-parts (stops bell) newer since still in
+    let none_since : dequeue_times bell since ≡ 0 = omega (arith, none, dequeue_times-append bell newer since) in
+    let none_newer : dequeue_times bell newer ≡ 0 = omega (arith, none, dequeue_times-append bell newer since) in
+    polls.once bell newer seen handle taken (awaits new calm.1 none_since) none_newer calm.0 still_later
+
+pub rings_and_answers : (table : TableState) (low high : ℕ) (found_low found_high : Flags) (to : ℕ) (before after : SeatState) (home_before home_after : History) (counted counted_after : Counted) → low < table.sizes.handles → high < table.sizes.handles → RingsTwice table low high found_low found_high before after → Answers table.sizes to home_before home_after counted counted_after → RingsAndAnswers table low high found_low found_high to before after home_before home_after counted counted_after
+rings_and_answers table low high found_low found_high to before after home_before home_after counted counted_after low_handle high_handle rings polls = record {
+  rings = rings;
+  answers = polls;
+  low_once = found_once table low found_low rings.since before.known.seen after.known.seen to home_before home_after counted counted_after low_handle rings.seen rings.low_awaits polls;
+  high_once = found_once table high found_high rings.since before.known.seen after.known.seen to home_before home_after counted counted_after high_handle rings.seen rings.high_awaits polls;
+}
+
+-- more is known of what is there
+pub match_more : {X : Type 0} (o : Option X) (A : Type 0) (P Q : X → Type 0) → ((x : X) → P x → Q x) → MatchOption o A P → MatchOption o A Q
+match_more None A P Q more h = h
+match_more (Some x) A P Q more h = more x h

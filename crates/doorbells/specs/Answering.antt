@@ -1,5 +1,6 @@
 -- What the home does for the doorbells.
-use Rattle.std.specs.Prelude.{◌≡◌, ℕ, ◌<◌, ◌⊎◌, false, List, [], ◌∷◌, ◌++◌}
+use Rattle.std.specs.Prelude.{◌≡◌, ℕ, ◌<◌, ◌⊎◌, true, false, List, [], ◌∷◌, ◌++◌}
+use Rattle.aio_model.specs.declared.flags.Flags.{Flags}
 use Rattle.aio_model.specs.LoopHistory.{Sizes, Take, History}
 use Rattle.aio_model.specs.LoopLists.{was_put}
 use Rattle.aio_model.specs.LoopLaws.{some_entry}
@@ -8,7 +9,8 @@ use Rattle.aio_model.specs.LoopCalls.{dequeue_times, stops, AwaitsCall}
 use Rattle.aio_core.specs.Known.{empty_stage}
 use Rattle.aio_core.specs.Calls.{TableState, SeatState}
 use Rattle.aio_bh.specs.Ready.{IsReady}
-use Rattle.doorbells.specs.Responding.{one_more, count_of}
+use Rattle.doorbells.specs.Responding.{is_new, one_more, count_of}
+use Rattle.doorbells.specs.Rings.{RingsTwice}
 
 -- the home between two polls
 pub record IsHomeReady (table : TableState) (seat : SeatState) : Type 0 where
@@ -54,3 +56,17 @@ pub record AnswersOne (bell : ℕ) (is_new : Type 0) (before after : History) (c
   pub between : History
   pub seen : after ≡ between ++ before
   pub once : is_new → some_entry (stops bell) between ≡ false → IsAnswered bell counted counted_after
+
+-- Of a doorbell that was rung with another seat: its ring was new, the take found all that this seat has seen, and nobody canceled,
+-- deleted or dequeued it from the ring to its answer. Then it was answered once.
+abbrev pub IsAnsweredIfFound : ℕ → Flags → History → History → History → History → Counted → Counted → Type 0
+IsAnsweredIfFound bell found since seen taken later counted counted_after =
+    (newer : History) → is_new found ≡ true → taken ≡ newer ++ seen → dequeue_times bell (newer ++ since) ≡ 0 → some_entry (stops bell) (newer ++ since) ≡ false → some_entry (stops bell) later ≡ false → IsAnswered bell counted counted_after
+
+-- Rings from two threads, and then one poll. That the take finds what the threads' seat has seen is a premise: no clause of the table
+-- ties the home to seats that weren't joined with it.
+pub record RingsAndAnswers (table : TableState) (low high : ℕ) (found_low found_high : Flags) (to : ℕ) (before after : SeatState) (home_before home_after : History) (counted counted_after : Counted) : Type 0 where
+  pub rings : RingsTwice table low high found_low found_high before after
+  pub answers : Answers table.sizes to home_before home_after counted counted_after
+  pub low_once : IsAnsweredIfFound low found_low rings.since after.known.seen (answers.others ++ home_before) answers.later counted counted_after
+  pub high_once : IsAnsweredIfFound high found_high rings.since after.known.seen (answers.others ++ home_before) answers.later counted counted_after

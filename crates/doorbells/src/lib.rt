@@ -20,4 +20,4 @@ mod threads;
 pub use devices::Devices;
 pub use polling::{answer, answer_twice, ring_twice_and_answer};
 pub use ringing::ring;
-pub use threads::{Rung, ring_from_two};
+pub use threads::{Rung, ring_from_two, ring_from_two_and_answer};
