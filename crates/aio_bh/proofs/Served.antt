@@ -1,24 +1,26 @@
 -- What a poll does for each handle, and where the entries of its callbacks stand.
-use Rattle.std.proofs.Common.{◌≡◌, ℕ, zero, suc, ◌<◌, Bool, true, false, Option, MatchBool, [], ◌∷◌, ◌++◌, refl, sym, ap, ◌∙◌, subst, append_assoc, append-nil, arith, inl, inr, ◌⊎◌}
-use Rattle.std.proofs.lemmas.Bool.{false≢true}
+use Rattle.std.proofs.Common.{◌≡◌, ℕ, zero, suc, ◌<◌, Bool, true, false, cond, eqb, Option, MatchBool, List, [], ◌∷◌, ◌++◌, refl, sym, ap, ◌∙◌, subst, append_assoc, append-nil, arith, inl, inr, ◌⊎◌}
+use Rattle.std.proofs.lemmas.Bool.{false≢true, eq-eqb}
 use Rattle.aio_model.specs.declared.flags.Flags.{Flags}
-use Rattle.aio_model.specs.LoopHistory.{Sizes, ToCall, New, Enqueue, Put, Cancel, Take, Dequeue, Free, SetEvent, ClearEvent, History}
-use Rattle.aio_model.specs.LoopFlags.{is_lot, is_pending}
+use Rattle.aio_model.specs.LoopHistory.{Sizes, ToCall, Entry, New, Enqueue, Put, Cancel, Take, Dequeue, Free, SetEvent, ClearEvent, History}
+use Rattle.aio_model.specs.LoopFlags.{is_lot, is_pending, puts, flags_of}
 use Rattle.aio_model.specs.LoopLists.{out_of}
 use Rattle.aio_model.specs.LoopLegal.{IsLegal}
-use Rattle.aio_model.specs.LoopLaws.{times_of}
-use Rattle.aio_model.specs.LoopSeats.{home, entries_of}
+use Rattle.aio_model.specs.LoopLaws.{times_of, some_entry}
+use Rattle.aio_model.specs.LoopSeats.{home, entries_by, entries_of}
 use Rattle.aio_model.specs.LoopFrame.{Entered, Place, Makes, Body, Turn, Turns, Frame, are_of_callback, start_of}
-use Rattle.aio_model.specs.LoopCalls.{dequeue_times, call_times, entry_times}
+use Rattle.aio_model.specs.LoopCalls.{dequeue_times, call_times, entry_times, stops, AwaitsCall}
 use Rattle.aio_model.proofs.Indices.{times_of-append}
 use Rattle.aio_model.proofs.Rounds.{legal_cut}
-use Rattle.aio_model.proofs.Awaiting.{call_times-append, calls_most, none_dequeued, called_once, none_taken, out_most, none_out}
+use Rattle.aio_model.proofs.Awaiting.{dequeue_times-append, call_times-append, calls_most, none_dequeued, called_once, none_taken, out_most, none_out, enqueued_awaits, two_of_by, or_right, some_entry-parts}
 use Rattle.aio_model.proofs.Entering.{Along-frame}
 use Rattle.aio_core.specs.Known.{Known}
 use Rattle.aio_bh.specs.declared.polled.Polled.{Polled}
+use Rattle.aio_bh.specs.Enqueuing.{Stands, enqueue_entries}
 use Rattle.aio_bh.specs.Polling.{dequeued_in, Polls}
 use Rattle.aio_bh.specs.Serving.{WasMade, StandsWithin, Serves}
 use Rattle.aio_bh.proofs.OneTake.{no_take, no_take-append, no_take-callback, out_since}
+use Rattle.aio_bh.proofs.Lent.{enqueue_of_callback}
 
 no_take-front : (newer older : History) → no_take (newer ++ older) ≡ true → no_take newer ≡ true
 no_take-front [] older n = refl
@@ -186,3 +188,44 @@ served does polled r s a b polls =
             | inr at ↦ at
           ];
     }
+
+-- An enqueue stands that found its index neither pending nor deleted: the index awaits its call, unless it was canceled, deleted or
+-- dequeued since.
+pub enqueue_awaits : (sizes : Sizes) (k seat : ℕ) (was : Flags) (test : ℕ → Bool) (since before : History) → k < sizes.handles → IsLegal sizes (since ++ before) → entries_by test since ≡ enqueue_entries k ToCall seat was → was.pending ≡ false → was.deleted ≡ false → some_entry (stops k) since ≡ false → dequeue_times k since ≡ 0 → AwaitsCall k (since ++ before)
+enqueue_awaits sizes k seat was test since before handle legal made idle alive still none =
+    let enqueue : Entry = Enqueue k ToCall seat was in
+    let pushed : enqueue_entries k ToCall seat was ≡ Put k seat ∷ (enqueue ∷ []) = ap (λ b. cond b (enqueue ∷ []) (Put k seat ∷ (enqueue ∷ []))) idle in
+    let two = two_of_by test (Put k seat) enqueue [] since (made ∙ pushed) in
+    let whole : since ++ before ≡ two.since ++ (enqueue ∷ (two.before ++ before)) = ap (λ l. l ++ before) two.is ∙ append_assoc two.since (enqueue ∷ two.before) before in
+    let calm = some_entry-parts (stops k) two.since (enqueue ∷ two.before) (subst (λ l. some_entry (stops k) l ≡ false) two.is still) in
+    let count : dequeue_times k two.since ≡ 0 = omega (arith, none, ap (dequeue_times k) two.is, dequeue_times-append k two.since (enqueue ∷ two.before)) in
+    subst (AwaitsCall k) (sym whole)
+    (enqueued_awaits sizes k handle seat was two.since (two.before ++ before) (subst (IsLegal sizes) whole legal) alive calm.0 count (two.has (puts k) (eq-eqb k k refl)))
+
+-- so through a seat that does only what a callback may, as each does between two polls: it dequeues nothing
+pub stands_awaits : (k : ℕ) (was : Flags) (a b : Known) → k < a.sizes.handles → a.first ≡ 64 → (stands : Stands (enqueue_entries k ToCall a.first was) a b) → was.pending ≡ false → was.deleted ≡ false → some_entry (stops k) stands.stands.stands.rest ≡ false → AwaitsCall k b.seen
+stands_awaits k was a b handle home_is stands idle alive still =
+    let s = stands.stands.stands in
+    let of_home : entries_of home s.rest ≡ enqueue_entries k ToCall a.first was = ap (λ n. entries_of n s.rest) (sym home_is) ∙ s.just_these in
+    let none = none_dequeued k s.rest (ap are_of_callback of_home ∙ enqueue_of_callback k ToCall a.first was) in
+    subst (AwaitsCall k) (sym s.longer)
+    (enqueue_awaits a.sizes k a.first was (λ n. eqb n a.first) s.rest a.seen handle (subst (IsLegal a.sizes) s.longer s.legal) s.just_these idle alive still none)
+
+-- What a callback enqueued anew awaits its call at the end of the poll, unless somebody canceled or deleted it: the next poll calls it.
+pub callback_awaits : (sizes : Sizes) (before after : History) (log : List Entered) (k : ℕ) (was : Flags) → (serves : Serves sizes before log after) → k < sizes.handles → IsLegal sizes after → WasMade (enqueue_entries k ToCall 64 was) log → was.pending ≡ false → was.deleted ≡ false → some_entry (stops k) serves.later ≡ false → AwaitsCall k after
+callback_awaits sizes before after log k was serves handle legal made idle alive still =
+    let at = serves.made (enqueue_entries k ToCall 64 was) made in
+    let P : History = Take ∷ (serves.others ++ before) in
+    let enqueue : Entry = Enqueue k ToCall 64 was in
+    let pushed : enqueue_entries k ToCall 64 was ≡ Put k 64 ∷ (enqueue ∷ []) = ap (λ b. cond b (enqueue ∷ []) (Put k 64 ∷ (enqueue ∷ []))) idle in
+    let two = two_of_by (λ n. eqb n home) (Put k 64) enqueue [] at.between (at.just_these ∙ pushed) in
+    let split : serves.later ≡ (at.newer ++ two.since) ++ (enqueue ∷ (two.before ++ at.older)) = at.is ∙ ap (λ l. at.newer ++ (l ++ at.older)) two.is ∙ ap (λ l. at.newer ++ l) (append_assoc two.since (enqueue ∷ two.before) at.older) ∙ sym (append_assoc at.newer two.since (enqueue ∷ (two.before ++ at.older))) in
+    let none : dequeue_times k (at.newer ++ two.since) ≡ 0 = serves.kept k 64 was (at.newer ++ two.since) (two.before ++ at.older) handle split idle in
+    let calm = some_entry-parts (stops k) (at.newer ++ two.since) (enqueue ∷ (two.before ++ at.older)) (subst (λ l. some_entry (stops k) l ≡ false) split still) in
+    let whole : after ≡ (at.newer ++ two.since) ++ (enqueue ∷ ((two.before ++ at.older) ++ P)) = serves.seen ∙ ap (λ l. l ++ P) split ∙ append_assoc (at.newer ++ two.since) (enqueue ∷ (two.before ++ at.older)) P in
+    subst (AwaitsCall k) (sym whole)
+    (enqueued_awaits sizes k handle 64 was (at.newer ++ two.since) ((two.before ++ at.older) ++ P) (subst (IsLegal sizes) whole legal) alive calm.0 none (has_more (puts k) at.newer two.since (two.has (puts k) (eq-eqb k k refl))))
+  where
+    has_more : (test : Entry → Bool) (xs ys : History) → some_entry test ys ≡ true → some_entry test (xs ++ ys) ≡ true
+    has_more test [] ys h = h
+    has_more test (e ∷ xs) ys h = or_right (test e) (some_entry test (xs ++ ys)) (has_more test xs ys h)

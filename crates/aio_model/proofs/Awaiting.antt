@@ -348,7 +348,7 @@ one_of_by test e more (x ∷ xs) h = by (test (seat_of x)) refl h (one_of_by tes
         let found = older_ones rest in
         record { since = x ∷ found.since; before = found.before; is = ap (λ l. x ∷ l) found.is }
 
-or_right : (a b : Bool) → b ≡ true → a || b ≡ true
+pub or_right : (a b : Bool) → b ≡ true → a || b ≡ true
 or_right true b h = refl
 or_right false b h = h
 

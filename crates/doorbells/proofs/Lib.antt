@@ -1,0 +1,3 @@
+pub mod Rang
+pub mod Answered
+pub mod Joined

@@ -1,0 +1,3 @@
+pub mod Responding
+pub mod Rings
+pub mod Answering
