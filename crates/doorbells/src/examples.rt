@@ -48,13 +48,16 @@ fn steps_of_one_index(rt: HostRuntime) -> Result<(), Fail> {
             panic!(rt; "another was pushed before {}", due.bh());
         }
     }
+    table.store_notified(&mut seat);
+    if table.load_notify_me(&mut seat) {
+        table.set_notifier(&mut seat);
+    }
     table.take(&mut home);
-    let Some(hand) = table.lift(&mut home) else {
+    let Some(next) = table.dequeue_next(&mut home) else {
         return Err(Fail::from("nothing was pushed"));
     };
-    assert_eq!(rt; hand.bh(), 1);
-    let was = table.dequeue(&mut home, hand);
-    assert!(rt; was.pending && was.scheduled && !was.deleted);
+    assert_eq!(rt; next.bh, 1);
+    assert!(rt; next.flags.pending && next.flags.scheduled && !next.flags.deleted);
     Ok(())
 }
 
