@@ -1,16 +1,18 @@
 -- How a callback shows that it gives back the seat that it was lent: by the steps that it made, one after another.
-use Rattle.std.proofs.Common.{◌≡◌, ℕ, ◌<◌, true, cond, eqb, List, [], ◌∷◌, ◌++◌, refl, sym, ap, ◌∙◌, subst, append_assoc}
+use Rattle.std.proofs.Common.{◌≡◌, ℕ, ◌<◌, Bool, true, false, cond, eqb, MatchBool, List, [], ◌∷◌, ◌++◌, refl, sym, ap, ◌∙◌, subst, append_assoc}
 use Rattle.std.proofs.lemmas.Bool.{eq-eqb, and_from, and_parts}
 use Rattle.aio_model.specs.declared.flags.Flags.{Flags}
-use Rattle.aio_model.specs.LoopHistory.{Entry, Enqueue, Put, Cancel, History}
+use Rattle.aio_model.specs.LoopHistory.{Entry, ToCallOnce, New, Enqueue, Put, Cancel, History}
 use Rattle.aio_model.specs.LoopHistory.{Asked}
 use Rattle.aio_model.specs.LoopLists.{seat_of}
 use Rattle.aio_model.specs.LoopLegal.{IsLegal}
 use Rattle.aio_model.specs.LoopSeats.{entries_of}
 use Rattle.aio_model.specs.LoopFrame.{is_of_callback, are_of_callback}
-use Rattle.aio_model.specs.InFlight.{Phase, AtRest, Announced}
+use Rattle.aio_model.specs.InFlight.{Phase, AtRest}
 use Rattle.aio_core.specs.Known.{Known, Done, numbers_of}
-use Rattle.aio_core.specs.Standing.{Makes, Enqueues, Aims, Pushes, Cancels}
+use Rattle.aio_core.specs.Words.{free_word}
+use Rattle.aio_core.specs.Standing.{Makes, Claims, Enqueues, Aims, Pushes, Cancels, SetsNotifier, PlacesJob}
+use Rattle.aio_notify.specs.Notifying.{Notifies}
 use Rattle.aio_bh.specs.HomeSteps.{home_steps}
 use Rattle.aio_bh.specs.Running.{GivesBack}
 use Rattle.aio_bh.proofs.Entries.{entries_of-append, none_of_own}
@@ -78,6 +80,10 @@ pub GoesThrough-push : (i found : ℕ) (a b : Known) → 0 < a.count → Pushes 
 GoesThrough-push i found a b some h =
     GoesThrough-made (Put i a.first) a b some refl refl h.makes (changed a b _ _ h.rest) (ap (λ (k : Known). home_steps k.did) h.rest)
 
+pub GoesThrough-claim : (i job : ℕ) (a b : Known) → 0 < a.count → Claims i job free_word a b → GoesThrough (New i a.first job ∷ []) a b
+GoesThrough-claim i job a b some h =
+    GoesThrough-made (New i a.first job) a b some refl refl h.makes (changed a b _ _ h.rest) (ap (λ (k : Known). home_steps k.did) h.rest)
+
 pub GoesThrough-cancel : (i : ℕ) (flags : Flags) (a b : Known) → 0 < a.count → Cancels i flags a b → GoesThrough (Cancel i a.first flags ∷ []) a b
 GoesThrough-cancel i flags a b some h =
     GoesThrough-made (Cancel i a.first flags) a b some refl refl h.makes (changed a b _ a.phase h.rest) (ap (λ (k : Known). home_steps k.did) h.rest)
@@ -101,6 +107,22 @@ quiet a b steps phase legal h none =
 pub GoesThrough-aim : (i found : ℕ) (a b : Known) → IsLegal a.sizes a.seen → Aims i found a b → GoesThrough [] a b
 GoesThrough-aim i found a b legal h = quiet a b _ _ legal h.rest refl
 
+notify_steps : (a b : Known) → Notifies a b → home_steps b.did ≡ home_steps a.did
+notify_steps a b notifies =
+    by (eqb notifies.armed 0) notifies.sets ∙ ap (λ (k : Known). home_steps k.did) notifies.loads.rest ∙ ap (λ (k : Known). home_steps k.did) notifies.stores.rest
+  where
+    by : (none : Bool) → MatchBool none (b ≡ notifies.loaded) ((was : ℕ) × SetsNotifier was notifies.loaded b) → home_steps b.did ≡ home_steps notifies.loaded.did
+    by true same = ap (λ (k : Known). home_steps k.did) same
+    by false sets = ap (λ (k : Known). home_steps k.did) sets.1.rest
+
+GoesThrough-notify : (a b : Known) → IsLegal a.sizes a.seen → Notifies a b → b ≡ record a { did = b.did; phase = AtRest } → GoesThrough [] a b
+GoesThrough-notify a b legal notifies same =
+    quiet a b b.did AtRest legal same (notify_steps a b notifies)
+
+legal_then : {made : History} (a b : Known) → GoesThrough made a b → IsLegal b.sizes b.seen
+legal_then a b through =
+    subst (λ s. IsLegal s b.seen) (sym (ap (λ (k : Known). k.sizes) through.rest)) through.legal
+
 -- back at rest
 pub GivesBack-of : (made : History) (a b : Known) → a.phase ≡ AtRest → b.phase ≡ AtRest → GoesThrough made a b → GivesBack made a b
 GivesBack-of made a b rest still through = record {
@@ -114,23 +136,41 @@ GivesBack-of made a b rest still through = record {
   steps = through.steps;
 }
 
--- an index was enqueued, and pushed
-pub GivesBack-pushed : (i aimed pushed : ℕ) (asked : Asked) (flags : Flags) (a b c d : Known) → 0 < a.count → a.phase ≡ AtRest → Enqueues i asked flags a b → Aims i aimed b c → Pushes i pushed c d → GivesBack (Put i a.first ∷ (Enqueue i asked a.first flags ∷ [])) a d
-GivesBack-pushed i aimed pushed asked flags a b c d some rest enqueues aims pushes =
+-- an index was enqueued and pushed, and home was notified
+GoesThrough-pushed : (i aimed pushed : ℕ) (asked : Asked) (flags : Flags) (a b c d e : Known) → 0 < a.count → Enqueues i asked flags a b → Aims i aimed b c → Pushes i pushed c d → Notifies d e → e ≡ record d { did = e.did; phase = AtRest } → GoesThrough (Put i a.first ∷ (Enqueue i asked a.first flags ∷ [])) a e
+GoesThrough-pushed i aimed pushed asked flags a b c d e some enqueues aims pushes notifies same =
     let first = GoesThrough-enqueue i asked flags a b some enqueues in
-    let aim = GoesThrough-aim i aimed b c (subst (λ s. IsLegal s b.seen) (sym (ap (λ (k : Known). k.sizes) enqueues.rest)) first.legal) aims in
+    let aim = GoesThrough-aim i aimed b c (legal_then a b first) aims in
     let two = GoesThrough-then (Enqueue i asked a.first flags ∷ []) [] a b c first aim in
     let same_count : c.count ≡ a.count = ap (λ (k : Known). k.count) two.rest in
     let same_first : c.first ≡ a.first = ap (λ (k : Known). k.first) two.rest in
     let put : GoesThrough (Put i a.first ∷ []) c d = subst (λ n. GoesThrough (Put i n ∷ []) c d) same_first (GoesThrough-push i pushed c d (subst (λ n. 0 < n) (sym same_count) some) pushes) in
-    GivesBack-of (Put i a.first ∷ (Enqueue i asked a.first flags ∷ [])) a d rest (ap (λ (k : Known). k.phase) pushes.rest)
-    (GoesThrough-then (Enqueue i asked a.first flags ∷ []) (Put i a.first ∷ []) a c d two put)
+    let three = GoesThrough-then (Enqueue i asked a.first flags ∷ []) (Put i a.first ∷ []) a c d two put in
+    GoesThrough-then (Put i a.first ∷ (Enqueue i asked a.first flags ∷ [])) [] a d e three (GoesThrough-notify d e (legal_then a d three) notifies same)
 
--- an index was enqueued that was pending
-pub GivesBack-pending : (i : ℕ) (asked : Asked) (flags : Flags) (a b : Known) → 0 < a.count → a.phase ≡ AtRest → flags.pending ≡ true → Enqueues i asked flags a b → GivesBack (Enqueue i asked a.first flags ∷ []) a b
-GivesBack-pending i asked flags a b some rest pending enqueues =
-    GivesBack-of (Enqueue i asked a.first flags ∷ []) a b rest (ap (λ (k : Known). k.phase) enqueues.rest ∙ ap (λ b. cond b AtRest (Announced i)) pending)
-    (GoesThrough-enqueue i asked flags a b some enqueues)
+pub GivesBack-pushed : (i aimed pushed : ℕ) (asked : Asked) (flags : Flags) (a b c d e : Known) → 0 < a.count → a.phase ≡ AtRest → Enqueues i asked flags a b → Aims i aimed b c → Pushes i pushed c d → Notifies d e → e ≡ record d { did = e.did; phase = AtRest } → GivesBack (Put i a.first ∷ (Enqueue i asked a.first flags ∷ [])) a e
+GivesBack-pushed i aimed pushed asked flags a b c d e some rest enqueues aims pushes notifies same =
+    GivesBack-of (Put i a.first ∷ (Enqueue i asked a.first flags ∷ [])) a e rest (ap (λ (k : Known). k.phase) same)
+    (GoesThrough-pushed i aimed pushed asked flags a b c d e some enqueues aims pushes notifies same)
+
+-- an index was enqueued that was pending, and home was notified
+pub GivesBack-pending : (i : ℕ) (asked : Asked) (flags : Flags) (a b c : Known) → 0 < a.count → a.phase ≡ AtRest → Enqueues i asked flags a b → Notifies b c → c ≡ record b { did = c.did; phase = AtRest } → GivesBack (Enqueue i asked a.first flags ∷ []) a c
+GivesBack-pending i asked flags a b c some rest enqueues notifies same =
+    let first = GoesThrough-enqueue i asked flags a b some enqueues in
+    GivesBack-of (Enqueue i asked a.first flags ∷ []) a c rest (ap (λ (k : Known). k.phase) same)
+    (GoesThrough-then (Enqueue i asked a.first flags ∷ []) [] a b c first (GoesThrough-notify b c (legal_then a b first) notifies same))
+
+-- a one-shot was placed and pushed, and home was notified
+pub GivesBack-placed : (i job aimed pushed : ℕ) (a b c d e : Known) → 0 < a.count → a.phase ≡ AtRest → (placed : PlacesJob i job a b) → Aims i aimed b c → Pushes i pushed c d → Notifies d e → e ≡ record d { did = e.did; phase = AtRest } → GivesBack (Put i a.first ∷ (Enqueue i ToCallOnce a.first placed.flags ∷ (New i a.first job ∷ []))) a e
+GivesBack-placed i job aimed pushed a b c d e some rest placed aims pushes notifies same =
+    let m : Known = placed.claimed in
+    let first = GoesThrough-claim i job a m some placed.claims in
+    let same_count : m.count ≡ a.count = ap (λ (k : Known). k.count) first.rest in
+    let same_first : m.first ≡ a.first = ap (λ (k : Known). k.first) first.rest in
+    let pushed_on = GoesThrough-pushed i aimed pushed ToCallOnce placed.flags m b c d e (subst (λ n. 0 < n) (sym same_count) some) placed.enqueues aims pushes notifies same in
+    let then = subst (λ n. GoesThrough (Put i n ∷ (Enqueue i ToCallOnce n placed.flags ∷ [])) m e) same_first pushed_on in
+    GivesBack-of (Put i a.first ∷ (Enqueue i ToCallOnce a.first placed.flags ∷ (New i a.first job ∷ []))) a e rest (ap (λ (k : Known). k.phase) same)
+    (GoesThrough-then (New i a.first job ∷ []) (Put i a.first ∷ (Enqueue i ToCallOnce a.first placed.flags ∷ [])) a m e first then)
 
 pub GivesBack-canceled : (i : ℕ) (flags : Flags) (a b : Known) → 0 < a.count → a.phase ≡ AtRest → Cancels i flags a b → GivesBack (Cancel i a.first flags ∷ []) a b
 GivesBack-canceled i flags a b some rest cancels =

@@ -4,6 +4,7 @@ ghost use Rattle.std.specs.Prelude.{◌≡◌, ◌<◌, IfSome};
 ghost use Rattle.aio_model.specs.InFlight.{AtRest};
 ghost use Rattle.aio_core.specs.Known.{empty_stage};
 ghost use Rattle.aio_core.specs.Calls.{IsSeatOf};
+ghost use Rattle.aio_bh.specs.Ready.{IsReady};
 
 use crate::tests::Notes;
 use crate::{BottomHalves, Polled};
@@ -17,6 +18,15 @@ use std::test::Fail;
 /// Pseudo-random numbers.
 fn shuffled(seed: u32) -> u32 {
     seed.wrapping_mul(1664525).wrapping_add(1013904223)
+}
+
+/// What is called on a handle.
+#[derive(Clone, Copy, Debug)]
+enum Act {
+    Schedule,
+    ScheduleIdle,
+    Cancel,
+    Delete,
 }
 
 /// A shared loop of four handles.
@@ -33,6 +43,20 @@ struct Shared {
     ghost seat_rests: { seat.known.phase ≡ AtRest },
 }
 
+/// One call through a seat, which is at rest again.
+fn act_on<R: Wait>(rt: &R, table: &LoopTable<()>, seat: &mut Seat<()>, act: Act, bh: u32) -> Flags
+    requires seat { IsReady table.now seat.old }
+    requires handle { bh < table.now.sizes.handles }
+    ensures seat { IsReady table.now seat.new }
+{
+    match act {
+        Act::Schedule => table.schedule(rt, seat, bh),
+        Act::ScheduleIdle => table.schedule_idle(rt, seat, bh),
+        Act::Cancel => table.cancel(seat, bh),
+        Act::Delete => table.delete(rt, seat, bh),
+    }
+}
+
 impl Shared {
     fn build(alloc: Global) -> Result<Shared, Fail> {
         let Ok(built) = LoopTable::<()>::build(alloc, 4, 0, 0) else {
@@ -42,28 +66,10 @@ impl Shared {
         Ok(Shared { table, home, seat })
     }
 
-    fn schedule<R: Wait>(&mut self, rt: &R, bh: u32) -> Flags
+    fn act<R: Wait>(&mut self, rt: &R, act: Act, bh: u32) -> Flags
         requires { bh < 4 }
     {
-        self.table.schedule(rt, &mut self.seat, bh)
-    }
-
-    fn schedule_idle<R: Wait>(&mut self, rt: &R, bh: u32) -> Flags
-        requires { bh < 4 }
-    {
-        self.table.schedule_idle(rt, &mut self.seat, bh)
-    }
-
-    fn delete<R: Wait>(&mut self, rt: &R, bh: u32) -> Flags
-        requires { bh < 4 }
-    {
-        self.table.delete(rt, &mut self.seat, bh)
-    }
-
-    fn cancel(&mut self, bh: u32) -> Flags
-        requires { bh < 4 }
-    {
-        self.table.cancel(&mut self.seat, bh)
+        act_on(rt, &self.table, &mut self.seat, act, bh)
     }
 
     fn poll<T: Abort>(&mut self, notes: &mut Notes<T>) -> Polled
@@ -80,10 +86,30 @@ struct Plain {
     ghost four: { one.sizes.handles ≡ 4 },
 }
 
+/// One call on the loop, which has as many handles as before.
+fn act_plainly(one: &mut OneLoop, act: Act, bh: u32) -> Flags
+    requires four { one.old.sizes.handles ≡ 4 }
+    requires handle { bh < 4 }
+    ensures four { one.new.sizes.handles ≡ 4 }
+{
+    match act {
+        Act::Schedule => one.schedule(bh),
+        Act::ScheduleIdle => one.schedule_idle(bh),
+        Act::Cancel => one.cancel(bh),
+        Act::Delete => one.delete(bh),
+    }
+}
+
 impl Plain {
     fn build(alloc: Global) -> Result<Plain, Fail> {
         let one = OneLoop::build(alloc, 4, 0, 0)?;
         Ok(Plain { one })
+    }
+
+    fn act(&mut self, act: Act, bh: u32) -> Flags
+        requires { bh < 4 }
+    {
+        act_plainly(&mut self.one, act, bh)
     }
 
     /// Calls the next that is out, where it is due. False where none is out.
@@ -124,15 +150,23 @@ fn both_poll(rt: &impl Abort, shared: &mut Shared, plain: &mut Plain) {
     assert_eq!(rt; called.called, wanted.called);
 }
 
-/// One call on both, as the number says, answers the same. Few are deleted, since nothing more is heard of these.
+/// What the number says is to be done; None is a poll. Few are deleted, since nothing more is heard of these.
+fn chosen(number: u32) -> Option<Act> {
+    match number / 2097152 % 16 {
+        0..5 => Some(Act::Schedule),
+        5..8 => Some(Act::ScheduleIdle),
+        8..11 => Some(Act::Cancel),
+        11 => Some(Act::Delete),
+        _ => None,
+    }
+}
+
+/// One call on both, as the number says, answers the same.
 fn step<R: Abort + Wait>(rt: &R, shared: &mut Shared, plain: &mut Plain, number: u32) {
     let bh = number / 65536 % 4;
-    match number / 2097152 % 16 {
-        0..5 => assert_eq!(rt; shared.schedule(rt, bh), plain.one.schedule(bh)),
-        5..8 => assert_eq!(rt; shared.schedule_idle(rt, bh), plain.one.schedule_idle(bh)),
-        8..11 => assert_eq!(rt; shared.cancel(bh), plain.one.cancel(bh)),
-        11 => assert_eq!(rt; shared.delete(rt, bh), plain.one.delete(bh)),
-        _ => both_poll(rt, shared, plain),
+    match chosen(number) {
+        Some(act) => assert_eq!(rt; shared.act(rt, act, bh), plain.act(act, bh)),
+        None => both_poll(rt, shared, plain),
     }
 }
 
@@ -171,74 +205,102 @@ const TO_CALL: Flags = Flags {
     ..BLANK
 };
 
-/// One poll: these are called, one after the other.
-fn polls(rt: &impl Abort, shared: &mut Shared, calls: &[u32], progress: bool) {
+const IDLE: Flags = Flags {
+    idle: true,
+    ..TO_CALL
+};
+
+const CANCELED: Flags = Flags {
+    pending: true,
+    ..BLANK
+};
+
+const DELETED: Flags = Flags {
+    deleted: true,
+    ..BLANK
+};
+
+const DELETING: Flags = Flags {
+    pending: true,
+    ..DELETED
+};
+
+/// A row of a worked list: what is called, and what is wanted of it.
+#[derive(Clone, Copy)]
+enum Row {
+    /// The call on the handle finds these flags.
+    Finds(Act, u32, Flags),
+    /// A poll calls so many, these first; whether that is progress.
+    Polls(u64, [u32; 3], bool),
+}
+
+/// One poll.
+fn polls(rt: &impl Abort, shared: &mut Shared, ran: u64, calls: [u32; 3], progress: bool) {
     let mut notes = Notes::of(rt);
     let polled = shared.poll(&mut notes);
-    assert_eq!(rt; polled.ran, calls.len() as u64);
-    assert_eq!(rt; (polled.progress, polled.cut_nests), (progress, 0));
-    assert_eq!(rt; notes.called.get(..notes.count), Some(calls));
+    assert_eq!(rt; (polled.ran, polled.progress, polled.cut_nests), (ran, progress, 0));
+    assert_eq!(rt; (notes.count as u64, notes.called.get(..3)), (ran, Some(calls.as_slice())));
+}
+
+/// One row after another is as wanted.
+fn holds<R: Abort + Wait>(rt: &R, alloc: Global, rows: &[Row]) -> Result<(), Fail> {
+    let mut shared = Shared::build(alloc)?;
+    for row in rows {
+        match *row {
+            Row::Finds(act, bh, found) => assert_eq!(rt; shared.act(rt, act, bh % 4), found),
+            Row::Polls(ran, calls, progress) => polls(rt, &mut shared, ran, calls, progress),
+        }
+    }
+    Ok(())
 }
 
 #[test]
 fn the_newest_is_called_first_and_each_once(rt: HostRuntime) -> Result<(), Fail> {
-    let mut shared = Shared::build(rt.alloc())?;
-    assert_eq!(rt; shared.schedule(&rt, 0), BLANK);
-    assert_eq!(rt; shared.schedule(&rt, 1), BLANK);
-    assert_eq!(rt; shared.schedule(&rt, 2), BLANK);
-    polls(&rt, &mut shared, &[2, 1, 0], true);
-    assert_eq!(rt; shared.schedule(&rt, 0), BLANK);
-    assert_eq!(rt; shared.schedule(&rt, 0), TO_CALL);
-    polls(&rt, &mut shared, &[0], true);
-    polls(&rt, &mut shared, &[], false);
-    Ok(())
+    let rows = [
+        Row::Finds(Act::Schedule, 0, BLANK),
+        Row::Finds(Act::Schedule, 1, BLANK),
+        Row::Finds(Act::Schedule, 2, BLANK),
+        Row::Polls(3, [2, 1, 0], true),
+        Row::Finds(Act::Schedule, 0, BLANK),
+        Row::Finds(Act::Schedule, 0, TO_CALL),
+        Row::Polls(1, [0, 0, 0], true),
+        Row::Polls(0, [0, 0, 0], false),
+    ];
+    holds(&rt, rt.alloc(), &rows)
 }
 
 #[test]
 fn a_canceled_one_is_called_once_it_is_scheduled_again(rt: HostRuntime) -> Result<(), Fail> {
-    let mut shared = Shared::build(rt.alloc())?;
-    assert_eq!(rt; shared.schedule(&rt, 0), BLANK);
-    assert_eq!(rt; shared.cancel(0), TO_CALL);
-    polls(&rt, &mut shared, &[], false);
-    assert_eq!(rt; shared.schedule(&rt, 0), BLANK);
-    assert_eq!(rt; shared.cancel(0), TO_CALL);
-    let canceled = Flags {
-        pending: true,
-        ..BLANK
-    };
-    assert_eq!(rt; shared.schedule(&rt, 0), canceled);
-    polls(&rt, &mut shared, &[0], true);
-    Ok(())
+    let rows = [
+        Row::Finds(Act::Schedule, 0, BLANK),
+        Row::Finds(Act::Cancel, 0, TO_CALL),
+        Row::Polls(0, [0, 0, 0], false),
+        Row::Finds(Act::Schedule, 0, BLANK),
+        Row::Finds(Act::Cancel, 0, TO_CALL),
+        Row::Finds(Act::Schedule, 0, CANCELED),
+        Row::Polls(1, [0, 0, 0], true),
+    ];
+    holds(&rt, rt.alloc(), &rows)
 }
 
 #[test]
 fn a_deleted_one_is_not_called_again(rt: HostRuntime) -> Result<(), Fail> {
-    let mut shared = Shared::build(rt.alloc())?;
-    let deleted = Flags {
-        deleted: true,
-        ..BLANK
-    };
-    let deleting = Flags {
-        pending: true,
-        ..deleted
-    };
-    assert_eq!(rt; shared.delete(&rt, 0), BLANK);
-    assert_eq!(rt; shared.schedule(&rt, 0), deleting);
-    polls(&rt, &mut shared, &[], false);
-    assert_eq!(rt; shared.schedule(&rt, 0), deleted);
-    polls(&rt, &mut shared, &[], false);
-    Ok(())
+    let rows = [
+        Row::Finds(Act::Delete, 0, BLANK),
+        Row::Finds(Act::Schedule, 0, DELETING),
+        Row::Polls(0, [0, 0, 0], false),
+        Row::Finds(Act::Schedule, 0, DELETED),
+        Row::Polls(0, [0, 0, 0], false),
+    ];
+    holds(&rt, rt.alloc(), &rows)
 }
 
 #[test]
 fn a_schedule_after_an_idle_one_is_no_progress(rt: HostRuntime) -> Result<(), Fail> {
-    let mut shared = Shared::build(rt.alloc())?;
-    assert_eq!(rt; shared.schedule_idle(&rt, 0), BLANK);
-    let idle = Flags {
-        idle: true,
-        ..TO_CALL
-    };
-    assert_eq!(rt; shared.schedule(&rt, 0), idle);
-    polls(&rt, &mut shared, &[0], false);
-    Ok(())
+    let rows = [
+        Row::Finds(Act::ScheduleIdle, 0, BLANK),
+        Row::Finds(Act::Schedule, 0, IDLE),
+        Row::Polls(1, [0, 0, 0], false),
+    ];
+    holds(&rt, rt.alloc(), &rows)
 }

@@ -7,6 +7,8 @@ mod compare_tests;
 mod enqueue;
 mod polled;
 #[cfg(test)]
+mod one_shot_tests;
+#[cfg(test)]
 mod polling_tests;
 mod polls;
 mod put;
