@@ -1,6 +1,6 @@
 -- The claim of a lot keeps the rule: its life begins for the job that the step announces, and its slot is taken.
 use Rattle.std.proofs.Common.{◌≡◌, ◌≢◌, ℕ, ◌+◌, ◌<◌, Bool, true, false, not, cond, ◌||◌, eqb, ltb, Option, Some, None, List, ◌∷◌, set, slice_index, inl, inr, refl, sym, ap, ◌∙◌, subst, ⊎_elim, arith}
-use Rattle.std.proofs.lemmas.Bool.{and_parts, and_from, cases_eq, ne_eqb, eqb-true, eq-eqb, ltb-true, lt-ltb, le-ltb, not_from_false}
+use Rattle.std.proofs.lemmas.Bool.{and_parts, and_from, cases_eq, ne_eqb, eqb-true, eq-eqb, lt-ltb, le-ltb, not_from_false}
 use mathlib.Core.Option.{some, none}
 use lib.ListN.{get_elem?, length-set}
 use prog.Atomic.{either}
@@ -30,7 +30,7 @@ use Rattle.aio_core.proofs.Sleeping.{something, no_reason, sleep_kept}
 use Rattle.aio_core.proofs.Enqueuing.{next_beside_flags, head_beside_flags}
 use Rattle.aio_core.proofs.Slots.{same_lot, same_stage, slots_change, slots_kept}
 use Rattle.aio_core.proofs.Settling.{after_look, look_stands}
-use Rattle.aio_core.proofs.Lives.{no_word, flags_of-new, flags_of-new_other, lives-new, life-new, life-new_other, claimed_lives}
+use Rattle.aio_core.proofs.Lives.{lot_below, no_word, flags_of-new, flags_of-new_other, lives-new, life-new, life-new_other, claimed_lives}
 
 abbrev pub after_claim : Known → History → ℕ → ℕ → ℕ → Known
 after_claim v h i job found =
@@ -80,7 +80,7 @@ module _ (sizes : Sizes) (h : History) (words : List ℕ) (views : List Known) (
       let w = after_claim v h i job found in
       let k = flags_at i in
       let words' = set words k 0 in
-      let below : i < index_count sizes = ltb-true i (sizes.handles + sizes.lots) (and_parts _ _ lot).1 in
+      let below = lot_below sizes i lot in
       let same_next : (j : ℕ) → next_in words' j ≡ next_in words j = next_beside_flags words i 0 in
       let new_word : flags_word sizes i (entry ∷ h) ≡ 0 = ap (λ (b : Bool). cond b (word_of (flags_of i (entry ∷ h))) free_word) (life-new sizes i v.first job h) ∙ ap word_of (flags_of-new i v.first job h) ∙ no_word in
       let same : eqb i i ≡ true = eq-eqb i i refl in

@@ -15,7 +15,7 @@ use Rattle.aio_model.specs.InFlight.{Phase, LotClaimed, flight_of}
 use Rattle.aio_model.proofs.AnnouncedOnce.{fits, head_is_pending}
 use Rattle.aio_core.specs.Words.{flags_at, index_count, next_in}
 use Rattle.aio_core.specs.Known.{Stage, Known, numbers_of}
-use Rattle.aio_core.specs.Rule.{SeatsStand, IsClaimed, Owes, IsOut, HasOut, push_of, store_of, is_at_hand, IsFull, HasJob, Kept}
+use Rattle.aio_core.specs.Rule.{SeatsStand, IsClaimed, Owes, IsOut, HasOut, push_of, store_of, is_at_hand, IsFull, HasJob, Kept, SlotOf}
 use Rattle.aio_core.specs.Standing.{Enqueues}
 use Rattle.aio_core.specs.Plays.{Enqueued, lot_enqueued}
 use Rattle.aio_core.proofs.Entries.{owns_first}
@@ -53,7 +53,7 @@ not_at_hand words h i sizes u legal idle own has = by u.stage.hand (has own).0
     by (Some j) out =
         ne_eqb i j (λ e. absurd (let first : head_of (out_of h) ≡ Some j = ap head_of out.1 in let pending = head_is_pending sizes h j (is_due j h) (fits sizes h j legal) first in let both : true ≡ false = sym (subst (λ k. is_pending k h ≡ true) (sym e) pending) ∙ idle in cc))
 
-has_here : {J : Type 0} (number : J → ℕ) (i : ℕ) (stage : Stage) (job : Option ℕ) (x : J) (at : mathlib.Core.Option.Option (mathlib.Core.Option.Option (Option J))) → is_at_hand i stage.hand ≡ false → at ≡ some (some (Some x)) → job ≡ Some (number x) → HasJob number i stage job at
+has_here : {J : Type 0} (number : J → ℕ) (i : ℕ) (stage : Stage) (job : Option ℕ) (x : J) (at : mathlib.Core.Option.Option (SlotOf J)) → is_at_hand i stage.hand ≡ false → at ≡ some (some (Some x)) → job ≡ Some (number x) → HasJob number i stage job at
 has_here number i stage job x at away place is = rw away (x, place, is)
 
 module _ {J : Type 0} (number : J → ℕ) where

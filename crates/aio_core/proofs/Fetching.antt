@@ -15,7 +15,7 @@ use Rattle.aio_model.proofs.AnnouncedOnce.{fits, head_is_pending}
 use Rattle.aio_model.proofs.LotLives.{pending_lot_lives}
 use Rattle.aio_core.specs.Words.{flags_at, next_at, index_count, next_in}
 use Rattle.aio_core.specs.Known.{NextLoad, Stage, Known, numbers_of}
-use Rattle.aio_core.specs.Rule.{IsOut, NoneEmpty, HasOut, is_at_hand, IsFull, HasJob, Kept}
+use Rattle.aio_core.specs.Rule.{IsOut, NoneEmpty, HasOut, is_at_hand, IsFull, HasJob, Kept, SlotOf}
 use Rattle.aio_core.specs.Standing.{done, without_first, Makes, Lifts, Dequeues}
 use Rattle.aio_core.specs.Plays.{Dequeued, lot_lifted, lot_dequeued}
 use Rattle.aio_core.proofs.Seats.{each_set, makes_of}
@@ -132,7 +132,7 @@ module _ {J : Type 0} (number : J → ℕ) where
       let told : Dequeued i (slice_index s.words (flags_at i)) v w = record { flags = flags; found_is = found; dequeues = dequeues_it } in
       (w, gives, tt, (entry ∷ h, now.0, slots_now), (refl, λ j eq. let index : i ≡ j = same_index i j (sym hand ∙ eq) in subst (λ k. Dequeued k (slice_index s.words (flags_at i)) v w × (job_of k (entry ∷ h) ≡ v.stage.job)) index (told, job_is)))
     where
-      held_job : (i : ℕ) (stage : Stage) (job : Option ℕ) (place : mathlib.Core.Option.Option (mathlib.Core.Option.Option (Option J))) → is_at_hand i stage.hand ≡ true → HasJob number i stage job place → job ≡ stage.job
+      held_job : (i : ℕ) (stage : Stage) (job : Option ℕ) (place : mathlib.Core.Option.Option (SlotOf J)) → is_at_hand i stage.hand ≡ true → HasJob number i stage job place → job ≡ stage.job
       held_job i stage job place e has = rw e at has
 
 -- the dequeue of any seat that has the slot

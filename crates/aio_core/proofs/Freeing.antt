@@ -15,7 +15,7 @@ use Rattle.aio_model.proofs.AnnouncedOnce.{fits}
 use Rattle.aio_model.proofs.LotLives.{may_free-after}
 use Rattle.aio_chain.specs.Chains.{IsChain}
 use Rattle.aio_chain.proofs.Chains.{chain_kept}
-use Rattle.aio_core.specs.Words.{head_at, notified_at, notify_me_at, notifier_at, flags_at, index_count, flags_word, free_word, next_in}
+use Rattle.aio_core.specs.Words.{head_at, notified_at, notify_me_at, notifier_at, flags_at, flags_word, free_word, next_in}
 use Rattle.aio_core.specs.Known.{LotFreeStore, Known, numbers_of}
 use Rattle.aio_core.specs.Rule.{is_wanted, Stands, Kept}
 use Rattle.aio_core.specs.Standing.{done, Frees}
@@ -27,7 +27,7 @@ use Rattle.aio_core.proofs.Lists.{each_all, owes_kept, claimed_still, has_out_ke
 use Rattle.aio_core.proofs.Sleeping.{sleep_kept}
 use Rattle.aio_core.proofs.Enqueuing.{next_beside_flags, head_beside_flags}
 use Rattle.aio_core.proofs.Slots.{same_lot, same_stage, slots_change}
-use Rattle.aio_core.proofs.Lives.{flags_of-free, flags_of-free_other, lives-free, life-free, life-free_other}
+use Rattle.aio_core.proofs.Lives.{lot_below, flags_of-free, flags_of-free_other, lives-free, life-free, life-free_other}
 
 -- what home has seen of a lot that may be freed is so still
 may_free-beside : (sizes : Sizes) (n : Numbers) (rest seen : History) (i : ℕ) → owns n home ≡ true → IsLegal sizes (rest ++ seen) → own_entries n rest ≡ [] → MayFollow sizes (Free i) seen → MayFollow sizes (Free i) (rest ++ seen)
@@ -89,7 +89,7 @@ module _ (sizes : Sizes) (h : History) (words : List ℕ) (views : List Known) (
       let w = after_free v h i in
       let k = flags_at i in
       let words' = set words k free_word in
-      let below : i < index_count sizes = ltb-true i (sizes.handles + sizes.lots) (and_parts _ _ lot).1 in
+      let below = lot_below sizes i lot in
       let same_next : (j : ℕ) → next_in words' j ≡ next_in words j = next_beside_flags words i free_word in
       let new_word : flags_word sizes i (entry ∷ h) ≡ free_word = ap (λ (b : Bool). cond b (word_of (flags_of i (entry ∷ h))) free_word) (life-free sizes i h lot) in
       record {
@@ -146,9 +146,6 @@ place_of_lot sizes i lot =
     let above = ltb-false i sizes.handles (not-true _ parts.0) in
     let below = ltb-true i (sizes.handles + sizes.lots) parts.1 in
     (i - sizes.handles, omega arith, omega arith)
-
-pub lot_below : (sizes : Sizes) (i : ℕ) → is_lot sizes i ≡ true → i < index_count sizes
-lot_below sizes i lot = ltb-true i (sizes.handles + sizes.lots) (and_parts _ _ lot).1
 
 -- of a lot of which home has seen that its life may end
 pub free_allowed : {J : Type 0} (number : J → ℕ) (sizes : Sizes) (slots id i : ℕ) (me : Me (Option J) Known) → 0 < me.0.count → owns (numbers_of me.0) home ≡ true → MayFollow sizes (Free i) me.0.seen → Allows (Kept number sizes) slots id me (flags_at i) (λ _. free_word) (λ _. lot_freed number (step slots (flags_at i) free_word 0 none) me free_word)

@@ -1,12 +1,13 @@
 -- What the beginning of a life and its end make of the flags of a lot.
-use Rattle.std.proofs.Common.{◌≡◌, ◌≢◌, ℕ, Bool, true, false, cond, ◌||◌, eqb, ltb, Some, None, [], ◌∷◌, refl}
-use Rattle.std.proofs.lemmas.Bool.{ne_eqb, eq-eqb}
+use Rattle.std.proofs.Common.{◌≡◌, ◌≢◌, ℕ, ◌+◌, ◌<◌, Bool, true, false, cond, ◌||◌, eqb, ltb, Some, None, [], ◌∷◌, refl}
+use Rattle.std.proofs.lemmas.Bool.{and_parts, ne_eqb, eq-eqb, ltb-true}
 use Rattle.aio_model.specs.declared.flags.Flags.{Flags}
 use Rattle.aio_model.specs.FlagsWord.{word_of}
 use Rattle.aio_model.specs.LoopHistory.{Sizes, New, Enqueue, Put, Cancel, Take, Dequeue, Free, SetEvent, ClearEvent, History}
 use Rattle.aio_model.specs.LoopFlags.{has_life, lives, is_lot, flags_of}
 use Rattle.aio_model.specs.LoopLists.{claimer_of}
 use Rattle.aio_model.proofs.Lifeless.{lot_above}
+use Rattle.aio_core.specs.Words.{index_count}
 
 abbrev no_flags : Flags
 no_flags = record { pending = false; scheduled = false; deleted = false; oneshot = false; idle = false }
@@ -72,3 +73,7 @@ claimed_lives i s (Free j ∷ h) e = by (eqb i j) (claimed_lives i s h) e
     by false k q = k q
 claimed_lives i s (SetEvent j t ∷ h) e = claimed_lives i s h e
 claimed_lives i s (ClearEvent j was ∷ h) e = claimed_lives i s h e
+
+-- a lot is one of the indices
+pub lot_below : (sizes : Sizes) (i : ℕ) → is_lot sizes i ≡ true → i < index_count sizes
+lot_below sizes i lot = ltb-true i (sizes.handles + sizes.lots) (and_parts _ _ lot).1

@@ -12,7 +12,7 @@ use Rattle.aio_chain.specs.Chains.{IsChain}
 use Rattle.aio_chain.proofs.Chains.{chain_kept}
 use Rattle.aio_core.specs.Words.{head_at, notified_at, notify_me_at, notifier_at, next_at, next_in}
 use Rattle.aio_core.specs.Known.{NotifiedStore, NotifyMeLoad, NotifierSwap, Known, numbers_of}
-use Rattle.aio_core.specs.Rule.{Owes, HasOut, push_of, store_of, is_wanted, AreCovered, IsSleepSafe, Sleeps, SleepStands, Stands, Kept}
+use Rattle.aio_core.specs.Rule.{Owes, HasOut, push_of, store_of, AreCovered, IsSleepSafe, SleepStands, Stands, Kept, IsOut, NoneEmpty}
 use Rattle.aio_core.specs.Standing.{may_notify, done, after_load, StoresNotified, LoadsNotifyMe, SetsNotifier}
 use Rattle.aio_core.specs.Plays.{notified_stored, notify_me_loaded, notifier_set}
 use Rattle.aio_core.proofs.Slots.{same_entry, same_hand, slots_kept}
@@ -46,14 +46,14 @@ word_stands sizes h words views id k x v w stand at numbered same seen mine stag
     stage_same : HasOut (set words k x) h v → HasOut (set words k x) h w
     stage_same has own =
         let own' : owns (numbers_of v) home ≡ true = subst (λ n. owns n home ≡ true) same.numbers_are own in
-        subst (λ t. Rattle.aio_core.specs.Rule.IsOut (next_in (set words k x)) t.slices t.hand (out_of h) × Rattle.aio_core.specs.Rule.NoneEmpty t.slices) (sym stage) (has own')
+        subst (λ t. IsOut (next_in (set words k x)) t.slices t.hand (out_of h) × NoneEmpty t.slices) (sym stage) (has own')
 
 alike : (v w : Known) → w.sizes ≡ v.sizes → numbers_of w ≡ numbers_of v → w.told ≡ v.told → IsSame v w
 alike v w sizes numbers told = record { sizes_are = sizes; numbers_are = numbers; told_is = told }
 
 abbrev pub reason_of : Phase → Reason
-reason_of AtRest = Rattle.aio_model.specs.InFlight.ForNothing
-reason_of (LotClaimed i job) = Rattle.aio_model.specs.InFlight.ForNothing
+reason_of AtRest = ForNothing
+reason_of (LotClaimed i job) = ForNothing
 reason_of (Announced i) = ForIndex i
 reason_of (HeadLoaded i found) = ForIndex i
 reason_of (Linked i found) = ForIndex i

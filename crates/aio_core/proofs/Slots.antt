@@ -8,7 +8,7 @@ use Rattle.aio_model.specs.LoopFlags.{lives, was_dequeued, begins, frees, enqueu
 use Rattle.aio_model.specs.LoopLists.{claimer_of, job_of}
 use Rattle.aio_model.specs.LoopSeats.{owns, home}
 use Rattle.aio_core.specs.Known.{Stage, Known, numbers_of}
-use Rattle.aio_core.specs.Rule.{EachView, is_at_hand, IsFull, HasJob, SlotsStand}
+use Rattle.aio_core.specs.Rule.{EachView, is_at_hand, IsFull, HasJob, SlotsStand, SlotOf}
 use Rattle.aio_core.proofs.Seats.{each_set}
 
 -- Slots.
@@ -41,9 +41,9 @@ same_stage i s t e = record { hand = ap (λ (x : Stage). is_at_hand i x.hand) e;
 
 module _ {J : Type 0} (number : J → ℕ) where
   abbrev Places : Type 0
-  Places = List (mathlib.Core.Option.Option (Option J))
+  Places = List (SlotOf J)
 
-  job_kept : (i : ℕ) (s t : Stage) (a b : Option ℕ) (p q : mathlib.Core.Option.Option (mathlib.Core.Option.Option (Option J))) → SameHand i s t → b ≡ a → q ≡ p → HasJob number i s a p → HasJob number i t b q
+  job_kept : (i : ℕ) (s t : Stage) (a b : Option ℕ) (p q : mathlib.Core.Option.Option (SlotOf J)) → SameHand i s t → b ≡ a → q ≡ p → HasJob number i s a p → HasJob number i t b q
   job_kept i s t a b p q same job place has = by (is_at_hand i s.hand) same.job has (is_at_hand i t.hand) same.hand
     where
       by : (c : Bool) → (c ≡ true → t.job ≡ s.job) → MatchBool c (a ≡ s.job) ((x : J) × (p ≡ some (some (Some x))) × (a ≡ Some (number x))) → (d : Bool) → d ≡ c → MatchBool d (b ≡ t.job) ((x : J) × (q ≡ some (some (Some x))) × (b ≡ Some (number x)))

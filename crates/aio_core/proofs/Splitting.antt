@@ -1,5 +1,5 @@
 -- A seat that is split keeps the rule.
-use Rattle.std.proofs.Common.{Option, ◌≡◌, ◌≢◌, ℕ, zero, suc, ◌+◌, ◌-◌, ◌*◌, ◌/◌, ◌%◌, div-add-mod', ◌<◌, ◌≤◌, Bool, true, false, not, cond, ltb, List, [], ◌∷◌, ◌++◌, length, set, inl, inr, refl, sym, ap, ◌∙◌, subst, ⊎_elim, ◌⊎◌, arith, length-set}
+use Rattle.std.proofs.Common.{◌≡◌, ◌≢◌, ℕ, zero, suc, ◌+◌, ◌-◌, ◌*◌, ◌/◌, ◌%◌, div-add-mod', ◌<◌, ◌≤◌, Bool, true, false, not, cond, ltb, List, [], ◌∷◌, ◌++◌, length, set, inl, inr, refl, sym, ap, ◌∙◌, subst, ⊎_elim, ◌⊎◌, arith, length-set}
 use Rattle.std.proofs.lemmas.Bool.{and_parts, and_from, not_from_false, not-true, lt-ltb, le-ltb, ltb-true, ltb-false, false_from_ne_true}
 use mathlib.Core.Option.{some, some-injective, some-ne-none}
 use lib.ListN.{get_elem?}
@@ -11,7 +11,7 @@ use Rattle.aio_model.specs.LoopHistory.{Sizes, Entry, History}
 use Rattle.aio_model.specs.LoopLists.{seat_of, job_of}
 use Rattle.aio_model.specs.LoopSeats.{Numbers, owns, own_entries, home}
 use Rattle.aio_core.specs.Known.{Known, numbers_of}
-use Rattle.aio_core.specs.Rule.{EachView, AreApart, IsSeat, Owes, HasOut, SomeSeat, HasSleep, Stands, IsFull, HasJob, Kept}
+use Rattle.aio_core.specs.Rule.{EachView, AreApart, IsSeat, Owes, HasOut, SomeSeat, HasSleep, Stands, IsFull, HasJob, Kept, SlotOf}
 use Rattle.aio_core.specs.Splitting.{front_numbers, back_numbers, front_known, back_known}
 
 -- Numbers.
@@ -174,7 +174,7 @@ module _ (sizes : Sizes) (h : History) (words : List ℕ) (views : List Known) (
       }
 
 -- what a home's view says of a full lot's slot
-abbrev pub HasSlots : {J : Type 0} → (J → ℕ) → Sizes → History → List (mathlib.Core.Option.Option (Option J)) → Known → Type 0
+abbrev pub HasSlots : {J : Type 0} → (J → ℕ) → Sizes → History → List (SlotOf J) → Known → Type 0
 HasSlots number sizes h homes u =
     owns (numbers_of u) home ≡ true → (m : ℕ) → m < sizes.lots → IsFull h (sizes.handles + m) → HasJob number (sizes.handles + m) u.stage (job_of (sizes.handles + m) h) (get_elem? homes m)
 

@@ -226,6 +226,10 @@ pub record Stands (sizes : Sizes) (history : History) (words : List ℕ) (views 
 -- Slots. A lot's is at home with nothing where the lot has no life, or was dequeued; with the job where it was enqueued; out with the seat
 -- that began the life until it enqueues it, and with home while the lot is at hand.
 
+-- a slot as a state has it: none while it is out with a seat
+abbrev pub SlotOf : Type 0 → Type 0
+SlotOf J = mathlib.Core.Option.Option (Option J)
+
 abbrev pub is_at_hand : ℕ → Option ℕ → Bool
 is_at_hand i None = false
 is_at_hand i (Some j) = i == j
@@ -235,11 +239,11 @@ pub record IsFull (history : History) (i : ℕ) : Type 0 where
   pub not_dequeued : was_dequeued i history ≡ false
   pub enqueued : claimer_of i history ≡ None
 
-abbrev pub HasJob : {J : Type 0} → (J → ℕ) → ℕ → Stage → Option ℕ → mathlib.Core.Option.Option (mathlib.Core.Option.Option (Option J)) → Type 0
+abbrev pub HasJob : {J : Type 0} → (J → ℕ) → ℕ → Stage → Option ℕ → mathlib.Core.Option.Option (SlotOf J) → Type 0
 HasJob {J} number i stage job at =
     MatchBool (is_at_hand i stage.hand) (job ≡ stage.job) ((x : J) × (at ≡ some (some (Some x))) × (job ≡ Some (number x)))
 
-pub record SlotsStand {J : Type 0} (number : J → ℕ) (sizes : Sizes) (history : History) (homes : List (mathlib.Core.Option.Option (Option J))) (views : List Known) : Type 0 where
+pub record SlotsStand {J : Type 0} (number : J → ℕ) (sizes : Sizes) (history : History) (homes : List (SlotOf J)) (views : List Known) : Type 0 where
   pub vacant : (m : ℕ) → m < sizes.lots → lives (sizes.handles + m) history ≡ false → get_elem? homes m ≡ some (some None)
   pub emptied : (m : ℕ) → m < sizes.lots → lives (sizes.handles + m) history ≡ true → was_dequeued (sizes.handles + m) history ≡ true → get_elem? homes m ≡ some (some None)
   pub full : EachView (λ known. owns (numbers_of known) home ≡ true → (m : ℕ) → m < sizes.lots → IsFull history (sizes.handles + m) → HasJob number (sizes.handles + m) known.stage (job_of (sizes.handles + m) history) (get_elem? homes m)) views

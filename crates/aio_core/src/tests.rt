@@ -1,6 +1,8 @@
-ghost use Rattle.std.specs.Prelude.{◌≡◌, ◌<◌, true, [], None, IfSome, MatchOption, MatchResult};
+ghost use Rattle.std.specs.Prelude.{◌≡◌, ◌<◌, true, [], length, None, IfSome, MatchOption, MatchResult};
 ghost use Rattle.aio_model.specs.InFlight.{AtRest, Announced as announced, Linked};
+ghost use Rattle.aio_core.specs.Known.{Armed, is_running};
 ghost use Rattle.aio_core.specs.Standing.{may_notify};
+ghost use Rattle.aio_core.specs.SleepSteps.{watched_in};
 ghost use Rattle.aio_core.specs.Calls.{IsSeatOf};
 ghost use Rattle.std.proofs.Props.{props};
 
@@ -611,5 +613,50 @@ fn a_lot_gives_its_job_once_and_is_free_again(rt: HostRuntime) -> Result<(), Fai
     assert_eq!(rt; dequeue_and_free(&table, &mut home), Some((flags, Some(7))));
     assert_eq!(rt; dequeue_and_free(&table, &mut home), None);
     assert_eq!(rt; put(&rt, &table, &mut seat, 8), None);
+    Ok(())
+}
+
+/// Home finds nothing urgent, and says that it is about to sleep.
+fn arm(rt: &impl Abort, table: &LoopTable<u64>, home: &mut Home<u64>)
+    requires seat { IsSeatOf table.now home.old.seat }
+    requires running { is_running home.old.seat.known.sleep ≡ true }
+    requires free { home.old.seat.known.stage.hand ≡ None }
+    ensures seat { IsSeatOf table.now home.new.seat }
+    ensures armed { home.new.seat.known.sleep ≡ Armed (length home.new.seat.known.did) (watched_in home.new.seat.known.sleep) }
+{
+    match table.scan(home).urgent {
+        None => table.arm(home),
+        Some(bh) => panic!(rt; "{bh} is urgent"),
+    }
+}
+
+/// A notify that finds home about to sleep.
+fn ring(rt: &impl Abort, table: &LoopTable<u64>, seat: &mut Seat<u64>)
+    requires seat { IsSeatOf table.now seat.old }
+    requires phase { may_notify seat.old.known.phase ≡ true }
+    ensures seat { IsSeatOf table.now seat.new }
+    ensures rest { seat.new.known.phase ≡ AtRest }
+{
+    table.store_notified(seat);
+    if table.load_notify_me(seat) {
+        table.set_notifier(seat);
+    } else {
+        panic!(rt; "home doesn't sleep");
+    }
+}
+
+#[test]
+fn a_home_that_is_armed_is_told_and_disarms(rt: HostRuntime) -> Result<(), Fail> {
+    let Ok(built) = LoopTable::<u64>::build(rt.alloc(), 1, 0, 0) else {
+        return Err(Fail::from("no memory"));
+    };
+    let table = built.table;
+    let mut home = built.home;
+    let mut seat = built.seat;
+    arm(&rt, &table, &mut home);
+    ring(&rt, &table, &mut seat);
+    assert!(rt; table.test(&mut home));
+    table.disarm(&mut home);
+    notify(&rt, &table, &mut seat);
     Ok(())
 }

@@ -3,7 +3,8 @@ use Rattle.aio_model.specs.LoopHistory.{Free}
 use Rattle.aio_model.specs.LoopLegal.{MayFollow}
 use Rattle.aio_core.specs.Known.{Known}
 use Rattle.aio_core.specs.Standing.{Frees}
-use Rattle.aio_core.proofs.Freeing.{lot_below, free_allowed}
+use Rattle.aio_core.proofs.Lives.{lot_below}
+use Rattle.aio_core.proofs.Freeing.{free_allowed}
 use Rattle.aio_core.proofs.Opened.{same_table, held_numbers, flags_within, home_opened, held_still, seat_still}
 use Rattle.aio_core.proofs.table.LoopTable.store_free.Goals as goal
 
