@@ -22,7 +22,7 @@ pub(crate) fn cut(text: &[u8], byte: u8) -> (&[u8], Option<&[u8]>)
 fn find(text: &[u8], byte: u8) -> Option<usize>
     ensures { result ≡ position (λ x. x == byte) text.now }
 {
-    text.iter().position(|x| *x == byte)
+    memchr::memchr(byte, text)
 }
 
 /// The word that a text is, if it is but one.
