@@ -1,6 +1,6 @@
 -- Commands one after another, and their lines.
 use Rattle.std.specs.List.{flat_map, AllByRecursion}
-use Rattle.std.proofs.Common.{◌≡◌, ℕ, zero, suc, length-append, ◌+◌, ◌<◌, ◌≤◌, Option, Result, Ok, List, [], ◌∷◌, ◌++◌, length, map, get_or, eqb, true, false, refl, sym, ◌∙◌, ap, subst, arith, inl, inr, ltb}
+use Rattle.std.proofs.Common.{◌≡◌, ℕ, zero, suc, length-append, ◌+◌, ◌<◌, ◌≤◌, Option, Result, Ok, Err, List, [], ◌∷◌, ◌++◌, length, map, get_or, eqb, true, false, refl, sym, ◌∙◌, ap, subst, arith, inl, inr, ltb}
 use Rattle.std.proofs.lemmas.List.{append-nil, get_or_past, map-append, length-map}
 use Rattle.std.proofs.Math.ListN.{get_or-append}
 use Rattle.std.proofs.Math.Seq.{get_or-append_seam}
@@ -18,11 +18,11 @@ use Rattle.aio_model.specs.LoopActs.{acts_of}
 use Rattle.aio_model.specs.LoopReplies.{Does, DoesAll, sizes_of}
 use Rattle.aio_script.specs.declared.print.WriteFault.{WriteFault}
 use Rattle.aio_script.specs.LoopBounds.{IsActWithin}
-use Rattle.aio_script.specs.Printing.{Prints}
+use Rattle.aio_script.proofs.Gathered.{Gathers-nothing, Gathers-same}
 use Rattle.aio_cli.specs.declared.bells.Bells.{Bells}
 use Rattle.aio_cli.specs.Bells.{AreLists, AreWithin, Keeps, acts_at}
 use Rattle.aio_cli.proofs.Known.{bool_cases}
-use Rattle.aio_cli.specs.BellsRun.{Answers, AnswersAll, AreListsOf, IsOf, KeepsSome, Rings, Writes}
+use Rattle.aio_cli.specs.BellsRun.{Answers, AnswersAll, AreListsOf, Collects, IsOf, KeepsSome, Rings, Rung, Writes}
 
 DoesAll-more : (script : LoopScript) (commands : List Command) (command : Command) (before mid after : Log) (replies : List LoopReply) (reply : LoopReply) → DoesAll script commands before mid replies → Does script command mid after reply → DoesAll script (commands ++ command ∷ []) before after (replies ++ reply ∷ [])
 DoesAll-more script [] command before mid after replies reply all one =
@@ -42,18 +42,18 @@ AnswersAll-more lists commands command replies reply old mid new sizes all one =
       };
 }
 
-pub Writes-none : (lists : List (List ActKind)) (bells : Bells) (held : Option (List ℕ)) (faults : ℕ) → Prints [] held held faults faults (Ok tt) → Writes lists [] bells bells held held faults faults (Ok tt)
-Writes-none lists bells held faults nothing = record {
+pub Collects-none : (lists : List (List ActKind)) (bells : Bells) (page : List ℕ) (held : Option (List ℕ)) (faults : ℕ) → Collects lists [] bells bells page page held held faults faults (Ok tt)
+Collects-none lists bells page held faults = record {
   replies = [];
   answers = record { at = λ script log of keeps. record { after = log; does = (refl, refl); keeps = keeps } };
-  prints = nothing;
+  gathers = Gathers-nothing page held faults;
 }
 
-pub Writes-more : (lists : List (List ActKind)) (commands : List Command) (command : Command) (reply : LoopReply) (old mid new : Bells) (before between after : Option (List ℕ)) (f g h : ℕ) (r s : Result Unit WriteFault) → mid.one_loop.sizes ≡ old.one_loop.sizes → Writes lists commands old mid before between f g r → Answers lists command reply mid new → ((text : List ℕ) → Prints text before between f g r → Prints (text ++ reply_text reply) before after f h s) → Writes lists (commands ++ command ∷ []) old new before after f h s
-Writes-more lists commands command reply old mid new before between after f g h r s sizes sofar one prints = record {
-  replies = sofar.replies ++ reply ∷ [];
-  answers = AnswersAll-more lists commands command sofar.replies reply old mid new sizes sofar.answers one;
-  prints = subst (λ text. Prints text before after f h s) (sym (flat_map-append reply_text sofar.replies (reply ∷ []) ∙ ap (λ l. flat_map reply_text sofar.replies ++ l) (append-nil (reply_text reply)))) (prints (flat_map reply_text sofar.replies) sofar.prints);
+pub Collects-more : {lists : List (List ActKind)} {commands : List Command} {command : Command} {old mid new : Bells} {first left last : List ℕ} {before between after : Option (List ℕ)} {f g h : ℕ} {r s : Result Unit WriteFault} → mid.one_loop.sizes ≡ old.one_loop.sizes → Collects lists commands old mid first left before between f g r → Rung lists command mid new left last between after g h r s → Collects lists (commands ++ command ∷ []) old new first last before after f h s
+Collects-more {lists} {commands} {command} {old} {mid} {new} {first} {left} {last} {before} {between} {after} {f} {g} {h} {r} {s} sizes sofar one = record {
+  replies = sofar.replies ++ one.reply ∷ [];
+  answers = AnswersAll-more lists commands command sofar.replies one.reply old mid new sizes sofar.answers one.answers;
+  gathers = Gathers-same (sym (flat_map-append reply_text sofar.replies (one.reply ∷ []) ∙ ap (λ l. flat_map reply_text sofar.replies ++ l) (append-nil (reply_text one.reply)))) (one.prints (flat_map reply_text sofar.replies) first before f sofar.gathers);
 }
 
 pub keeps-after : (script : LoopScript) (lists : List (List ActKind)) (command : Command) (reply : LoopReply) (old new : Bells) → IsOf script old.one_loop.sizes lists → Answers lists command reply old new → KeepsSome old → KeepsSome new

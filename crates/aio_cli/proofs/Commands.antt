@@ -129,14 +129,14 @@ runs_other f g agree before [] after runs = runs
 runs_other f g agree before (e ∷ older) after runs =
     (runs.0, runs_other f g agree before older runs.0 runs.1, does_other f g agree runs.0 e after runs.2)
 
-module _ (lists : List (List ActKind)) (old begun mid new : Bells) (begins : BeginsPoll old begun) (sizes : begun.one_loop.sizes ≡ old.one_loop.sizes) (mid_sizes : mid.one_loop.sizes ≡ begun.one_loop.sizes)
-    (goes : Goes (Frame begun.one_loop.sizes 8) (acts_at lists) same same begun mid) (rest : new ≡ record mid { ran = [] }) where
+module _ (lists : List (List ActKind)) (old begun mid : Bells) (begins : BeginsPoll old begun) (sizes : begun.one_loop.sizes ≡ old.one_loop.sizes) (mid_sizes : mid.one_loop.sizes ≡ begun.one_loop.sizes)
+    (goes : Goes (Frame begun.one_loop.sizes 8) (acts_at lists) same same begun mid) where
   told : (entered : List Entered) → mid.ran ≡ take named_most (map called_as (called_of entered)) → mid.more ≡ counted (length (map called_as (called_of entered)) - named_most) → mid.cut ≡ counted (cut_nests_of entered) → Ran mid.ran mid.more mid.progress mid.cut ≡ Ran (take named_most (map called_as (called_of entered))) (counted (length (map called_as (called_of entered)) - named_most)) mid.progress (counted (cut_nests_of entered))
   told entered ran more cut =
       ap (λ r. Ran r mid.more mid.progress mid.cut) ran ∙ ap (λ m. Ran (take named_most (map called_as (called_of entered))) m mid.progress mid.cut) more
       ∙ ap (λ c. Ran (take named_most (map called_as (called_of entered))) (counted (length (map called_as (called_of entered)) - named_most)) mid.progress c) cut
 
-  pub Answers-poll : (reply : LoopReply) → reply ≡ Ran mid.ran mid.more mid.progress mid.cut → Answers lists Poll reply old new
+  pub Answers-poll : (reply : LoopReply) → reply ≡ Ran mid.ran mid.more mid.progress mid.cut → Answers lists Poll reply old mid
   Answers-poll reply is = record {
     at = λ script log of keeps.
         let a = goes.at log [] (begins.at log keeps) in
@@ -159,16 +159,9 @@ module _ (lists : List (List ActKind)) (old begun mid new : Bells) (begins : Beg
             log = a.grows.log;
             replies = is ∙ told a.entered_after a.stands.names.first a.stands.names.besides a.stands.cut;
           };
-          keeps = subst (λ b. Keeps b a.log_after) (sym rest) (record { loop = a.stands.keeps.loop; tagged = a.stands.keeps.tagged; tags = a.stands.keeps.tags });
+          keeps = a.stands.keeps;
         };
   }
-
-pub poll_line : (mid : Bells) (log : Log) (entered : List Entered) (reply : LoopReply) → Stands mid log entered → reply ≡ Ran mid.ran mid.more mid.progress mid.cut → HasLine reply
-poll_line mid log entered reply stands is =
-    subst HasLine (sym is) (λ some.
-    let called = map called_as (called_of entered) in
-    let long : 256 ≤ length called = omega (arith, some, stands.names.besides) in
-    ap length stands.names.first ∙ length-take-le 256 called long)
 
 -- A one-shot.
 

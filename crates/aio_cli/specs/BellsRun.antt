@@ -1,5 +1,5 @@
 -- What the commands of a loop script do to a run, and what they answer.
-use Rattle.std.specs.Prelude.{◌≡◌, ℕ, ◌<◌, Bool, false, Option, Result, List, [], length}
+use Rattle.std.specs.Prelude.{◌≡◌, ℕ, ◌<◌, Bool, false, Option, Result, List, [], ◌++◌, length}
 use Rattle.std.specs.List.{flat_map}
 use Rattle.aio_model.specs.declared.loop_scripts.Act.{Act}
 use Rattle.aio_model.specs.declared.loop_scripts.ActKind.{ActKind}
@@ -15,7 +15,7 @@ use Rattle.aio_model.specs.LoopReplies.{Does, DoesAll, sizes_of}
 use Rattle.aio_model.specs.LoopLines.{reply_text}
 use Rattle.aio_model.specs.LoopText.{IsLoopText}
 use Rattle.aio_script.specs.declared.print.WriteFault as fault
-use Rattle.aio_script.specs.Printing.{Prints}
+use Rattle.aio_script.specs.Printing.{Gathers, Prints}
 use Rattle.aio_cli.specs.Reading.{SaysLoop}
 use Rattle.aio_cli.specs.declared.answer.Answer.{Answer}
 use Rattle.aio_cli.specs.declared.answer.Answer.TheVariants.{Done, WriteFault, NoMemory}
@@ -59,6 +59,19 @@ pub record BeginsPoll (old new : Bells) : Type 0 where
 -- a one-shot was put into a lot, or none was found
 pub record PutsIn (tag : ℕ) (put : Bool) (old new : Bells) : Type 0 where
   pub at : (lists : List (List ActKind)) → Answers lists (Once tag) (Placed tag put) old new
+
+-- The command was answered, and whatever was gathered before, the reply's line was gathered behind it, or wasn't, where
+-- the sink failed.
+pub record Rung (lists : List (List ActKind)) (command : Command) (old new : Bells) (page_before page_after : List ℕ) (before after : Option (List ℕ)) (faults_before faults_after : ℕ) (written result : Result Unit fault.WriteFault) : Type 0 where
+  pub reply : LoopReply
+  pub answers : Answers lists command reply old new
+  pub prints : (text first : List ℕ) (held : Option (List ℕ)) (faults : ℕ) → Gathers text first page_before held before faults faults_before written → Gathers (text ++ reply_text reply) first page_after held after faults faults_after result
+
+-- all of these commands were answered, and the lines of the replies gathered on a page, or a front of them printed
+pub record Collects (lists : List (List ActKind)) (commands : List Command) (old new : Bells) (page_before page_after : List ℕ) (before after : Option (List ℕ)) (faults_before faults_after : ℕ) (result : Result Unit fault.WriteFault) : Type 0 where
+  pub replies : List LoopReply
+  pub answers : AnswersAll lists commands replies old new
+  pub gathers : Gathers (flat_map reply_text replies) page_before page_after before after faults_before faults_after result
 
 -- all of these commands were answered, and the lines of the replies printed, whole or a front of them
 pub record Writes (lists : List (List ActKind)) (commands : List Command) (old new : Bells) (before after : Option (List ℕ)) (faults_before faults_after : ℕ) (result : Result Unit fault.WriteFault) : Type 0 where

@@ -4,15 +4,11 @@
 mod answer;
 mod bells;
 mod fault;
-#[cfg(test)]
-mod loop_tests;
 mod print;
 mod program;
 mod read;
 mod run;
 mod serve;
-#[cfg(test)]
-mod tests;
 mod words;
 
 pub use answer::{Answer, End};

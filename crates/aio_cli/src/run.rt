@@ -13,26 +13,30 @@ use crate::print::{errors_in, print_replies};
 use crate::serve::{count_requests, prepare_buffers, serve_lines};
 use crate::{Answer, End};
 use aio_model::{Placed, Script, Step, Unmade};
-use aio_script::WriteFault;
+use aio_script::{Page, WriteFault};
 use aio_words::{Device, Failed, Sink};
 use img_requests::Image;
 use std::alloc::{AllocError, Global};
 use std::collections::VecDeque;
 
-/// What serving takes of memory: a buffer for each line, and room for the replies.
+/// What serving and printing take of memory: a buffer for each line, room for the replies, and the page that they are
+/// printed on.
 struct Room {
     buffers: VecDeque<Vec<u8>>,
     served: Vec<Placed>,
+    page: Page,
 }
 
 fn prepare(alloc: Global, lines: &[Step]) -> Result<Room, AllocError>
     ensures rooms { IfOk result (λ room. RoomsFor lines.now (map (λ buffer. buffer.items) room.buffers.items)) }
     ensures none { IfOk result (λ room. room.served.items ≡ []) }
     ensures places { IfOk result (λ room. length lines.now ≤ vec_capacity room.served) }
+    ensures empty { IfOk result (λ room. room.page ≡ []) }
 {
     Ok(Room {
         buffers: prepare_buffers(alloc, lines)?,
         served: Vec::with_capacity(alloc, lines.len())?,
+        page: Page::build(alloc)?,
     })
 }
 
@@ -49,10 +53,11 @@ pub(crate) fn unserved<D>(alloc: Global, answer: Answer, device: D) -> End<D>
     }
 }
 
-/// A device after a script was served on it, and the replies.
+/// A device after a script was served on it, the replies, and a page to print them on.
 struct Served<D> {
     device: D,
     replies: Vec<Placed>,
+    page: Page,
 }
 
 /// Serves a script on a device, which comes back unserved where memory runs out.
@@ -65,6 +70,7 @@ fn serve_script<D: Device>(
     requires fits { script.now.image ≤ D.extent device }
     ensures unmade { IfErr result (λ unmade. unmade.back ≡ device) }
     ensures few { IfOk result (λ served. length served.replies.items ≤ 4096) }
+    ensures empty { IfOk result (λ served. served.page ≡ []) }
     ensures names { IfOk result (λ served. map placed_name served.replies.items ≡ map asked_name (asked script.now.lines)) }
     ensures serves { IfOk result (λ served. Serves script.now (D.bytes device) (D.bytes served.device) served.replies.items) }
     ensures eios { IfOk result (λ served. HasRisenBy (eios_of served.replies.items) (D.faults device) (D.faults served.device)) }
@@ -79,6 +85,7 @@ fn serve_script<D: Device>(
     let Room {
         buffers,
         served: mut replies,
+        page,
     } = room;
     let requests = count_requests(lines);
     let mut image = Image::build(alloc, device, script.image, &requests)?;
@@ -86,6 +93,7 @@ fn serve_script<D: Device>(
     Ok(Served {
         device: image.into_device(),
         replies,
+        page,
     })
 }
 
@@ -116,8 +124,15 @@ fn run_fitting<K: Sink, D: Device>(
 {
     match serve_script(alloc, script, device) {
         Err(unmade) => unserved(alloc, Answer::NoMemory, unmade.back),
-        Ok(Served { device, replies }) => {
-            let answer = print_answer(sink, script.lines.as_slice(), replies.as_slice());
+        Ok(
+            Served {
+                device,
+                replies,
+                mut page,
+            },
+        ) => {
+            let lines = script.lines.as_slice();
+            let answer = print_answer(sink, &mut page, lines, replies.as_slice());
             End {
                 answer,
                 device,
@@ -167,7 +182,8 @@ pub(crate) fn run_script<K: Sink, D: Device>(
 }
 
 /// Prints the replies, and tells how that ended.
-fn print_answer<K: Sink>(sink: &mut K, lines: &[Step], served: &[Placed]) -> Answer
+fn print_answer<K: Sink>(sink: &mut K, page: &mut Page, lines: &[Step], served: &[Placed]) -> Answer
+    requires empty { page.old ≡ [] }
     requires names { map placed_name served.now ≡ map asked_name (asked lines.now) }
     requires few { length served.now ≤ 4096 }
     ensures of_run { IsServed result }
@@ -177,7 +193,7 @@ fn print_answer<K: Sink>(sink: &mut K, lines: &[Step], served: &[Placed]) -> Ans
     ensures counted { K.faults sink.old ≤ K.faults sink.new }
     ensures write_fault { OnCut result (HasRisen (K.faults sink.old) (K.faults sink.new)) }
 {
-    match print_replies(sink, lines, served) {
+    match print_replies(sink, page, lines, served) {
         Err(WriteFault) => Answer::WriteFault,
         Ok(()) => match errors_in(served) {
             0 => Answer::Done,

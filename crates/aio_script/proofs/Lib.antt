@@ -9,3 +9,5 @@ pub mod Words
 pub mod Cuts
 pub mod Prints
 pub mod Texts
+pub mod Gathered
+pub mod Firsts

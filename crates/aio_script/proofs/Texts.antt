@@ -20,6 +20,13 @@ flat_map_around {X} {A} f xs i d within =
     ∙ sym (flat_map-append f (take (i + 1) xs) (drop (i + 1) xs))
     ∙ ap (flat_map f) (take-append-drop (i + 1) xs)
 
+-- the parts with one more
+pub flat_map_next : {X A : Type 0} (f : X → List A) (xs : List X) (i : ℕ) (d : X) → i < length xs
+    → flat_map f (take i xs) ++ f (get_or xs i d) ≡ flat_map f (take (i + 1) xs)
+flat_map_next {X} {A} f xs i d within =
+    ap (λ (y : List A). flat_map f (take i xs) ++ y) (sym (append-nil (f (get_or xs i d))))
+    ∙ sym (ap (flat_map f) (take_more xs i d within) ∙ flat_map-append f (take i xs) (get_or xs i d ∷ []))
+
 -- the whole is no shorter than the parts up to one and that one
 pub flat_map_longer : {X A : Type 0} (f : X → List A) (xs : List X) (i : ℕ) (d : X) → i < length xs
     → length (flat_map f (take i xs)) + length (f (get_or xs i d)) ≤ length (flat_map f xs)

@@ -4,36 +4,48 @@ ghost use Rattle.std.specs.List.{flat_map};
 ghost use Rattle.aio_model.specs.LoopLines.{behind_space, call_text, commit_text, flag_text, flags_text, HasLine, HasNoDeadline, IsCall, list_text, more_text, progress_text, reply_text};
 ghost use Rattle.aio_model.specs.declared.loop_replies.LoopReply.TheVariants.{Committed, Flagged, Ran};
 ghost use Rattle.aio_model.specs.declared.commits.Commit.TheVariants.{Awake, Sleep};
-ghost use Rattle.aio_words.specs.Content.{with_piece, AppendsFront};
+ghost use Rattle.aio_words.specs.Content.{AppendsFront};
 ghost use Rattle.aio_words.specs.Faults.{HasRisen};
-ghost use Rattle.aio_script.specs.Printing.{Prints};
+ghost use Rattle.aio_script.specs.Printing.{Gathers, HandsOver};
 
-use crate::print::{WriteFault, print_counted, print_parts};
+use crate::page::{Page, put_counted, put_parts};
+use crate::print::WriteFault;
 use aio_model::{Called, Command, Commit, Flags, LoopReply, RanList, Why};
 use aio_words::Sink;
 use itoa::Buffer;
 
 /// Prints the line of a reply of the loop.
-pub fn print_reply<K: Sink>(sink: &mut K, answer: &LoopReply) -> Result<(), WriteFault>
+pub fn print_reply<K: Sink>(
+    sink: &mut K,
+    page: &mut Page,
+    answer: &LoopReply,
+) -> Result<(), WriteFault>
     requires { HasLine answer.now }
-    ensures ok { OnOk result (K.held sink.new ≡ with_piece (reply_text answer.now) (K.held sink.old)) }
-    ensures err { OnErr result (AppendsFront (K.held sink.old) (K.held sink.new) (reply_text answer.now)) }
+    ensures ok { OnOk result (HandsOver (page.old ++ (reply_text answer.now)) page.new (K.held sink.old) (K.held sink.new)) }
+    ensures err { OnErr result (AppendsFront (K.held sink.old) (K.held sink.new) (page.old ++ (reply_text answer.now))) }
     ensures counted { K.faults sink.old ≤ K.faults sink.new }
     ensures cause { OnErr result (HasRisen (K.faults sink.old) (K.faults sink.new)) }
 {
     match answer {
-        LoopReply::Flagged(command, flags) => print_flagged(sink, *command, *flags),
+        LoopReply::Flagged(command, flags) => print_flagged(sink, page, *command, *flags),
         LoopReply::Placed(tag, put) => {
-            print_told(sink, b"once ", *tag, either(*put, b" put\n", b" noroom\n"))
+            print_told(
+                sink,
+                page,
+                b"once ",
+                *tag,
+                either(*put, b" put\n", b" noroom\n"),
+            )
         }
         LoopReply::Ran(called, more, progress, cut) => {
-            print_ran(sink, called, *more, *progress, *cut)
+            print_ran(sink, page, called, *more, *progress, *cut)
         }
-        LoopReply::Committed(commit) => print_commit(sink, *commit),
-        LoopReply::WasSet(event) => print_counted(sink, b"set ", u64::from(*event)),
+        LoopReply::Committed(commit) => print_commit(sink, page, *commit),
+        LoopReply::WasSet(event) => put_counted(sink, page, b"set ", u64::from(*event)),
         LoopReply::Cleared(event, was) => {
             print_told(
                 sink,
+                page,
                 b"clear ",
                 *event,
                 either(*was, b" was 1\n", b" was 0\n"),
@@ -48,21 +60,33 @@ fn either(first: bool, one: &'static [u8], other: &'static [u8]) -> &'static [u8
     if first { one } else { other }
 }
 
-fn print_told<K: Sink>(sink: &mut K, word: &[u8], n: u32, told: &[u8]) -> Result<(), WriteFault>
-    ensures { Prints (word.now ++ (decimal n ++ told.now)) (K.held sink.old) (K.held sink.new) (K.faults sink.old) (K.faults sink.new) result }
+fn print_told<K: Sink>(
+    sink: &mut K,
+    page: &mut Page,
+    word: &[u8],
+    n: u32,
+    told: &[u8],
+) -> Result<(), WriteFault>
+    ensures { Gathers (word.now ++ (decimal n ++ told.now)) page.old page.new (K.held sink.old) (K.held sink.new) (K.faults sink.old) (K.faults sink.new) result }
 {
     let mut digits = Buffer::new();
-    print_parts(sink, &[word, digits.format(n).as_bytes(), told])
+    put_parts(sink, page, &[word, digits.format(n).as_bytes(), told])
 }
 
-fn print_flagged<K: Sink>(sink: &mut K, command: Command, flags: Flags) -> Result<(), WriteFault>
+fn print_flagged<K: Sink>(
+    sink: &mut K,
+    page: &mut Page,
+    command: Command,
+    flags: Flags,
+) -> Result<(), WriteFault>
     requires { IsCall command }
-    ensures { Prints (reply_text (Flagged command flags)) (K.held sink.old) (K.held sink.new) (K.faults sink.old) (K.faults sink.new) result }
+    ensures { Gathers (reply_text (Flagged command flags)) page.old page.new (K.held sink.old) (K.held sink.new) (K.faults sink.old) (K.faults sink.new) result }
 {
     let (verb, bh) = verb_and_handle(command);
     let mut digits = Buffer::new();
-    print_parts(
+    put_parts(
         sink,
+        page,
         &[
             verb,
             digits.format(bh).as_bytes(),
@@ -91,58 +115,66 @@ fn verb_and_handle(command: Command) -> (&'static [u8], u32)
     }
 }
 
-fn print_commit<K: Sink>(sink: &mut K, commit: Commit) -> Result<(), WriteFault>
+fn print_commit<K: Sink>(sink: &mut K, page: &mut Page, commit: Commit) -> Result<(), WriteFault>
     requires { HasNoDeadline commit }
-    ensures { Prints (reply_text (Committed commit)) (K.held sink.old) (K.held sink.new) (K.faults sink.old) (K.faults sink.new) result }
+    ensures { Gathers (reply_text (Committed commit)) page.old page.new (K.held sink.old) (K.held sink.new) (K.faults sink.old) (K.faults sink.new) result }
 {
     match commit {
-        Commit::Awake(why) => print_awake(sink, why),
-        Commit::Sleep(left) => print_sleep(sink, left),
+        Commit::Awake(why) => print_awake(sink, page, why),
+        Commit::Sleep(left) => print_sleep(sink, page, left),
     }
 }
 
-fn print_awake<K: Sink>(sink: &mut K, why: Why) -> Result<(), WriteFault>
+fn print_awake<K: Sink>(sink: &mut K, page: &mut Page, why: Why) -> Result<(), WriteFault>
     requires { HasNoDeadline (Awake why) }
-    ensures { Prints (reply_text (Committed (Awake why))) (K.held sink.old) (K.held sink.new) (K.faults sink.old) (K.faults sink.new) result }
+    ensures { Gathers (reply_text (Committed (Awake why))) page.old page.new (K.held sink.old) (K.held sink.new) (K.faults sink.old) (K.faults sink.new) result }
 {
     match why {
-        Why::Urgent(bh) => print_counted(sink, b"commit awake urgent ", u64::from(bh)),
-        Why::Event(event) => print_counted(sink, b"commit awake event ", u64::from(event)),
-        Why::Notified => print_parts(sink, &[b"commit awake notified\n"]),
+        Why::Urgent(bh) => put_counted(sink, page, b"commit awake urgent ", u64::from(bh)),
+        Why::Event(event) => put_counted(sink, page, b"commit awake event ", u64::from(event)),
+        Why::Notified => put_parts(sink, page, &[b"commit awake notified\n"]),
         Why::Deadline => unreachable!(),
     }
 }
 
-fn print_sleep<K: Sink>(sink: &mut K, left: Option<u64>) -> Result<(), WriteFault>
-    ensures { Prints (reply_text (Committed (Sleep left))) (K.held sink.old) (K.held sink.new) (K.faults sink.old) (K.faults sink.new) result }
+fn print_sleep<K: Sink>(sink: &mut K, page: &mut Page, left: Option<u64>) -> Result<(), WriteFault>
+    ensures { Gathers (reply_text (Committed (Sleep left))) page.old page.new (K.held sink.old) (K.held sink.new) (K.faults sink.old) (K.faults sink.new) result }
 {
     match left {
-        None => print_parts(sink, &[b"commit sleep forever\n"]),
-        Some(ns) => print_counted(sink, b"commit sleep ", ns),
+        None => put_parts(sink, page, &[b"commit sleep forever\n"]),
+        Some(ns) => put_counted(sink, page, b"commit sleep ", ns),
     }
 }
 
-fn print_ran<K: Sink>(
+/// Prints the line of a poll, as of the reply that has this list.
+pub fn print_ran<K: Sink>(
     sink: &mut K,
+    page: &mut Page,
     called: &RanList,
     more: u64,
     progress: bool,
     cut: u64,
 ) -> Result<(), WriteFault>
-    ensures { Prints (reply_text (Ran called.now more progress cut)) (K.held sink.old) (K.held sink.new) (K.faults sink.old) (K.faults sink.new) result }
+    ensures { Gathers (reply_text (Ran called.now more progress cut)) page.old page.new (K.held sink.old) (K.held sink.new) (K.faults sink.old) (K.faults sink.new) result }
 {
-    print_parts(sink, &[b"poll ran"])?;
-    print_list(sink, called)?;
-    print_more(sink, more)?;
-    print_end_of_poll(sink, progress, cut)
+    put_parts(sink, page, &[b"poll ran"])?;
+    print_list(sink, page, called)?;
+    print_more(sink, page, more)?;
+    print_end_of_poll(sink, page, progress, cut)
 }
 
-fn print_end_of_poll<K: Sink>(sink: &mut K, progress: bool, cut: u64) -> Result<(), WriteFault>
-    ensures { Prints (codes " progress " ++ (progress_text progress ++ (codes " cut " ++ (decimal cut ++ codes "\n")))) (K.held sink.old) (K.held sink.new) (K.faults sink.old) (K.faults sink.new) result }
+fn print_end_of_poll<K: Sink>(
+    sink: &mut K,
+    page: &mut Page,
+    progress: bool,
+    cut: u64,
+) -> Result<(), WriteFault>
+    ensures { Gathers (codes " progress " ++ (progress_text progress ++ (codes " cut " ++ (decimal cut ++ codes "\n")))) page.old page.new (K.held sink.old) (K.held sink.new) (K.faults sink.old) (K.faults sink.new) result }
 {
     let mut digits = Buffer::new();
-    print_parts(
+    put_parts(
         sink,
+        page,
         &[
             b" progress ",
             either(progress, b"yes", b"no"),
@@ -153,42 +185,42 @@ fn print_end_of_poll<K: Sink>(sink: &mut K, progress: bool, cut: u64) -> Result<
     )
 }
 
-fn print_list<K: Sink>(sink: &mut K, called: &RanList) -> Result<(), WriteFault>
-    ensures { Prints (list_text called.now) (K.held sink.old) (K.held sink.new) (K.faults sink.old) (K.faults sink.new) result }
+fn print_list<K: Sink>(sink: &mut K, page: &mut Page, called: &RanList) -> Result<(), WriteFault>
+    ensures { Gathers (list_text called.now) page.old page.new (K.held sink.old) (K.held sink.new) (K.faults sink.old) (K.faults sink.new) result }
 {
     let members = called.as_slice();
     if members.is_empty() {
-        print_parts(sink, &[b" -"])
+        put_parts(sink, page, &[b" -"])
     } else {
-        print_each(sink, members)
+        print_each(sink, page, members)
     }
 }
 
-fn print_each<K: Sink>(sink: &mut K, called: &[Called]) -> Result<(), WriteFault>
-    ensures { Prints (flat_map behind_space called.now) (K.held sink.old) (K.held sink.new) (K.faults sink.old) (K.faults sink.new) result }
+fn print_each<K: Sink>(sink: &mut K, page: &mut Page, called: &[Called]) -> Result<(), WriteFault>
+    ensures { Gathers (flat_map behind_space called.now) page.old page.new (K.held sink.old) (K.held sink.new) (K.faults sink.old) (K.faults sink.new) result }
 {
     for one in called {
-        print_called(sink, *one)?;
+        print_called(sink, page, *one)?;
     }
     Ok(())
 }
 
-fn print_called<K: Sink>(sink: &mut K, called: Called) -> Result<(), WriteFault>
-    ensures { Prints (behind_space called) (K.held sink.old) (K.held sink.new) (K.faults sink.old) (K.faults sink.new) result }
+fn print_called<K: Sink>(sink: &mut K, page: &mut Page, called: Called) -> Result<(), WriteFault>
+    ensures { Gathers (behind_space called) page.old page.new (K.held sink.old) (K.held sink.new) (K.faults sink.old) (K.faults sink.new) result }
 {
     let mut digits = Buffer::new();
     match called {
-        Called::Handle(bh) => print_parts(sink, &[b" ", digits.format(bh).as_bytes()]),
-        Called::Once(tag) => print_parts(sink, &[b" o", digits.format(tag).as_bytes()]),
+        Called::Handle(bh) => put_parts(sink, page, &[b" ", digits.format(bh).as_bytes()]),
+        Called::Once(tag) => put_parts(sink, page, &[b" o", digits.format(tag).as_bytes()]),
     }
 }
 
-fn print_more<K: Sink>(sink: &mut K, more: u64) -> Result<(), WriteFault>
-    ensures { Prints (more_text more) (K.held sink.old) (K.held sink.new) (K.faults sink.old) (K.faults sink.new) result }
+fn print_more<K: Sink>(sink: &mut K, page: &mut Page, more: u64) -> Result<(), WriteFault>
+    ensures { Gathers (more_text more) page.old page.new (K.held sink.old) (K.held sink.new) (K.faults sink.old) (K.faults sink.new) result }
 {
     if more == 0 {
         return Ok(());
     }
     let mut digits = Buffer::new();
-    print_parts(sink, &[b" more ", digits.format(more).as_bytes()])
+    put_parts(sink, page, &[b" more ", digits.format(more).as_bytes()])
 }

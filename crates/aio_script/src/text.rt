@@ -22,7 +22,7 @@ pub(crate) fn cut(text: &[u8], byte: u8) -> (&[u8], Option<&[u8]>)
 fn find(text: &[u8], byte: u8) -> Option<usize>
     ensures { result ≡ position (λ x. x == byte) text.now }
 {
-    text.iter().position(|x| *x == byte)
+    memchr::memchr(byte, text)
 }
 
 /// The word that a text is, if it is but one.
@@ -136,13 +136,19 @@ fn is_word(word: &[u8]) -> bool
     !word.is_empty() && are_printed(word)
 }
 
+// It looks at all bytes, so that several are looked at together.
 fn are_printed(word: &[u8]) -> bool
     ensures { result ≡ list_all (λ byte. nat_le 33 byte && nat_le byte 126) word.now }
 {
+    let mut all = true;
     for byte in word {
-        if *byte < 33 || *byte > 126 {
-            return false;
-        }
+        all = all & is_printed(*byte);
     }
-    true
+    all
+}
+
+fn is_printed(byte: u8) -> bool
+    ensures { result ≡ (nat_le 33 byte && nat_le byte 126) }
+{
+    33 <= byte && byte <= 126
 }

@@ -1,14 +1,17 @@
 //! The commands of a loop script, each with its reply.
-ghost use Rattle.std.specs.Prelude.{◌≡◌, ◌<◌, ◌≤◌, ℕ, List, [], length, map};
+ghost use Rattle.std.specs.Prelude.{◌≡◌, ◌<◌, ◌≤◌, ◌++◌, ℕ, List, Option, [], length, map};
 ghost use Rattle.aio_model.specs.declared.loop_replies.LoopReply.{LoopReply};
-ghost use Rattle.aio_model.specs.LoopLines.{HasLine};
+ghost use Rattle.aio_model.specs.declared.loop_scripts.ActKind.{ActKind};
+ghost use Rattle.aio_model.specs.LoopLines.{HasLine, reply_text};
 ghost use Rattle.aio_script.specs.LoopBounds.{IsCommandWithin};
+ghost use Rattle.aio_script.specs.Printing.{Gathers};
 ghost use Rattle.aio_cli.specs.Bells.{AreLists};
-ghost use Rattle.aio_cli.specs.BellsRun.{Answers, BeginsPoll, KeepsSome, PutsIn};
+ghost use Rattle.aio_cli.specs.BellsRun.{Answers, BeginsPoll, KeepsSome, PutsIn, Rung};
 
 use crate::bells::Bells;
 use aio_model::{ActKind, Command, LoopReply, RanList};
-use std::mem;
+use aio_script::{Page, WriteFault, print_ran, print_reply};
+use aio_words::Sink;
 
 /// How many polls may be nested in one of depth 1.
 const DEEPER: u32 = 7;
@@ -24,24 +27,14 @@ impl Bells {
         self.cut = 0;
     }
 
-    fn end_poll(&mut self) -> LoopReply
-        ensures reply { result ≡ LoopReply.Ran self.old.ran self.old.more self.old.progress self.old.cut }
-        ensures rest { self.new ≡ record self.old { ran = [] } }
-    {
-        let ran = mem::replace(&mut self.ran, RanList::build());
-        LoopReply::Ran(ran, self.more, self.progress, self.cut)
-    }
-
-    fn poll(&mut self, lists: &[Vec<ActKind>]) -> LoopReply
+    fn poll(&mut self, lists: &[Vec<ActKind>])
         requires keeps { KeepsSome self.old }
         requires lists { AreLists self.old.one_loop.sizes.handles (map (λ list. list.items) lists.now) }
-        ensures answers { Answers (map (λ list. list.items) lists.now) Command.Poll result self.old self.new }
+        ensures answers { Answers (map (λ list. list.items) lists.now) Command.Poll (LoopReply.Ran self.new.ran self.new.more self.new.progress self.new.cut) self.old self.new }
         ensures sizes { self.new.one_loop.sizes ≡ self.old.one_loop.sizes }
-        ensures line { HasLine result }
     {
         self.begin_poll();
         self.frame(lists, DEEPER);
-        self.end_poll()
     }
 
     /// Whether the one-shot was put into a lot.
@@ -57,12 +50,12 @@ impl Bells {
         true
     }
 
-    /// Does a command.
-    pub(crate) fn answer(&mut self, lists: &[Vec<ActKind>], command: Command) -> LoopReply
+    /// Does a command other than a poll. Of a poll no reply is made, since one holds a long list by value.
+    fn answer(&mut self, command: Command) -> LoopReply
         requires keeps { KeepsSome self.old }
-        requires lists { AreLists self.old.one_loop.sizes.handles (map (λ list. list.items) lists.now) }
+        requires other { command ≡ Command.Poll → ⊥ }
         requires within { IsCommandWithin self.old.one_loop.sizes.handles self.old.one_loop.sizes.events command }
-        ensures answers { Answers (map (λ list. list.items) lists.now) command result self.old self.new }
+        ensures answers { (lists : List (List ActKind)) → Answers lists command result self.old self.new }
         ensures sizes { self.new.one_loop.sizes ≡ self.old.one_loop.sizes }
         ensures line { HasLine result }
     {
@@ -72,7 +65,7 @@ impl Bells {
             Command::Delete(i) => LoopReply::Flagged(command, self.one_loop.delete(i)),
             Command::Cancel(i) => LoopReply::Flagged(command, self.one_loop.cancel(i)),
             Command::Once(tag) => LoopReply::Placed(tag, self.put_once(tag)),
-            Command::Poll => self.poll(lists),
+            Command::Poll => unreachable!(),
             Command::Commit => LoopReply::Committed(self.one_loop.commit()),
             Command::Set(event) => {
                 self.one_loop.set(event);
@@ -81,4 +74,62 @@ impl Bells {
             Command::Clear(event) => LoopReply::Cleared(event, self.one_loop.clear(event)),
         }
     }
+
+    /// Prints the reply of the poll that was done last, unless a reply before it wasn't printed.
+    fn print_poll<K: Sink>(
+        &self,
+        sink: &mut K,
+        page: &mut Page,
+        written: Result<(), WriteFault>,
+    ) -> Result<(), WriteFault>
+        ensures { (text first : List ℕ) (before : Option (List ℕ)) (faults : ℕ)
+            → Gathers text first page.old before (K.held sink.old) faults (K.faults sink.old) written
+            → Gathers (text ++ reply_text (LoopReply.Ran self.now.ran self.now.more self.now.progress self.now.cut)) first page.new before (K.held sink.new) faults (K.faults sink.new) result }
+    {
+        written?;
+        print_ran(sink, page, &self.ran, self.more, self.progress, self.cut)
+    }
+
+    /// Does a command, and prints its reply, unless a reply before it wasn't printed.
+    pub(crate) fn ring<K: Sink>(
+        &mut self,
+        lists: &[Vec<ActKind>],
+        command: Command,
+        sink: &mut K,
+        page: &mut Page,
+        written: Result<(), WriteFault>,
+    ) -> Result<(), WriteFault>
+        requires keeps { KeepsSome self.old }
+        requires lists { AreLists self.old.one_loop.sizes.handles (map (λ list. list.items) lists.now) }
+        requires within { IsCommandWithin self.old.one_loop.sizes.handles self.old.one_loop.sizes.events command }
+        ensures rings { Rung (map (λ list. list.items) lists.now) command self.old self.new page.old page.new (K.held sink.old) (K.held sink.new) (K.faults sink.old) (K.faults sink.new) written result }
+        ensures sizes { self.new.one_loop.sizes ≡ self.old.one_loop.sizes }
+    {
+        match command {
+            Command::Poll => {
+                self.poll(lists);
+                self.print_poll(sink, page, written)
+            }
+            _ => {
+                let reply = self.answer(command);
+                print_next(sink, page, written, &reply)
+            }
+        }
+    }
+}
+
+/// Prints a reply, unless a reply before it wasn't printed.
+fn print_next<K: Sink>(
+    sink: &mut K,
+    page: &mut Page,
+    written: Result<(), WriteFault>,
+    reply: &LoopReply,
+) -> Result<(), WriteFault>
+    requires { HasLine reply.now }
+    ensures { (text first : List ℕ) (before : Option (List ℕ)) (faults : ℕ)
+        → Gathers text first page.old before (K.held sink.old) faults (K.faults sink.old) written
+        → Gathers (text ++ reply_text reply.now) first page.new before (K.held sink.new) faults (K.faults sink.new) result }
+{
+    written?;
+    print_reply(sink, page, reply)
 }

@@ -2,7 +2,7 @@ use Rattle.std.proofs.Common.{◌+◌, ◌<◌, ◌∙◌, length, ap, sym, arit
 use Rattle.std.specs.List.{flat_map}
 use Rattle.aio_model.specs.PrintedText.{line_for}
 use Rattle.aio_model.proofs.InOrder.{asked_rest}
-use Rattle.aio_script.proofs.Prints.{Prints-then, Prints-stops, Prints-same}
+use Rattle.aio_script.proofs.Gathered.{Gathers-then, Gathers-stops, Gathers-same}
 use Rattle.aio_cli.proofs.Going.{is_ask-other}
 use Rattle.aio_cli.proofs.Printing.{place-more, place-inside, printed-more, printed-whole, asked-silent}
 use Rattle.aio_cli.proofs.print.print_lines.Goals as goal
@@ -31,11 +31,11 @@ returns-in_err-print_one g c =
     let step = c.line-item.result in
     let inside : k < length lines = omega arith in
     let rest = flat_map (line_for served) (asked_rest lines k step inside c.line-item.is) in
-    Prints-same
+    Gathers-same
     (printed-whole lines served c.requires.names k step inside c.line-item.is c.in-Ask.request c.in-Ask.is c.loop-line.place c.index-served-place.result
     c.loop-line.invariant.1 c.index-served-place.is)
-    (Prints-then c.from_residual.result c.loop-line.invariant.0
-    (Prints-stops rest c.from_residual.result c.from_residual.ensures.0 c.in_err-print_one.ensures))
+    (Gathers-then c.from_residual.result c.loop-line.invariant.0
+    (Gathers-stops rest c.from_residual.result c.from_residual.ensures.0 c.in_err-print_one.ensures))
 
 pub loop-line-preserved : goal.loop-line-preserved
 loop-line-preserved g c =
@@ -46,17 +46,17 @@ loop-line-preserved g c =
     let inside : k < length lines = omega arith in
     elim c.match-line.branch [
       | in-Ask+in_ok-print_one w ↦ (
-        rw w.sink-is
-            (Prints-same
+        rw (w.sink-is, w.page-is)
+            (Gathers-same
             (printed-more lines served c.requires.names k step inside c.line-item.is w.in-Ask.request w.in-Ask.is c.loop-line.place w.index-served-place.result
             c.loop-line.invariant.1 w.index-served-place.is)
-            (Prints-then (Ok tt) c.loop-line.invariant.0 w.in_ok-print_one.ensures)),
+            (Gathers-then (Ok tt) c.loop-line.invariant.0 w.in_ok-print_one.ensures)),
         w.place-is ∙ ap (λ n. n + 1) c.loop-line.invariant.1
             ∙ sym (place-more lines served c.requires.names k step inside c.line-item.is w.in-Ask.request w.in-Ask.is),
       )
       | in_default w ↦
           let same = asked-silent lines served c.requires.names k step inside c.line-item.is (is_ask-other step.what w.in_default.not-Ask) in (
-            rw w.sink-is (Prints-same (ap (flat_map (line_for served)) (sym same)) c.loop-line.invariant.0),
+            rw (w.sink-is, w.page-is) (Gathers-same (ap (flat_map (line_for served)) (sym same)) c.loop-line.invariant.0),
             w.place-is ∙ c.loop-line.invariant.1 ∙ ap length (sym same),
           )
     ]
