@@ -34,4 +34,6 @@ pub use table::LoopTable;
 pub use tokens::{Aimed, Announced, InHand};
 
 #[cfg(test)]
+mod order_tests;
+#[cfg(test)]
 mod tests;
