@@ -3,14 +3,14 @@ use Rattle.std.proofs.Common.{◌≡◌, ℕ, ◌+◌, ◌<◌, ◌≤◌, true,
 use Rattle.std.proofs.lemmas.Bool.{cases_Bool, eq-eqb, ne_eqb, eqb-true, eqb-false, le-leb, lt-leb}
 use Rattle.aio_chain.specs.LinkList.{contains}
 use Rattle.aio_model.specs.HandlerCalls.{on_event}
-use Rattle.aio_handlers.specs.declared.keys.Slot.{Slot}
+use Rattle.aio_handlers.specs.declared.places.Slot.{Slot}
 use Rattle.aio_handlers.specs.declared.answers.AddRefusal.TheVariants.{Taken, Full, Worn}
 use Rattle.aio_handlers.specs.Slots.{id_at, handler_at, handlers_at}
 use Rattle.aio_handlers.specs.Answers.{fresh_answer, taken_or, add_answer}
 use Rattle.aio_handlers.specs.StandsFor.{HandlerList}
 use Rattle.aio_handlers.proofs.Told.{on_event-handlers_at}
 
-module _ (handlers : HandlerList) (slots : List Slot) (events : List ℕ) (is : handlers.live ≡ handlers_at slots events) (event : ℕ) where
+module _ (handlers : HandlerList) (slots : ℕ → Slot) (events : List ℕ) (is : handlers.live ≡ handlers_at slots events) (event : ℕ) where
   pub answer_taken : contains event events ≡ true → add_answer handlers event ≡ Err (Taken (record { number = id_at slots event }))
   answer_taken here =
       ap (λ hs. taken_or (on_event event hs) (fresh_answer handlers)) is ∙ ap (λ h. taken_or h (fresh_answer handlers)) (on_event-handlers_at slots event events)
@@ -40,7 +40,7 @@ module _ (handlers : HandlerList) where
       rw (test, last) refl
 
 -- events of other numbers are others
-pub apart_from : (slots : List Slot) (events : List ℕ) → ((event other : ℕ) → contains event events ≡ true → contains other events ≡ true → id_at slots event ≡ id_at slots other → event ≡ other)
+pub apart_from : (slots : ℕ → Slot) (events : List ℕ) → ((event other : ℕ) → contains event events ≡ true → contains other events ≡ true → id_at slots event ≡ id_at slots other → event ≡ other)
     → (event : ℕ) → contains event events ≡ true → (other : ℕ) → contains other events ≡ true → eqb event other ≡ eqb (id_at slots other) (id_at slots event)
 apart_from slots events apart event here other there = elim (cases_Bool (eqb event other)) [
   | inl t ↦

@@ -1,6 +1,7 @@
 mod Answered
-mod Bits
+mod Placed
 mod Removal
 mod Sought
 mod Standing
 mod Told
+mod Watched

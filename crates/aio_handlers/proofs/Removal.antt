@@ -4,7 +4,7 @@ use Rattle.std.proofs.lemmas.Bool.{cases_Bool, both_ways, eqb-true}
 use Rattle.aio_chain.specs.LinkList.{contains, without}
 use Rattle.aio_chain.proofs.Steps.{contains-without_same, contains-without_other, contains-from_without}
 use Rattle.aio_model.specs.HandlerCalls.{named, others}
-use Rattle.aio_handlers.specs.declared.keys.Slot.{Slot}
+use Rattle.aio_handlers.specs.declared.places.Slot.{Slot}
 use Rattle.aio_handlers.specs.Slots.{id_at, handler_at, handlers_at, event_named}
 use Rattle.aio_handlers.proofs.Told.{handlers_at-without, named-handlers_at, IsNamed, is_named, none_named, others-absent}
 use Rattle.aio_handlers.proofs.Answered.{apart_from}
@@ -20,7 +20,7 @@ without_among event some all among = λ k h. elim (cases_Bool (eqb k event)) [
   | inr ne ↦ contains-without_other k event all ne ∙ among k (contains-from_without k event some h)
 ]
 
-module _ (slots : List Slot) (live waiting : List ℕ) (id : ℕ) (among : IsAmong waiting live) where
+module _ (slots : ℕ → Slot) (live waiting : List ℕ) (id : ℕ) (among : IsAmong waiting live) where
   module _ (event : ℕ) (found : event_named slots id live ≡ Some event)
       (apart : (event other : ℕ) → contains event live ≡ true → contains other live ≡ true → id_at slots event ≡ id_at slots other → event ≡ other) where
     it : IsNamed slots id live event

@@ -7,7 +7,7 @@ use Rattle.aio_chain.specs.LinkList.{contains, first_of, next_after, IsEachOnce,
 use Rattle.aio_chain.proofs.Contained.{once_middle}
 use Rattle.aio_chain.proofs.Walks.{rest_from-first, first_in, Stepped, stepped}
 use Rattle.aio_model.specs.HandlerCalls.{has_event}
-use Rattle.aio_handlers.specs.declared.keys.Slot.{Slot}
+use Rattle.aio_handlers.specs.declared.places.Slot.{Slot}
 use Rattle.aio_handlers.specs.Slots.{id_at, event_named}
 
 -- a walk stands at an index of the list, or has come to its end
@@ -22,7 +22,7 @@ shorter_from items event at next once here is goes_on =
     let first : length (rest_from next items) < length (rest_at event items) = subst (λ o. length (rest_from o items) < length (rest_at event items)) (sym goes_on) less in
     subst (λ o. length (rest_from next items) < length (rest_from o items)) (sym is) first
 
-module _ (slots : List Slot) (id : ℕ) (items : List ℕ) where
+module _ (slots : ℕ → Slot) (id : ℕ) (items : List ℕ) where
   -- what is sought lies behind
   pub record Seeks (at : Option ℕ) : Type 0 where
     pub on : IsOn at items

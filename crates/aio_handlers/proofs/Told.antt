@@ -1,13 +1,13 @@
 -- The handlers that a list of events names, where the list or the slots change.
-use Rattle.std.proofs.Common.{◌≡◌, ℕ, ◌+◌, true, false, cond, eqb, List, [], ◌∷◌, length, filter, get_or, set, Some, None, option_map, refl, sym, ◌∙◌, ap, subst, inl, inr, arith, get_or-set_other, length-append}
-use Rattle.std.proofs.lemmas.Bool.{false≢true, cases_Bool, eq-eqb, ne_eqb, eqb-true, eqb-false, or_parts, or_left, or_right, or_cases}
+use Rattle.std.proofs.Common.{◌≡◌, ℕ, ◌+◌, true, false, cond, eqb, List, [], ◌∷◌, length, filter, Some, None, option_map, refl, sym, ◌∙◌, ap, subst, inl, inr, arith, length-append}
+use Rattle.std.proofs.lemmas.Bool.{false≢true, cases_Bool, eq-eqb, ne_eqb, eqb-true, eqb-false, or_left, or_right, or_cases}
 use Rattle.aio_chain.specs.LinkList.{contains, without, IsEachOnce}
 use Rattle.aio_chain.proofs.Contained.{split_at, once_middle}
 use Rattle.aio_chain.proofs.Steps.{without-split}
 use Rattle.aio_model.specs.declared.handler_calls.Handler.{Handler}
 use Rattle.aio_model.specs.HandlerCalls.{named, others, on_event, has_event}
-use Rattle.aio_handlers.specs.declared.keys.Slot.{Slot}
-use Rattle.aio_handlers.specs.Slots.{no_slot, id_at, handler_at, handlers_at, event_named}
+use Rattle.aio_handlers.specs.declared.places.Slot.{Slot}
+use Rattle.aio_handlers.specs.Slots.{id_at, handler_at, handlers_at, event_named}
 
 -- a list is one shorter without an index of it
 pub length-without : (i : ℕ) (xs : List ℕ) → IsEachOnce xs → contains i xs ≡ true → length (without i xs) + 1 ≡ length xs
@@ -17,16 +17,15 @@ length-without i xs once here =
     let e = ap length (ap (without i) cut.is ∙ without-split i cut.front cut.back cut.absent behind) in
     omega (arith, e, ap length cut.is, length-append cut.front cut.back, length-append cut.front (i ∷ cut.back))
 
-module _ (slots : List Slot) where
-  -- a slot that changed is none of these
-  pub handlers_at-set : (event : ℕ) (slot : Slot) (events : List ℕ) → contains event events ≡ false → handlers_at (set slots event slot) events ≡ handlers_at slots events
-  handlers_at-set event slot [] h = refl
-  handlers_at-set event slot (x ∷ events) h =
-      let parts = or_parts (eqb event x) (contains event events) h in
-      let read : get_or (set slots event slot) x no_slot ≡ get_or slots x no_slot = get_or-set_other slots event x slot no_slot (λ e. eqb-false event x parts.0 (sym e)) in
-      let here : handler_at (set slots event slot) x ≡ handler_at slots x = ap (λ (s : Slot). let h : Handler = record { id = s.id; event = x; tag = s.tag } in h) read in
-      ap (λ h. h ∷ handlers_at (set slots event slot) events) here ∙ ap (λ hs. handler_at slots x ∷ hs) (handlers_at-set event slot events parts.1)
+module _ (slots slots' : ℕ → Slot) where
+  -- events whose slots stay as they are name the same handlers
+  pub handlers_at-same : (events : List ℕ) → ((event : ℕ) → contains event events ≡ true → slots' event ≡ slots event) → handlers_at slots' events ≡ handlers_at slots events
+  handlers_at-same [] same = refl
+  handlers_at-same (x ∷ events) same =
+      let here : handler_at slots' x ≡ handler_at slots x = ap (λ (s : Slot). let h : Handler = record { id = s.id; event = x; tag = s.tag } in h) (same x (or_left _ _ (eq-eqb x x refl))) in
+      ap (λ h. h ∷ handlers_at slots' events) here ∙ ap (λ hs. handler_at slots x ∷ hs) (handlers_at-same events (λ event h. same event (or_right (eqb event x) _ h)))
 
+module _ (slots : ℕ → Slot) where
   -- of these events no other has the number of this one
   abbrev pub Apart : ℕ → List ℕ → Type 0
   Apart event events = (other : ℕ) → contains other events ≡ true → eqb event other ≡ eqb (id_at slots other) (id_at slots event)

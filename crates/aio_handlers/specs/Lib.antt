@@ -1,4 +1,5 @@
 pub mod Answers
 pub mod Kept
+pub mod Placing
 pub mod Slots
 pub mod StandsFor

@@ -6,8 +6,9 @@ ghost use Rattle.aio_handlers.specs.Answers.{add_answer, remove_answer, first_re
 ghost use Rattle.aio_handlers.specs.StandsFor.{StandsFor};
 
 use crate::answers::{AddRefusal, HandlerId, Ready, Removed};
-use crate::keys::{Slot, clear, event_named, fill, take_out};
-use crate::watch::bits_of;
+use crate::keys::{clear, event_named, fill, take_out};
+use crate::places::{Places, Slot};
+use crate::watch::{with_event, without_event};
 use aio_chain::Links;
 use aio_model::NoMemory;
 use std::alloc::{AllocError, Global};
@@ -17,11 +18,12 @@ use std::marker::Model;
 /// one thread. A walk may remove and add handlers as it goes.
 #[derive(Debug, Drop)]
 pub struct Handlers {
-    /// The handler of each event, where it has one.
-    slots: Vec<Slot>,
+    places: Places,
     /// The events that have a handler, in order of adding.
     live: Links,
-    /// Of those, the ones that the walk has yet to give.
+    /// The bits of those events.
+    watched: u64,
+    /// Those that the walk has yet to give.
     waiting: Links,
     room: u32,
     /// How many are live or marked.
@@ -51,10 +53,11 @@ impl Handlers {
     {
         let live = Links::build(alloc, 64)?;
         let waiting = Links::build(alloc, 64)?;
-        match vec![in alloc; Slot { id: 0, tag: 0 }; 64] {
-            Ok(slots) => Ok(Handlers {
-                slots,
+        match Places::build(alloc) {
+            Ok(places) => Ok(Handlers {
+                places,
                 live,
+                watched: 0,
                 waiting,
                 room,
                 used: 0,
@@ -77,7 +80,7 @@ impl Handlers {
     {
         if self.live.has(event) {
             return Err(AddRefusal::Taken(HandlerId {
-                number: self.slots[event as usize].id,
+                number: self.places.at(event).id,
             }));
         }
         if self.used >= self.room {
@@ -87,8 +90,9 @@ impl Handlers {
             return Err(AddRefusal::Worn);
         }
         let number = self.added;
-        self.slots[event as usize] = Slot { id: number, tag };
+        self.places.put(event, Slot { id: number, tag });
         self.live.push_back(event);
+        self.watched = with_event(self.watched, event);
         self.added += 1;
         self.used += 1;
         Ok(HandlerId { number })
@@ -101,11 +105,12 @@ impl Handlers {
         ensures walking { self.new.walking ≡ self.old.walking }
         ensures stands { (calls : List HandlerCall) → StandsFor self.old calls → StandsFor self.new (Remove id.number ∷ calls) }
     {
-        let Some(event) = event_named(&self.slots, &self.live, id.number) else {
+        let Some(event) = event_named(&self.places, &self.live, id.number) else {
             return Removed::Gone;
         };
-        let tag = self.slots[event as usize].tag;
+        let tag = self.places.take(event).tag;
         self.live.unlink(event);
+        self.watched = without_event(self.watched, event);
         if self.walking {
             take_out(&mut self.waiting, event);
             self.marked += 1;
@@ -119,7 +124,7 @@ impl Handlers {
     pub fn watch(&self) -> u64
         ensures { (event : ℕ) → event < 64 → has_event result event ≡ is_some (on_event event self.now.live) }
     {
-        bits_of(&self.live)
+        self.watched
     }
 
     /// Begins a walk over the handlers of these events, one bit an event.
@@ -144,7 +149,7 @@ impl Handlers {
     {
         let event = self.waiting.first()?;
         self.waiting.unlink(event);
-        let slot = self.slots[event as usize];
+        let slot = self.places.at(event);
         Some(Ready {
             id: HandlerId { number: slot.id },
             event,

@@ -1,28 +1,24 @@
 //! Handlers by their events: an event has one live handler at most.
-ghost use Rattle.std.specs.Prelude.{◌≡◌, ◌<◌, ◌≤◌, [], length, filter, IfSome};
+ghost use Rattle.std.specs.Prelude.{◌≡◌, ◌<◌, [], filter, IfSome};
 ghost use Rattle.aio_chain.specs.LinkList.{without, IsLinked};
 ghost use Rattle.aio_model.specs.HandlerCalls.{has_event};
-ghost use Rattle.aio_handlers.specs.Slots.{event_named};
+ghost use Rattle.aio_handlers.specs.Slots.{slot_of, event_named};
+ghost use Rattle.aio_handlers.specs.Placing.{AllHaveSlots};
 
+use crate::places::Places;
+use crate::watch::has_event;
 use aio_chain::Links;
 
-/// The handler of an event.
-#[derive(Clone, Copy, Debug)]
-pub(crate) struct Slot {
-    pub(crate) id: u32,
-    pub(crate) tag: u64,
-}
-
 /// The event whose handler has this number.
-pub(crate) fn event_named(slots: &[Slot], live: &Links, id: u32) -> Option<u32>
-    requires { live.now.room ≤ length slots.now }
-    ensures named { result ≡ event_named slots.now id live.now.items }
+pub(crate) fn event_named(places: &Places, live: &Links, id: u32) -> Option<u32>
+    requires { AllHaveSlots places.now live.now.items }
+    ensures named { result ≡ event_named (slot_of places.now) id live.now.items }
     ensures below { IfSome result (λ event. event < live.now.room) }
     ensures linked { IsLinked live.now }
 {
     let mut at = live.first();
     while let Some(event) = at {
-        if slots[event as usize].id == id {
+        if places.at(event).id == id {
             return Some(event);
         }
         at = live.next(event);
@@ -48,14 +44,6 @@ pub(crate) fn take_out(links: &mut Links, event: u32)
     if links.has(event) {
         links.unlink(event);
     }
-}
-
-/// Whether the bit of an event is set.
-pub(crate) fn has_event(events: u64, event: u32) -> bool
-    requires { event < 64 }
-    ensures { result ≡ has_event events event }
-{
-    (events >> event) & 1 == 1
 }
 
 /// Fills an empty list with the events of the live handlers that were found, in their order.

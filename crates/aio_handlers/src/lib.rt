@@ -4,6 +4,7 @@
 mod answers;
 mod handlers;
 mod keys;
+mod places;
 mod watch;
 
 pub use aio_model::NoMemory;

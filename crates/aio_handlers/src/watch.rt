@@ -1,19 +1,27 @@
-ghost use Rattle.std.specs.Prelude.{◌≡◌, ◌<◌, ℕ};
-ghost use Rattle.aio_chain.specs.LinkList.{contains};
+//! Events as bits of a word.
+ghost use Rattle.std.specs.Prelude.{◌≡◌, ◌≢◌, ◌<◌, ℕ, IsTrue, IsFalse};
 ghost use Rattle.aio_model.specs.HandlerCalls.{has_event};
 
-use aio_chain::Links;
-
-/// The bits of the events of a list.
-pub(crate) fn bits_of(events: &Links) -> u64
-    requires { events.now.room ≡ 64 }
-    ensures { (event : ℕ) → event < 64 → has_event result event ≡ contains event events.now.items }
+/// Whether the bit of an event is set.
+pub(crate) fn has_event(events: u64, event: u32) -> bool
+    requires { event < 64 }
+    ensures { result ≡ has_event events event }
 {
-    let mut bits = 0u64;
-    for event in 0..64 {
-        if events.has(event) {
-            bits |= 1 << event;
-        }
-    }
-    bits
+    (events >> event) & 1 == 1
+}
+
+pub(crate) fn with_event(events: u64, event: u32) -> u64
+    requires { event < 64 }
+    ensures set { IsTrue (has_event result event) }
+    ensures others { (other : ℕ) → other < 64 → other ≢ event → has_event result other ≡ has_event events other }
+{
+    events | 1 << event
+}
+
+pub(crate) fn without_event(events: u64, event: u32) -> u64
+    requires { event < 64 }
+    ensures cleared { IsFalse (has_event result event) }
+    ensures others { (other : ℕ) → other < 64 → other ≢ event → has_event result other ≡ has_event events other }
+{
+    events & !(1 << event)
 }
