@@ -1,5 +1,8 @@
-mod Keeping
-mod Ordered
-mod Placed
+mod Listed
+mod Moved
+mod Ranked
+mod RowCalls
+mod Rows
+mod SameArms
 mod Standing
-mod Walked
+mod Treed

@@ -1,31 +1,20 @@
--- What the parts of a set of timers do to its lists.
-use Rattle.std.specs.Prelude.{ℕ, ◌<◌, nat_lt, nat_le, IsTrue, if◌then◌else◌, List, [], ◌∷◌, Option, Some, None, slice_index}
-use Rattle.aio_chain.specs.LinkList.{contains}
+-- Timers in the order of their keys.
+use Rattle.std.specs.Prelude.{ℕ, zero, suc, ◌/◌, nat_lt, if◌then◌else◌, List, [], ◌∷◌, ◌++◌}
+use Rattle.aio_timers.specs.Keys.{none, stamps}
 
--- each timer of the list is below the number
-abbrev pub AreBelow : List ℕ → ℕ → Type 0
-AreBelow timers bound = (timer : ℕ) → IsTrue (contains timer timers) → timer < bound
+-- the list with a timer more, before all that have a greater key
+abbrev pub put_in_order : (ℕ → ℕ) → ℕ → List ℕ → List ℕ
+put_in_order keys timer [] = timer ∷ []
+put_in_order keys timer (first ∷ rest) =
+    if nat_lt (keys timer) (keys first) then timer ∷ first ∷ rest else first ∷ put_in_order keys timer rest
 
--- each timer of one list is in another
-abbrev pub AreAmong : List ℕ → List ℕ → Type 0
-AreAmong some all = (timer : ℕ) → IsTrue (contains timer some) → IsTrue (contains timer all)
+-- the timers below a number that have keys
+abbrev pub in_order : (ℕ → ℕ) → ℕ → List ℕ
+in_order keys zero = []
+in_order keys (suc timer) =
+    if nat_lt (keys timer) none then put_in_order keys timer (in_order keys timer) else in_order keys timer
 
--- the first timer that expires later
-abbrev pub first_later : List ℕ → ℕ → List ℕ → Option ℕ
-first_later expiries expire [] = None
-first_later expiries expire (timer ∷ rest) =
-    if nat_lt expire (slice_index expiries timer) then Some timer else first_later expiries expire rest
-
--- the list with a timer more, behind all that don't expire later
-abbrev pub put_in_order : List ℕ → ℕ → List ℕ → List ℕ
-put_in_order expiries timer [] = timer ∷ []
-put_in_order expiries timer (first ∷ rest) =
-    if nat_lt (slice_index expiries timer) (slice_index expiries first)
-    then timer ∷ first ∷ rest
-    else first ∷ put_in_order expiries timer rest
-
--- the timers at the front of the list that have expired
-abbrev pub due_in : List ℕ → ℕ → List ℕ → List ℕ
-due_in expiries now [] = []
-due_in expiries now (timer ∷ rest) =
-    if nat_le (slice_index expiries timer) now then timer ∷ due_in expiries now rest else []
+-- the expiries of the timers below a number
+abbrev pub expiries_of : (ℕ → ℕ) → ℕ → List ℕ
+expiries_of keys zero = []
+expiries_of keys (suc timer) = expiries_of keys timer ++ keys timer / stamps ∷ []

@@ -1,8 +1,10 @@
 //! Timers in order of expiry, and the run of those that are due.
 #![tactic(auto)]
 
-mod due;
-mod order;
+mod key_tree;
+mod keys;
+mod moves;
+mod stamps;
 mod timers;
 
 pub use aio_model::NoMemory;

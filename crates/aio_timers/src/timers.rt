@@ -1,14 +1,14 @@
-ghost use Rattle.std.specs.Prelude.{◌≡◌, ◌≢◌, ◌<◌, ◌≤◌, ℕ, ◌+◌, ◌∷◌, [], length, List, IfOk, IfSome, IfNone, MatchOption};
-ghost use Rattle.aio_chain.specs.LinkList.{contains, without};
+ghost use Rattle.std.specs.Prelude.{◌≡◌, ◌<◌, ◌+◌, ◌∷◌, [], length, nat_lt, slice_set, List, IfOk, IfSome, IfNone, MatchOption};
 ghost use Rattle.aio_model.specs.declared.timer_calls.TimerCall.{TimerCall};
 ghost use Rattle.aio_model.specs.declared.timer_calls.TimerCall.TheVariants.{Add, Arm, Disarm, RunBegin, Give};
 ghost use Rattle.aio_model.specs.TimerCalls.{is_armed, is_marked, IsFirst, IsNone, IsEarliest};
-ghost use Rattle.aio_timers.specs.Order.{AreAmong};
+ghost use Rattle.aio_timers.specs.Keys.{none, joint, AreRows};
 ghost use Rattle.aio_timers.specs.StandsFor.{StandsFor};
 
-use crate::due::{clear, fill};
-use crate::order::{from_zero, put_in_order};
-use aio_chain::Links;
+use crate::key_tree::{KeyTree, NONE};
+use crate::keys::{expiry_of, from_zero, key_of};
+use crate::moves::move_keys;
+use crate::stamps::fresh_stamp;
 use aio_model::NoMemory;
 use std::alloc::{AllocError, Global};
 use std::marker::Model;
@@ -19,33 +19,46 @@ pub struct TimerId {
     pub number: u32,
 }
 
-/// Takes a timer off both lists, where it is on them. Whether it was on the first.
-fn take_off(order: &mut Links, due: &mut Links, timer: u32) -> bool
-    requires { AreAmong due.old.items order.old.items }
-    ensures was { result ≡ contains timer order.old.items }
-    ensures order { order.new.items ≡ without timer order.old.items }
-    ensures due { due.new.items ≡ without timer due.old.items }
-    ensures order_room { order.new.room ≡ order.old.room }
-    ensures due_room { due.new.room ≡ due.old.room }
+/// Empty rows of keys, and room for as many ranks.
+fn rows(alloc: Global, room: u32) -> Result<(KeyTree, KeyTree, Vec<u64>), AllocError>
+    ensures { IfOk result (λ rows. AreRows rows.0 rows.1 rows.2.items room) }
 {
-    let is_armed = order.has(timer);
-    if is_armed {
-        order.unlink(timer);
-        if due.has(timer) {
-            due.unlink(timer);
-        }
-    }
-    is_armed
+    let places = room as usize + 1;
+    let due = KeyTree::build(alloc, places)?;
+    let waiting = KeyTree::build(alloc, places)?;
+    let ranks = vec![in alloc; 0; places]?;
+    Ok((due, waiting, ranks))
+}
+
+/// Takes a timer's key out of the row that it is in. Whether it was in one.
+fn take_off(due: &mut KeyTree, waiting: &mut KeyTree, timer: u32) -> bool
+    requires in_due { timer < length due.old }
+    requires in_waiting { timer < length waiting.old }
+    ensures was { result ≡ nat_lt (joint due.old waiting.old timer) none }
+    ensures due { due.new ≡ slice_set due.old timer none }
+    ensures waiting { waiting.new ≡ slice_set waiting.old timer none }
+{
+    let place = timer as usize;
+    let was_armed = due.key(place) < NONE || waiting.key(place) < NONE;
+    due.clear(place);
+    waiting.clear(place);
+    was_armed
 }
 
 /// Timers that their owner arms and disarms, and gives in runs, after timerlists of QEMU's util/qemu-timer.c. All is
 /// done by one thread.
 #[derive(Debug, Drop)]
 pub struct Timers {
-    order: Links,
-    due: Links,
-    expiries: Vec<u64>,
+    /// The keys of the timers that the run is to give.
+    due: KeyTree,
+    /// The keys of the other armed ones.
+    waiting: KeyTree,
+    /// Where stamps are counted that are to be given anew.
+    ranks: Vec<u64>,
+    room: u32,
     made: u32,
+    /// The stamp of the next arm.
+    next: u64,
 }
 
 impl Model for Timers {
@@ -66,14 +79,14 @@ impl Timers {
         ensures stands { IfOk result (λ timers. StandsFor timers []) }
         ensures room { IfOk result (λ timers. timers.room ≡ room) }
     {
-        let order = Links::build(alloc, room)?;
-        let due = Links::build(alloc, room)?;
-        match vec![in alloc; 0; room as usize] {
-            Ok(expiries) => Ok(Timers {
-                order,
+        match rows(alloc, room) {
+            Ok((due, waiting, ranks)) => Ok(Timers {
                 due,
-                expiries,
+                waiting,
+                ranks,
+                room,
                 made: 0,
+                next: 0,
             }),
             Err(AllocError) => Err(NoMemory),
         }
@@ -90,7 +103,7 @@ impl Timers {
         ensures stands { IfSome result (λ _. (calls : List TimerCall) → StandsFor self.old calls → StandsFor self.new (Add ∷ calls)) }
     {
         let number = self.made;
-        if number == self.order.room() {
+        if number == self.room {
             return None;
         }
         self.made += 1;
@@ -104,9 +117,11 @@ impl Timers {
         ensures room { self.new.room ≡ self.old.room }
         ensures stands { (calls : List TimerCall) → StandsFor self.old calls → StandsFor self.new (Arm id.number expire ∷ calls) }
     {
-        take_off(&mut self.order, &mut self.due, id.number);
-        self.expiries[id.number as usize] = from_zero(expire);
-        put_in_order(&mut self.order, &self.expiries, id.number);
+        let stamp = fresh_stamp(&mut self.due, &mut self.waiting, &mut self.ranks, self.next);
+        self.due.clear(id.number as usize);
+        self.waiting
+            .set(id.number as usize, key_of(from_zero(expire), stamp));
+        self.next = stamp + 1;
     }
 
     /// Whether the timer was armed. It isn't from now on.
@@ -116,17 +131,21 @@ impl Timers {
         ensures was_armed { (calls : List TimerCall) → StandsFor self.old calls → result ≡ is_armed id.number calls }
         ensures stands { (calls : List TimerCall) → StandsFor self.old calls → StandsFor self.new (Disarm id.number ∷ calls) }
     {
-        take_off(&mut self.order, &mut self.due, id.number)
+        if id.number >= self.made {
+            return false;
+        }
+        take_off(&mut self.due, &mut self.waiting, id.number)
     }
 
     /// The earliest expiry; `None` where no timer is armed.
     pub fn first(&self) -> Option<u64>
         ensures { (calls : List TimerCall) → StandsFor self.now calls → MatchOption result (IsNone is_armed calls) (IsEarliest calls) }
     {
-        match self.order.first() {
-            Some(timer) => Some(self.expiries[timer as usize]),
-            None => None,
+        let key = self.due.least().min(self.waiting.least());
+        if key == NONE {
+            return None;
         }
+        Some(expiry_of(key))
     }
 
     /// Begins a run of the timers that are armed and have expired by now.
@@ -135,8 +154,8 @@ impl Timers {
         ensures room { self.new.room ≡ self.old.room }
         ensures stands { (calls : List TimerCall) → StandsFor self.old calls → StandsFor self.new (RunBegin now ∷ calls) }
     {
-        clear(&mut self.due);
-        fill(&mut self.due, &self.order, &self.expiries, now);
+        move_keys(&mut self.due, &mut self.waiting, NONE);
+        move_keys(&mut self.waiting, &mut self.due, key_of(now, u64::MAX));
     }
 
     /// The next timer of the run, which isn't armed any more; `None` where the run has given all.
@@ -147,8 +166,10 @@ impl Timers {
         ensures stands { IfSome result (λ id. (calls : List TimerCall) → StandsFor self.old calls → StandsFor self.new (Give id.number ∷ calls)) }
         ensures unchanged { IfNone result (self.new ≡ self.old) }
     {
-        let number = self.due.first()?;
-        take_off(&mut self.order, &mut self.due, number);
-        Some(TimerId { number })
+        let place = self.due.holder()?;
+        self.due.set(place, NONE);
+        Some(TimerId {
+            number: place as u32,
+        })
     }
 }

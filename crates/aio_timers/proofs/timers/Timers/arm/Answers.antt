@@ -1,56 +1,56 @@
-use Rattle.std.proofs.Common.{◌≡◌, ◌<◌, length, set, refl, sym, ◌∙◌, ap, subst, arith, length-set, w64}
+use Rattle.std.proofs.Common.{◌≡◌, ◌+◌, ◌*◌, ◌<◌, ◌≤◌, length, length-set, refl, sym, ◌∙◌, ap, subst, arith, w64}
+use Rattle.std.proofs.lemmas.Grind.{common_steps}
 use Rattle.std.proofs.lemmas.Int.{to_z-of_z}
 use Rattle.aio_model.specs.TimerCalls.{from_zero}
-use Rattle.aio_chain.specs.LinkList.{contains, without}
-use Rattle.aio_chain.proofs.Steps.{contains-without_same}
-use Rattle.aio_timers.specs.Order.{AreBelow, AreAmong, put_in_order}
-use Rattle.aio_timers.specs.Kept.{timers_of}
+use Rattle.aio_timers.specs.Keys.{none, stamps, joint, key_at}
 use Rattle.aio_timers.specs.StandsFor.{StandsFor}
-use Rattle.aio_timers.proofs.Keeping.{without_below, put_below, put_among}
-use Rattle.aio_timers.proofs.Standing.{stands_armed}
+use Rattle.aio_timers.proofs.Rows.{of_rows, stamped_put}
+use Rattle.aio_timers.proofs.Standing.{tell_from}
+use Rattle.aio_timers.proofs.RowCalls.{apart_anew, tell_anew, put_here, put_others, put_apart, stands_armed}
 use Rattle.aio_timers.proofs.timers.Timers.arm.Goals as goal
-
-pub put_in_order-requires-clause-below : goal.put_in_order-requires-clause-below
-put_in_order-requires-clause-below c =
-    let timer = c.args.id.number in
-    let order = c.self.inside.order.items in
-    let below = without_below timer order c.self.inside.made c.self.invariant.armed_made in
-    let left : AreBelow c.take_off.new.order.items c.self.inside.made = subst (λ xs. AreBelow xs c.self.inside.made) (sym c.take_off.ensures.order) below in
-    λ k h. omega (arith, left k h, c.deref.ensures.len, c.self.inside.expiries.ok.0, c.self.invariant.made_fits, c.self.invariant.sized)
-
-pub put_in_order-requires-clause-absent : goal.put_in_order-requires-clause-absent
-put_in_order-requires-clause-absent c =
-    ap (contains c.args.id.number) c.take_off.ensures.order ∙ contains-without_same c.args.id.number c.self.inside.order.items
-
--- the timers' place in the order
-put : (c : goal.After-put_in_order) → c.put_in_order.new.order.items ≡ put_in_order c.deref.result.now c.args.id.number (without c.args.id.number c.self.inside.order.items)
-put c =
-    c.put_in_order.ensures.items ∙ ap (put_in_order c.deref.result.now c.args.id.number) c.take_off.ensures.order
 
 pub invariant_of-self : goal.invariant_of-self
 invariant_of-self c =
+    let h = c.self.inside in
+    let kept = c.self.invariant in
     let timer = c.args.id.number in
-    let order = c.self.inside.order.items in
+    let due = c.fresh_stamp-stamp.new.due in
+    let waiting = c.fresh_stamp-stamp.new.waiting in
+    let due' = c.clear.new.self in
+    let waiting' = c.set.new.self in
+    let fresh = c.fresh_stamp-stamp.ensures in
     let made = ap (λ timers. timers.made) c.self.view_is in
-    let low : timer < c.self.inside.made = omega (arith, c.requires) in
-    let room = c.put_in_order.ensures.room ∙ c.take_off.ensures.order_room in
+    let low : timer < h.made = omega (arith, c.requires, made) in
+    let in_due : timer < length due = omega (arith, low, kept.made_fits, kept.due_sized, fresh.restamps.due_sized) in
+    let in_waiting : timer < length waiting = omega (arith, low, kept.made_fits, kept.waiting_sized, fresh.restamps.waiting_sized) in
+    let stamped = fresh.stamped h.made kept.stamped in
+    let here = put_here due waiting due' waiting' timer c.key_of.result in_due in_waiting c.clear.ensures c.set.ensures in
     record {
-      same_room = c.take_off.ensures.due_room ∙ c.self.invariant.same_room ∙ sym room;
-      sized = length-set c.self.inside.expiries.items timer c.from_zero.result ∙ c.self.invariant.sized ∙ sym room;
-      made_fits = omega (arith, room, c.self.invariant.made_fits);
-      armed_made =
-          subst (λ xs. AreBelow xs c.self.inside.made) (sym (put c)) (put_below timer order c.deref.result.now c.self.inside.made low c.self.invariant.armed_made);
-      due_armed =
-          subst (λ xs. AreAmong c.take_off.new.due.items xs) (sym (put c)) (subst (λ xs. AreAmong xs (put_in_order c.deref.result.now timer (without timer order))) (sym c.take_off.ensures.due) (put_among timer order c.deref.result.now c.self.inside.due.items c.self.invariant.due_armed));
+      due_sized = ap length c.clear.ensures ∙ length-set due timer none ∙ fresh.restamps.due_sized ∙ kept.due_sized;
+      waiting_sized = ap length c.set.ensures ∙ length-set waiting timer c.key_of.result ∙ fresh.restamps.waiting_sized ∙ kept.waiting_sized;
+      ranks_sized = grind (arith, common_steps, kept.ranks_sized, c.deref_mut.ensures.value, c.deref_mut.ensures.len, c.fresh_stamp-stamp.auto.ranks);
+      made_fits = kept.made_fits;
+      apart = put_apart due waiting due' waiting' timer c.key_of.result in_due in_waiting c.clear.ensures c.set.ensures (apart_anew h.due h.waiting due waiting fresh.restamps kept.apart);
+      stamped = stamped_put (joint due waiting) (joint due' waiting') h.made c.fresh_stamp-stamp.result timer c.from_zero.result stamped low (omega (arith, fresh.more)) (here ∙ c.key_of.ensures) (put_others due waiting due' waiting' timer c.key_of.result in_due in_waiting c.clear.ensures c.set.ensures);
     }
 
 pub returns-clause-stands : goal.returns-clause-stands
 returns-clause-stands c = λ calls stands.
-    let old = timers_of c.self.inside in
-    let stood = subst (λ timers. StandsFor timers calls) (sym c.self.view_is) stands in
+    let h = c.self.inside in
+    let kept = c.self.invariant in
     let timer = c.args.id.number in
+    let due = c.fresh_stamp-stamp.new.due in
+    let waiting = c.fresh_stamp-stamp.new.waiting in
+    let stamp = c.fresh_stamp-stamp.result in
+    let fresh = c.fresh_stamp-stamp.ensures in
     let made = ap (λ timers. timers.made) c.self.view_is in
-    let sized : timer < length old.expiries = omega (arith, c.requires, c.self.invariant.made_fits, c.self.invariant.sized) in
-    let expire : c.from_zero.result ≡ from_zero c.args.expire = c.from_zero.ensures ∙ ap from_zero (to_z-of_z w64 c.args.expire c.ranges.expire) in
-    let expiries : set c.self.inside.expiries.items timer c.from_zero.result ≡ set c.self.inside.expiries.items timer (from_zero c.args.expire) = ap (set c.self.inside.expiries.items timer) expire in
-    stands_armed old calls stood timer c.args.expire sized _ refl (put c ∙ ap (λ es. put_in_order es timer (without timer c.self.inside.order.items)) (c.deref.ensures.value ∙ expiries)) c.take_off.ensures.due expiries
+    let low : timer < h.made = omega (arith, c.requires, made) in
+    let in_due : timer < length due = omega (arith, low, kept.made_fits, kept.due_sized, fresh.restamps.due_sized) in
+    let in_waiting : timer < length waiting = omega (arith, low, kept.made_fits, kept.waiting_sized, fresh.restamps.waiting_sized) in
+    let stood = subst (λ timers. StandsFor timers calls) (sym c.self.view_is) stands in
+    let tell = tell_from (joint h.due h.waiting) (key_at h.due) h.room h.made h.next kept.stamped kept.made_fits (of_rows h.due h.waiting) calls stood in
+    let told = tell_anew h.due h.waiting due waiting fresh.restamps h.made calls tell in
+    let expire : c.from_zero.result ≡ from_zero c.args.expire = c.from_zero.ensures.is ∙ ap from_zero (to_z-of_z w64 c.args.expire c.ranges.expire) in
+    let key : c.key_of.result ≡ from_zero c.args.expire * stamps + stamp = c.key_of.ensures ∙ ap (λ e. e * stamps + stamp) expire in
+    let early : from_zero c.args.expire < 9223372036854775808 = omega (arith, expire, c.from_zero.ensures.low) in
+    stands_armed due waiting c.clear.new.self c.set.new.self timer c.key_of.result in_due in_waiting c.clear.ensures c.set.ensures h.room h.made stamp c.args.expire calls told (fresh.stamped h.made kept.stamped) kept.made_fits low (omega (arith, fresh.more)) key early

@@ -1,27 +1,35 @@
-use Rattle.std.proofs.Common.{refl, sym, ◌∙◌, subst, arith}
-use Rattle.aio_chain.specs.LinkList.{without}
-use Rattle.aio_timers.specs.Order.{AreBelow, AreAmong}
-use Rattle.aio_timers.specs.Kept.{timers_of}
+use Rattle.std.proofs.Common.{sym, subst, rules}
+use Rattle.aio_model.specs.TimerCalls.{is_marked, IsNone}
+use Rattle.aio_timers.specs.Keys.{joint, key_at}
 use Rattle.aio_timers.specs.StandsFor.{StandsFor}
-use Rattle.aio_timers.proofs.Keeping.{without_below, without_among}
-use Rattle.aio_timers.proofs.Standing.{stands_given}
+use Rattle.aio_timers.proofs.Rows.{of_rows}
+use Rattle.aio_timers.proofs.Standing.{tell_from, first_marked, none_marked}
+use Rattle.aio_timers.proofs.RowCalls.{stands_given}
 use Rattle.aio_timers.proofs.timers.Timers.run_next.Goals as goal
 
-pub invariant_of-self : goal.invariant_of-self
-invariant_of-self c =
-    let timer = c.in_ok-number.number in
-    let order = c.self.inside.order.items in
-    record {
-      same_room = c.take_off.ensures.due_room ∙ c.self.invariant.same_room ∙ sym c.take_off.ensures.order_room;
-      sized = c.self.invariant.sized ∙ sym c.take_off.ensures.order_room;
-      made_fits = omega (arith, c.take_off.ensures.order_room, c.self.invariant.made_fits);
-      armed_made =
-          subst (λ xs. AreBelow xs c.self.inside.made) (sym c.take_off.ensures.order) (without_below timer order c.self.inside.made c.self.invariant.armed_made);
-      due_armed =
-          subst (λ xs. AreAmong c.take_off.new.due.items xs) (sym c.take_off.ensures.order) (subst (λ xs. AreAmong xs (without timer order)) (sym c.take_off.ensures.due) (without_among timer order c.self.inside.due.items c.self.invariant.due_armed));
-    }
+pub returns-in_err-place-clause-next : goal.returns-in_err-place-clause-next
+returns-in_err-place-clause-next c = λ calls stands.
+    let h = c.self.inside in
+    let kept = c.self.invariant in
+    let stood = subst (λ timers. StandsFor timers calls) (sym c.self.view_is) stands in
+    let tell = tell_from (joint h.due h.waiting) (key_at h.due) h.room h.made h.next kept.stamped kept.made_fits (of_rows h.due h.waiting) calls stood in
+    let fact : IsNone is_marked calls = none_marked (joint h.due h.waiting) (key_at h.due) h.room h.made h.next kept.stamped kept.made_fits (of_rows h.due h.waiting) calls tell c.in_err-place.ensures.none in
+    search (rules, fact)
+
+pub returns-clause-next : goal.returns-clause-next
+returns-clause-next c = λ calls stands.
+    let h = c.self.inside in
+    let kept = c.self.invariant in
+    let stood = subst (λ timers. StandsFor timers calls) (sym c.self.view_is) stands in
+    let tell = tell_from (joint h.due h.waiting) (key_at h.due) h.room h.made h.next kept.stamped kept.made_fits (of_rows h.due h.waiting) calls stood in
+    let holder = c.in_ok-place.ensures.some in
+    first_marked (joint h.due h.waiting) (key_at h.due) h.room h.made h.next kept.stamped kept.made_fits (of_rows h.due h.waiting) calls tell c.in_ok-place.place holder.has_key holder.least
 
 pub returns-clause-stands : goal.returns-clause-stands
 returns-clause-stands c = λ calls stands.
+    let h = c.self.inside in
+    let kept = c.self.invariant in
     let stood = subst (λ timers. StandsFor timers calls) (sym c.self.view_is) stands in
-    stands_given (timers_of c.self.inside) calls stood c.in_ok-number.number _ refl c.take_off.ensures.order c.take_off.ensures.due refl
+    let tell = tell_from (joint h.due h.waiting) (key_at h.due) h.room h.made h.next kept.stamped kept.made_fits (of_rows h.due h.waiting) calls stood in
+    let holder = c.in_ok-place.ensures.some in
+    stands_given h.due h.waiting c.set.new.self c.in_ok-place.place kept.apart holder.within holder.has_key c.set.ensures h.made h.next kept.stamped h.room calls tell kept.made_fits
