@@ -1,15 +1,15 @@
 -- What each call of a set of timers leaves of its rows of keys, and of what they stand for.
-use Rattle.std.proofs.Common.{◌≡◌, ℕ, ℤ, ◌+◌, ◌*◌, ◌/◌, ◌<◌, ◌≤◌, true, false, ◌&&◌, ltb, leb, List, ◌∷◌, length, set, refl, sym, ◌∙◌, ap, subst, inl, inr, arith, get_or-set_same, get_or-set_other}
-use Rattle.std.proofs.lemmas.Bool.{cases_Bool, cases_lt, cases_eq, lt-ltb, le-ltb, ltb-true, ltb-false, le-leb, lt-leb}
+use Rattle.std.proofs.Common.{◌≡◌, ℕ, ℤ, ◌+◌, ◌*◌, ◌/◌, ◌<◌, ◌≤◌, true, false, ◌&&◌, ltb, leb, List, ◌∷◌, length, set, refl, sym, ◌∙◌, ap, inl, inr, arith, get_or-set_same, get_or-set_other}
+use Rattle.std.proofs.lemmas.Bool.{cases_Bool, cases_lt, lt-ltb, le-ltb, ltb-true, ltb-false, le-leb, lt-leb}
 use Rattle.aio_model.specs.declared.timer_calls.TimerCall.{TimerCall}
 use Rattle.aio_model.specs.declared.timer_calls.TimerCall.TheVariants.{Arm, Disarm, RunBegin, Give}
 use Rattle.aio_model.specs.TimerCalls.{from_zero}
 use Rattle.aio_timers.specs.Keys.{none, stamps, key_at, joint, AreApart, AreStamped}
-use Rattle.aio_timers.specs.Moving.{IsMoved, Moves}
+use Rattle.aio_timers.specs.Moving.{Moves}
 use Rattle.aio_timers.specs.Restamping.{Restamps}
 use Rattle.aio_timers.specs.Kept.{list_of}
 use Rattle.aio_timers.specs.StandsFor.{StandsFor}
-use Rattle.aio_timers.proofs.Standing.{Tell, tell_from, stands_from, tell_same, tell_begun, tell_armed, tell_disarmed, tell_given}
+use Rattle.aio_timers.proofs.Standing.{Tell, stands_from, tell_same, tell_begun, tell_armed, tell_disarmed, tell_given}
 use Rattle.aio_timers.proofs.Rows.{joint_due, joint_waiting, of_rows, due_off, joint_others, joint_put, apart_put, stamped_fewer, stamped_put}
 
 -- what rows stand for

@@ -1,9 +1,8 @@
 -- The two rows of keys, and the joint one.
-use Rattle.std.proofs.Common.{◌≡◌, ℕ, ◌+◌, ◌*◌, ◌/◌, ◌%◌, ◌<◌, ◌≤◌, true, false, ◌&&◌, ltb, leb, List, length, set, get_or, refl, sym, ◌∙◌, ap, inl, inr, arith, get_or-set_same, get_or-set_other}
-use Rattle.std.proofs.lemmas.Bool.{cases_Bool, cases_lt, cases_eq, lt-ltb, le-ltb, ltb-true, ltb-false, le-leb, lt-leb}
+use Rattle.std.proofs.Common.{◌≡◌, ℕ, ◌+◌, ◌*◌, ◌%◌, ◌<◌, ◌≤◌, List, length, set, refl, sym, ◌∙◌, ap, inl, inr, arith, get_or-set_same, get_or-set_other}
+use Rattle.std.proofs.lemmas.Bool.{cases_lt, cases_eq, lt-ltb, le-ltb}
 use Rattle.std.proofs.lemmas.List.{get_or_past}
-use Rattle.aio_timers.specs.Keys.{none, stamps, key_at, joint, AreApart, AreStamped, IsHolder, HasPlace}
-use Rattle.aio_timers.specs.Moving.{IsMoved, Moves}
+use Rattle.aio_timers.specs.Keys.{none, stamps, key_at, joint, AreApart, AreStamped}
 use Rattle.aio_timers.proofs.Standing.{AreOf}
 
 module _ (due waiting : List ℕ) where

@@ -1,15 +1,15 @@
 -- What the keys of timers say of the calls, and what each call leaves of it.
-use Rattle.std.proofs.Common.{◌≡◌, ℕ, ℤ, ◌+◌, ◌*◌, ◌/◌, ◌%◌, ◌<◌, ◌≤◌, Bool, true, false, ◌&&◌, cond, eqb, ltb, leb, List, [], ◌∷◌, length, get_or, refl, sym, ◌∙◌, ap, subst, inl, inr, arith}
-use Rattle.std.proofs.lemmas.Bool.{cases_Bool, cases_eq, cases_lt, both_ways, eq-eqb, ne_eqb, eqb-true, eqb-false, lt-ltb, le-ltb, ltb-true, ltb-false, false_from_ne_true, le-leb, lt-leb}
+use Rattle.std.proofs.Common.{◌≡◌, ℕ, ℤ, ◌+◌, ◌*◌, ◌/◌, ◌%◌, ◌<◌, ◌≤◌, true, false, ◌&&◌, cond, eqb, ltb, leb, List, [], ◌∷◌, length, refl, sym, ◌∙◌, ap, inl, inr, arith}
+use Rattle.std.proofs.lemmas.Bool.{cases_Bool, cases_eq, cases_lt, eq-eqb, ne_eqb, eqb-true, eqb-false, lt-ltb, le-ltb, ltb-true}
 use Rattle.aio_model.specs.declared.timer_calls.TimerCall.{TimerCall}
 use Rattle.aio_model.specs.declared.timer_calls.TimerCall.TheVariants.{Add, Arm, Disarm, RunBegin, Give}
 use Rattle.aio_model.specs.TimerCalls.{made, from_zero, expiry, place, is_armed, is_marked, StandsBefore, IsFirst, IsNone, IsEarliest}
 use Rattle.aio_timers.specs.Keys.{none, stamps, AreStamped}
-use Rattle.aio_timers.specs.Order.{in_order, expiries_of}
+use Rattle.aio_timers.specs.Order.{in_order}
 use Rattle.aio_timers.specs.Kept.{list_of}
-use Rattle.aio_timers.specs.StandsFor.{InOrder, StandsFor}
+use Rattle.aio_timers.specs.StandsFor.{StandsFor}
 use Rattle.aio_timers.proofs.SameArms.{place_among, SameArm, stands_same}
-use Rattle.aio_timers.proofs.Listed.{IsListed, listed, in_list, contains_is, IsSorted, sorted_in_order, before_from, in_order_from, expiry_at}
+use Rattle.aio_timers.proofs.Listed.{listed, in_list, contains_is, sorted_in_order, before_from, in_order_from, expiry_at}
 
 -- the keys are those of the timers that these calls left armed, and the due ones of those that are marked
 pub record Tell (keys due : ℕ → ℕ) (number : ℕ) (calls : List TimerCall) : Type 0 where

@@ -1,5 +1,5 @@
 -- How the fields of a set of timers keep it.
-use Rattle.std.specs.Prelude.{◌≡◌, ℕ, ◌+◌, ◌≤◌, List, length}
+use Rattle.std.specs.Prelude.{◌≡◌, ℕ, ◌+◌, ◌≤◌, length}
 use Rattle.aio_timers.specs.declared.timers.Timers.TheInside.{Inside}
 use Rattle.aio_timers.specs.Keys.{key_at, joint, AreApart, AreStamped}
 use Rattle.aio_timers.specs.Order.{in_order, expiries_of}

@@ -1,5 +1,5 @@
 -- Keys of timers: an expiry, and behind it the stamp of the arm.
-use Rattle.std.specs.Prelude.{◌≡◌, ℕ, ◌<◌, ◌≤◌, ◌/◌, ◌%◌, ◌*◌, ◌+◌, nat_lt, Bool, if◌then◌else◌, List, length, slice_index_or}
+use Rattle.std.specs.Prelude.{◌≡◌, ℕ, ◌<◌, ◌≤◌, ◌%◌, ◌+◌, nat_lt, if◌then◌else◌, List, length, slice_index_or}
 
 -- the key of a place that has none
 abbrev pub none : ℕ

@@ -1,6 +1,6 @@
 -- Stamps that are given anew.
 use Rattle.std.specs.Prelude.{◌≡◌, ℕ, ◌<◌, ◌/◌, ◌%◌, ◌*◌, ◌+◌, nat_lt, Bool, if◌then◌else◌, List, length, count_by}
-use Rattle.aio_timers.specs.Keys.{none, stamps, key_at, joint, AreStamped}
+use Rattle.aio_timers.specs.Keys.{none, stamps, key_at, joint}
 
 -- the key has a stamp below this
 abbrev pub is_older : ℕ → ℕ → Bool

@@ -1,4 +1,4 @@
-use Rattle.std.proofs.Common.{◌≡◌, ℕ, ◌+◌, ◌-◌, ◌≤◌, ◌<◌, length, get_or, sym, ◌∙◌, ap, subst, arith}
+use Rattle.std.proofs.Common.{◌≡◌, ℕ, ◌+◌, ◌-◌, ◌≤◌, ◌<◌, length, get_or, ap, subst, arith}
 use Rattle.aio_timers.specs.Keys.{key_at}
 use Rattle.aio_timers.proofs.Treed.{length_keys, key_is, lower}
 use Rattle.aio_timers.proofs.key_tree.KeyTree.lowest.Goals as goal

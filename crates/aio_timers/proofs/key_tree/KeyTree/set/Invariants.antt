@@ -1,4 +1,4 @@
-use Rattle.std.proofs.Common.{◌≡◌, ◌*◌, ◌+◌, ◌<◌, drop, length, set}
+use Rattle.std.proofs.Common.{◌≡◌, ◌*◌, ◌<◌, drop, length}
 use Rattle.aio_timers.proofs.Treed.{AllButAbove}
 use Rattle.aio_timers.proofs.key_tree.KeyTree.set.Given as goal
 

@@ -1,5 +1,5 @@
-use Rattle.std.proofs.Common.{[], sym, arith}
-use Rattle.aio_timers.specs.Keys.{joint, key_at, AreRows}
+use Rattle.std.proofs.Common.{[], arith}
+use Rattle.aio_timers.specs.Keys.{joint, key_at}
 use Rattle.aio_timers.proofs.Rows.{of_rows, joint_none, stamped_none}
 use Rattle.aio_timers.proofs.Standing.{stands_from, tell_none}
 use Rattle.aio_timers.proofs.timers.Timers.build.Goals as goal
