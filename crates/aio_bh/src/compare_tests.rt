@@ -238,8 +238,14 @@ enum Row {
 fn polls(rt: &impl Abort, shared: &mut Shared, ran: u64, calls: [u32; 3], progress: bool) {
     let mut notes = Notes::of(rt);
     let polled = shared.poll(&mut notes);
-    assert_eq!(rt; (polled.ran, polled.progress, polled.cut_nests), (ran, progress, 0));
-    assert_eq!(rt; (notes.count as u64, notes.called.get(..3)), (ran, Some(calls.as_slice())));
+    assert_eq!(rt;
+        (polled.ran, polled.progress, polled.cut_nests),
+        (ran, progress, 0)
+    );
+    assert_eq!(rt;
+        (notes.count as u64, notes.called.get(..3)),
+        (ran, Some(calls.as_slice()))
+    );
 }
 
 /// One row after another is as wanted.

@@ -5,9 +5,9 @@ mod call;
 #[cfg(test)]
 mod compare_tests;
 mod enqueue;
-mod polled;
 #[cfg(test)]
 mod one_shot_tests;
+mod polled;
 #[cfg(test)]
 mod polling_tests;
 mod polls;

@@ -143,7 +143,12 @@ fn each_lot_is_called_with_its_own_job(rt: HostRuntime) -> Result<(), Fail> {
     lots.schedule(&rt);
     assert_eq!(rt; lots.place(&rt, 1, 7), None);
     assert_eq!(rt; lots.place(&rt, 2, 8), None);
-    let wanted = [(2, Some(8), true), (1, Some(7), true), (0, None, true), NO_ENTRY];
+    let wanted = [
+        (2, Some(8), true),
+        (1, Some(7), true),
+        (0, None, true),
+        NO_ENTRY,
+    ];
     lots.poll(&rt, 3, wanted);
     Ok(())
 }

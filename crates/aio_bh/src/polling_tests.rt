@@ -83,7 +83,13 @@ fn schedule_all<R: Wait>(rt: &R, table: &LoopTable<u64>, seat: Seat<u64>, done: 
     let mut seat = seat;
     let mut announced = Tally { times: [0; 64] };
     for turn in 0..SCHEDULES {
-        schedule_one(rt, table, &mut seat, (turn * 7 + done) % SHARED, &mut announced);
+        schedule_one(
+            rt,
+            table,
+            &mut seat,
+            (turn * 7 + done) % SHARED,
+            &mut announced,
+        );
     }
     schedule_one(rt, table, &mut seat, done, &mut announced);
     announced
@@ -179,6 +185,9 @@ fn each_announced_call_is_made_once(rt: HostRuntime) -> Result<(), Fail> {
     let ((first, second), called) = announced_and_called(&rt, &table, home, seat, other);
     let announced = all_called(&rt, &first, &second, &called);
     println!(rt; "{announced} of 20002 schedules found their handle not pending")?;
-    assert!(rt; announced > 2_000, "only {announced} of 20002 schedules found their handle not pending");
+    assert!(rt;
+        announced > 2_000,
+        "only {announced} of 20002 schedules found their handle not pending"
+    );
     Ok(())
 }
