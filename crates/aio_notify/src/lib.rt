@@ -5,5 +5,7 @@
 #![tactic(auto)]
 
 mod notification;
+#[cfg(test)]
+mod tests;
 
 pub use notification::Notify;
