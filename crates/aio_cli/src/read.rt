@@ -53,7 +53,7 @@ pub(crate) fn read_text<S: Source>(alloc: Global, source: &mut S) -> Result<Vec<
     ensures counted { S.faults source.old ≤ S.faults source.new }
     ensures cause { IsErrOf result ReadFail.Fault → HasRisen (S.faults source.old) (S.faults source.new) }
 {
-    let mut text = Vec::new(alloc);
+    let mut text = Vec::with_capacity(alloc, READ_LIMIT)?;
     let mut chunk = [0u8; CHUNK];
     while text.len() < READ_LIMIT {
         let room = CHUNK.min(READ_LIMIT - text.len());
