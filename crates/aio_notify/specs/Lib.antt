@@ -1,1 +1,3 @@
 pub mod Notifying
+pub mod Watching
+pub mod Commits
