@@ -1,7 +1,8 @@
 -- Which events a home watches, and what it finds of them.
 use Rattle.std.specs.Prelude.{◌≡◌, ℕ, suc, zero, ◌<◌, ◌+◌, ◌/◌, ◌%◌, ◌^◌, ◌==◌, Bool, true, false, if◌then◌else◌, Option, None, Some, List, [], ◌∷◌, MatchBool}
-use Rattle.aio_core.specs.Known.{Known, is_running}
-use Rattle.aio_core.specs.SleepSteps.{LoadsEvent}
+use Rattle.aio_core.specs.Known.{Known}
+use Rattle.aio_core.specs.SleepSteps.{LoadsEvent, scan_in}
+use Rattle.aio_core.specs.Scans.{IsAhead}
 
 -- bit e of the mask is set
 abbrev pub watches : ℕ → ℕ → Bool
@@ -23,6 +24,12 @@ abbrev pub LooksBelow : ℕ → ℕ → Known → Known → Type 0
 LooksBelow watch zero before after = after ≡ before
 LooksBelow watch (suc e) before after =
     (mid : Known) × LooksBelow watch e before mid × LooksAt watch e false mid after
+
+-- A home that has scanned looked at the watched events below a number, and none was set: it has still scanned, and watches just these.
+pub record LooksOn (watch e : ℕ) (before after : Known) : Type 0 where
+  pub looks : LooksBelow watch e before after
+  pub scanned : IsAhead [] after
+  pub watched : (scan_in after.sleep).watched ≡ watched_below watch e
 
 -- of the watched events this one was found set, and none below it
 pub record FindsSet (watch events e : ℕ) (before after : Known) : Type 0 where

@@ -5,7 +5,10 @@
 #![tactic(auto)]
 
 mod notification;
+mod sleeping;
 #[cfg(test)]
 mod tests;
+mod watching;
 
 pub use notification::Notify;
+pub use sleeping::Sleeping;

@@ -3,7 +3,7 @@ ghost use Rattle.std.specs.Prelude.{◌≡◌, ◌<◌, ◌≤◌, [], length, t
 ghost use Rattle.aio_core.specs.SleepSteps.{scan_in};
 ghost use Rattle.aio_core.specs.Scans.{IsAhead};
 ghost use Rattle.aio_core.specs.Calls.{IsSeatOf};
-ghost use Rattle.aio_notify.specs.Watching.{watches, watched_below, LooksAt, LooksOn, FindsSet};
+ghost use Rattle.aio_notify.specs.Watching.{watches, LooksAt, LooksOn, FindsSet};
 
 use aio_core::{Home, Job, LoopTable};
 
