@@ -7,7 +7,7 @@ use Rattle.aio_core.specs.Standing.{is_empty}
 use Rattle.aio_core.specs.SleepSteps.{LoadsEvent, Disarms, after_any_load, made_after, scan_in}
 use Rattle.aio_core.specs.Scans.{LookedAt, Passes, PassesAll, IsAhead, FoundNone, FoundUrgent, Scans, SameButSleep}
 use Rattle.aio_core.proofs.Passing.{to_same, same_then}
-use Rattle.aio_notify.specs.Watching.{watches, watched_below, LooksAt, LooksBelow, LooksOn, FindsSet}
+use Rattle.aio_notify.specs.Watching.{watches, watched_below, LooksAt, LooksBelow, LooksOn, FindsSet, FindsBits}
 use Rattle.aio_notify.specs.Commits.{ArmsAndTests}
 
 -- The scan.
@@ -149,3 +149,9 @@ same_at_event watch events e urgent idle before scanned after scans finds =
 pub same_at_test : (watch events : ℕ) (urgent : Option ℕ) (idle notified : Bool) (before scanned looked after : Known) → Scans urgent idle before scanned → LooksOn watch events scanned looked → ArmsAndTests notified looked after → SameButSleep before after
 same_at_test watch events urgent idle notified before scanned looked after scans on tests =
     same_then before scanned after scans.rest (same_then scanned looked after (looks_same watch events scanned looked on.looks) (tests_same notified looked after tests))
+
+-- what stays where all watched events were looked at
+pub same_at_bits : (watch e bits : ℕ) (v w : Known) → FindsBits watch e bits v w → SameButSleep v w
+same_at_bits watch zero bits v w finds = subst (SameButSleep v) (sym finds.1) refl
+same_at_bits watch (suc e) bits v w finds =
+    same_then v finds.0 w (same_at_bits watch e finds.1 v finds.0 finds.3) (look_same watch e finds.2 finds.0 w finds.4)

@@ -3,8 +3,7 @@ use Rattle.std.specs.Prelude.{◌≡◌, ℕ, ◌-◌, ◌==◌, min, nat_le, Bo
 use Rattle.aio_model.specs.declared.commits.Commit.{Commit}
 use Rattle.aio_model.specs.declared.commits.Commit.TheVariants.{Sleep, Awake}
 use Rattle.aio_model.specs.declared.commits.Why.TheVariants.{Urgent, Deadline, Event, Notified}
-use Rattle.aio_model.specs.LoopFlags.{is_urgent}
-use Rattle.aio_core.specs.Known.{Known, Running, Committed, is_running}
+use Rattle.aio_core.specs.Known.{Known, Committed, is_running}
 use Rattle.aio_core.specs.SleepSteps.{Arms, Tests, Disarms, ClearsNotifier, Accepts, scan_in, watched_in}
 use Rattle.aio_core.specs.Scans.{Scans}
 use Rattle.aio_notify.specs.Watching.{watches, watched_below, LooksBelow, FindsSet}
@@ -60,13 +59,14 @@ pub record Commits (watch events : ℕ) (deadline : Option ℕ) (now : ℕ) (ans
   pub is : MatchOption urgent (MatchBool (is_past deadline now) ((answer ≡ Awake Deadline) × (after ≡ scanned)) (PastDeadline watch events (sleep_bound deadline now idle) answer scanned after)) (λ i. (answer ≡ Awake (Urgent i)) × (after ≡ scanned))
 
 -- Where home is after an answer: committed with just the watched events, or running.
-abbrev pub AwakeFor : ℕ → ℕ → Commit → Known → Type 0
-AwakeFor watch events (Sleep bound) after = after.sleep ≡ Committed (watched_below watch events)
-AwakeFor watch events (Awake (Urgent i)) after =
-    (after.sleep ≡ Running) × (is_urgent i after.seen ≡ true)
-AwakeFor watch events (Awake Deadline) after = is_running after.sleep ≡ true
-AwakeFor watch events (Awake (Event e)) after = after.sleep ≡ Running
-AwakeFor watch events (Awake Notified) after = after.sleep ≡ Running
+abbrev pub IsAwakeBy : ℕ → ℕ → Commit → Known → Type 0
+IsAwakeBy watch events (Sleep bound) after = after.sleep ≡ Committed (watched_below watch events)
+IsAwakeBy watch events (Awake why) after = is_running after.sleep ≡ true
+
+-- the index for which home stays awake
+abbrev pub urgent_in : Commit → Option ℕ
+urgent_in (Awake (Urgent i)) = Some i
+urgent_in _ = None
 
 -- home cleared the notifier, and then `notified`
 pub record AcceptsAll (before after : Known) : Type 0 where

@@ -3,6 +3,7 @@ ghost use Rattle.std.specs.Prelude.{◌≡◌, ◌<◌, ◌+◌, ◌^◌, if◌t
 ghost use Rattle.aio_model.specs.InFlight.{AtRest};
 ghost use Rattle.aio_model.specs.LoopHistory.{SetEvent};
 ghost use Rattle.aio_core.specs.Standing.{Makes};
+ghost use Rattle.aio_core.specs.Scans.{SameButSleep};
 ghost use Rattle.aio_core.specs.Calls.{IsSeatOf};
 ghost use Rattle.aio_notify.specs.Watching.{FindsBits};
 ghost use Rattle.aio_notify.specs.Setting.{SetsAndNotifies};
@@ -32,7 +33,8 @@ pub trait LoopEvents<J: Job> {
     fn found_set(&self, home: &mut Home<J>, watch: u64) -> u64
         requires seat { IsSeatOf (table self.now) home.old.seat }
         ensures seat { IsSeatOf (table self.now) home.new.seat }
-        ensures finds { FindsBits watch (table self.now).sizes.events result home.old.seat.known home.new.seat.known };
+        ensures finds { FindsBits watch (table self.now).sizes.events result home.old.seat.known home.new.seat.known }
+        ensures same { SameButSleep home.old.seat.known home.new.seat.known };
 }
 
 /// The bits, with that of one event more where it is set.

@@ -1,13 +1,12 @@
 //! How home goes to sleep and what it does once awake, after aio_poll of QEMU's util/aio-posix.c. It first looks at all that could
 //! keep it awake, then says that it is about to sleep, and then looks whether anybody has notified it since its last accept. Who
 //! enqueues goes the other way round, so one of the two sees the other.
-ghost use Rattle.std.specs.Prelude.{◌≡◌, ◌-◌, [], None, Some, MatchBool, MatchOption, option_map, if◌then◌else◌, true, false};
-ghost use Rattle.aio_core.specs.Known.{is_running, Running, Committed};
-ghost use Rattle.aio_core.specs.SleepSteps.{scan_in};
+ghost use Rattle.std.specs.Prelude.{◌≡◌, ◌-◌, [], None, Some, IfSome, option_map, if◌then◌else◌, true, false};
+ghost use Rattle.aio_model.specs.LoopFlags.{is_urgent};
+ghost use Rattle.aio_core.specs.Known.{is_running};
 ghost use Rattle.aio_core.specs.Scans.{IsAhead, SameButSleep};
 ghost use Rattle.aio_core.specs.Calls.{IsSeatOf};
-ghost use Rattle.aio_notify.specs.Watching.{watched_below};
-ghost use Rattle.aio_notify.specs.Commits.{is_past, least_of, sleep_bound, ArmsAndTests, Commits, AwakeFor, AcceptsAll};
+ghost use Rattle.aio_notify.specs.Commits.{is_past, least_of, sleep_bound, ArmsAndTests, Commits, IsAwakeBy, urgent_in, AcceptsAll};
 
 use crate::watching::first_set;
 use aio_core::{Home, Job, LoopTable};
@@ -31,7 +30,8 @@ pub trait Sleeping<J: Job> {
         requires free { home.old.seat.known.stage.hand ≡ None }
         ensures seat { IsSeatOf (table self.now) home.new.seat }
         ensures commits { Commits watch (table self.now).sizes.events deadline now result home.old.seat.known home.new.seat.known }
-        ensures awake { AwakeFor watch (table self.now).sizes.events result home.new.seat.known }
+        ensures awake { IsAwakeBy watch (table self.now).sizes.events result home.new.seat.known }
+        ensures urgent { IfSome (urgent_in result) (λ i. is_urgent i home.new.seat.known.seen ≡ true) }
         ensures same { SameButSleep home.old.seat.known home.new.seat.known };
 
     /// Forgets that anybody notified: clears the notifier, and then the mark that a notify leaves. Home runs, and looks at the list

@@ -2,6 +2,7 @@ use Rattle.std.proofs.Common.{◌≡◌, MatchBool, refl, sym, ap, ◌∙◌, su
 use Rattle.aio_model.specs.declared.commits.Commit.{Commit}
 use Rattle.aio_model.specs.declared.commits.Commit.TheVariants.{Sleep, Awake}
 use Rattle.aio_model.specs.declared.commits.Why.TheVariants.{Notified}
+use Rattle.aio_core.specs.Known.{is_running}
 use Rattle.aio_notify.specs.Commits.{is_past, sleep_bound}
 use Rattle.aio_notify.proofs.Looks.{none_found, scan_watches, finds_running, same_at_event, same_at_test}
 use Rattle.aio_notify.proofs.Tested.{commits_tested}
@@ -15,7 +16,7 @@ pub returns-in-Some-first_set-clause-awake : goal.returns-in-Some-first_set-clau
 returns-in-Some-first_set-clause-awake g c =
     let before = c.args.home.now.seat.known in
     let scanned = c.scan-scanned.new.home.seat.known in
-    finds_running c.args.watch c.args.self.now.sizes.events c.in-Some-first_set.event scanned c.first_set.new.home.seat.known (none_found _ _ before scanned c.scan-scanned.ensures.scans c.in_default.is) (scan_watches _ _ before scanned c.scan-scanned.ensures.scans) c.in-Some-first_set.ensures.looks
+    ap is_running (finds_running c.args.watch c.args.self.now.sizes.events c.in-Some-first_set.event scanned c.first_set.new.home.seat.known (none_found _ _ before scanned c.scan-scanned.ensures.scans c.in_default.is) (scan_watches _ _ before scanned c.scan-scanned.ensures.scans) c.in-Some-first_set.ensures.looks)
 
 pub returns-in-Some-first_set-clause-same : goal.returns-in-Some-first_set-clause-same
 returns-in-Some-first_set-clause-same g c =
