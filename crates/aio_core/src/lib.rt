@@ -5,6 +5,7 @@
 mod built;
 mod cancel;
 mod enqueue;
+mod events;
 mod home;
 mod home_lots;
 mod job;
