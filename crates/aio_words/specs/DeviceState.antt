@@ -1,5 +1,6 @@
 -- A device in memory, as contracts see it.
 use Rattle.std.specs.Prelude.{ℕ, List}
+use Rattle.aio_words.specs.declared.called.DeviceCall.{DeviceCall}
 
 pub record DeviceState : Type 0 where
   pub bytes : List ℕ
@@ -11,3 +12,5 @@ pub record DeviceState : Type 0 where
   pub size_faults : ℕ
   -- how many other calls failed
   pub faults : ℕ
+  -- the calls, the newest first
+  pub called : List DeviceCall

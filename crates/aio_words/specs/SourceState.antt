@@ -1,5 +1,6 @@
 -- A source in memory, as contracts see it.
 use Rattle.std.specs.Prelude.{ℕ, List, length, min}
+use Rattle.aio_words.specs.declared.called.SourceCall.{SourceCall}
 
 pub record SourceState : Type 0 where
   -- the bytes that are still to come
@@ -12,6 +13,8 @@ pub record SourceState : Type 0 where
   pub calls : ℕ
   -- how many of them failed
   pub faults : ℕ
+  -- the calls, the newest first
+  pub called : List SourceCall
 
 -- how many bytes a call gives into so much room
 abbrev pub count_given : SourceState → ℕ → ℕ

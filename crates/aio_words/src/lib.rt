@@ -4,6 +4,7 @@
 //! A count of faults tells when an object failed: a call that answers `Failed` raised it.
 #![tactic(auto)]
 
+mod called;
 mod calls;
 mod clock;
 mod gate;
@@ -14,6 +15,7 @@ mod standard;
 mod traits;
 
 pub use aio_model::{NoMemory, Unmade};
+pub use called::{DeviceAsk, DeviceCall, SinkCall, SourceCall, Trail};
 pub use clock::StepClock;
 pub use gate::OpenGate;
 pub use memory_device::MemDevice;

@@ -1,10 +1,11 @@
-ghost use Rattle.std.specs.Prelude.{◌≡◌, ◌+◌, ◌≤◌, [], Some, length, take, drop, replicate, refl, option_map, is_err, IfOk, IfSome, OnErr, OnOk};
+ghost use Rattle.std.specs.Prelude.{◌≡◌, ◌+◌, ◌≤◌, [], ◌∷◌, Some, length, take, drop, replicate, refl, option_map, is_err, IfOk, IfSome, OnErr, OnOk};
 ghost use Rattle.aio_model.specs.Serving.{put_at};
+ghost use Rattle.aio_words.specs.Called.{device_call};
 ghost use Rattle.aio_words.specs.Calls.{is_listed, one_more};
 ghost use Rattle.aio_words.specs.Faults.{HasRisen};
 
 use crate::calls::{copy_of, is_listed, one_more};
-use crate::{Device, Failed, NoMemory};
+use crate::{Device, DeviceAsk, DeviceCall, Failed, NoMemory, Trail};
 use std::alloc::Global;
 use std::marker::Model;
 
@@ -17,6 +18,7 @@ pub struct MemDevice {
     calls: u64,
     size_faults: u64,
     faults: u64,
+    called: Trail<DeviceCall>,
 }
 
 impl Model for MemDevice {
@@ -30,6 +32,7 @@ impl Model for MemDevice {
       calls = d.calls;
       size_faults = d.size_faults;
       faults = d.faults;
+      called = d.called;
     } };
 }
 
@@ -42,6 +45,7 @@ impl MemDevice {
           calls = 0;
           size_faults = 0;
           faults = 0;
+          called = [];
         }) }
     {
         Ok(MemDevice {
@@ -50,6 +54,7 @@ impl MemDevice {
             calls: 0,
             size_faults: 0,
             faults: 0,
+            called: Trail::empty(),
         })
     }
 
@@ -61,6 +66,7 @@ impl MemDevice {
           calls = 0;
           size_faults = 0;
           faults = 0;
+          called = [];
         }) }
     {
         let Ok(bytes) = vec![in alloc; 0; len as usize] else {
@@ -72,6 +78,7 @@ impl MemDevice {
             calls: 0,
             size_faults: 0,
             faults: 0,
+            called: Trail::empty(),
         })
     }
 
@@ -82,19 +89,36 @@ impl MemDevice {
         self.bytes.as_slice()
     }
 
+    /// Counts and notes a call, and tells whether its number is listed.
+    fn note(&mut self, ask: DeviceAsk) -> bool
+        ensures fails { result ≡ is_listed self.old.fails self.old.calls }
+        ensures after { self.new ≡ record self.old {
+          calls = one_more self.old.calls;
+          called = device_call ask result ∷ self.old.called;
+        } }
+    {
+        let failed = is_listed(&self.fails, self.calls);
+        self.calls = one_more(self.calls);
+        self.called.note(&DeviceCall { ask, failed });
+        failed
+    }
+
     /// Counts a call that isn't of `size`, and a fault where its number is listed.
-    fn count(&mut self) -> Result<(), Failed>
+    fn count(&mut self, ask: DeviceAsk) -> Result<(), Failed>
         ensures fails { is_err result ≡ is_listed self.old.fails self.old.calls }
-        ensures after { OnOk result (self.new ≡ record self.old { calls = one_more self.old.calls }) }
+        ensures after { OnOk result (self.new ≡ record self.old {
+          calls = one_more self.old.calls;
+          called = device_call ask (is_err result) ∷ self.old.called;
+        }) }
         ensures failed { OnErr result (self.new ≡ record self.old {
           calls = one_more self.old.calls;
           faults = one_more self.old.faults;
+          called = device_call ask (is_err result) ∷ self.old.called;
         }) }
         ensures counted { self.old.faults ≤ self.new.faults }
+        ensures called { self.new.called ≡ device_call ask (is_err result) ∷ self.old.called }
     {
-        let fails = is_listed(&self.fails, self.calls);
-        self.calls = one_more(self.calls);
-        if fails {
+        if self.note(ask) {
             self.faults = one_more(self.faults);
             return Err(Failed);
         }
@@ -111,15 +135,21 @@ impl Device for MemDevice {
 
     ghost faults = { λ d. d.faults };
 
+    ghost calls = { λ d. d.called };
+
     ghost as_many = { λ _. refl };
 
     fn size(&mut self) -> Result<u64, Failed>
         // A call fails exactly where its number is listed.
         ensures fails { is_err result ≡ is_listed self.old.fails self.old.calls }
-        ensures after { OnOk result (self.new ≡ record self.old { calls = one_more self.old.calls }) }
+        ensures after { OnOk result (self.new ≡ record self.old {
+          calls = one_more self.old.calls;
+          called = device_call DeviceAsk.Size (is_err result) ∷ self.old.called;
+        }) }
         ensures failed { OnErr result (self.new ≡ record self.old {
           calls = one_more self.old.calls;
           size_faults = one_more self.old.size_faults;
+          called = device_call DeviceAsk.Size (is_err result) ∷ self.old.called;
         }) }
 
         // What every device promises.
@@ -129,10 +159,9 @@ impl Device for MemDevice {
         ensures counted { self.old.size_faults ≤ self.new.size_faults }
         ensures cause { OnErr result (HasRisen self.old.size_faults self.new.size_faults) }
         ensures others { self.new.faults ≡ self.old.faults }
+        ensures called { self.new.called ≡ device_call DeviceAsk.Size (is_err result) ∷ self.old.called }
     {
-        let fails = is_listed(&self.fails, self.calls);
-        self.calls = one_more(self.calls);
-        if fails {
+        if self.note(DeviceAsk::Size) {
             self.size_faults = one_more(self.size_faults);
             return Err(Failed);
         }
@@ -144,10 +173,14 @@ impl Device for MemDevice {
 
         // A call fails exactly where its number is listed.
         ensures fails { is_err result ≡ is_listed self.old.fails self.old.calls }
-        ensures after { OnOk result (self.new ≡ record self.old { calls = one_more self.old.calls }) }
+        ensures after { OnOk result (self.new ≡ record self.old {
+          calls = one_more self.old.calls;
+          called = device_call (DeviceAsk.Read at (length buf.old)) (is_err result) ∷ self.old.called;
+        }) }
         ensures failed { OnErr result (self.new ≡ record self.old {
           calls = one_more self.old.calls;
           faults = one_more self.old.faults;
+          called = device_call (DeviceAsk.Read at (length buf.old)) (is_err result) ∷ self.old.called;
         }) }
 
         // What every device promises.
@@ -158,8 +191,12 @@ impl Device for MemDevice {
         ensures counted { self.old.faults ≤ self.new.faults }
         ensures cause { OnErr result (HasRisen self.old.faults self.new.faults) }
         ensures sizes { self.new.size_faults ≡ self.old.size_faults }
+        ensures called { self.new.called ≡ device_call (DeviceAsk.Read at (length buf.old)) (is_err result) ∷ self.old.called }
     {
-        self.count()?;
+        self.count(DeviceAsk::Read {
+            at,
+            length: buf.len(),
+        })?;
         find(&self.bytes, at as usize, buf);
         Ok(())
     }
@@ -172,10 +209,12 @@ impl Device for MemDevice {
         ensures after { OnOk result (self.new ≡ record self.old {
           bytes = put_at at piece.now self.old.bytes;
           calls = one_more self.old.calls;
+          called = device_call (DeviceAsk.Write at (length piece.now)) (is_err result) ∷ self.old.called;
         }) }
         ensures failed { OnErr result (self.new ≡ record self.old {
           calls = one_more self.old.calls;
           faults = one_more self.old.faults;
+          called = device_call (DeviceAsk.Write at (length piece.now)) (is_err result) ∷ self.old.called;
         }) }
 
         // What every device promises.
@@ -185,8 +224,12 @@ impl Device for MemDevice {
         ensures counted { self.old.faults ≤ self.new.faults }
         ensures cause { OnErr result (HasRisen self.old.faults self.new.faults) }
         ensures sizes { self.new.size_faults ≡ self.old.size_faults }
+        ensures called { self.new.called ≡ device_call (DeviceAsk.Write at (length piece.now)) (is_err result) ∷ self.old.called }
     {
-        self.count()?;
+        self.count(DeviceAsk::Write {
+            at,
+            length: piece.len(),
+        })?;
         put(&mut self.bytes, at as usize, piece);
         Ok(())
     }
@@ -194,10 +237,14 @@ impl Device for MemDevice {
     fn flush(&mut self) -> Result<(), Failed>
         // A call fails exactly where its number is listed.
         ensures fails { is_err result ≡ is_listed self.old.fails self.old.calls }
-        ensures after { OnOk result (self.new ≡ record self.old { calls = one_more self.old.calls }) }
+        ensures after { OnOk result (self.new ≡ record self.old {
+          calls = one_more self.old.calls;
+          called = device_call DeviceAsk.Flush (is_err result) ∷ self.old.called;
+        }) }
         ensures failed { OnErr result (self.new ≡ record self.old {
           calls = one_more self.old.calls;
           faults = one_more self.old.faults;
+          called = device_call DeviceAsk.Flush (is_err result) ∷ self.old.called;
         }) }
 
         // What every device promises.
@@ -206,8 +253,9 @@ impl Device for MemDevice {
         ensures counted { self.old.faults ≤ self.new.faults }
         ensures cause { OnErr result (HasRisen self.old.faults self.new.faults) }
         ensures sizes { self.new.size_faults ≡ self.old.size_faults }
+        ensures called { self.new.called ≡ device_call DeviceAsk.Flush (is_err result) ∷ self.old.called }
     {
-        self.count()
+        self.count(DeviceAsk::Flush)
     }
 }
 

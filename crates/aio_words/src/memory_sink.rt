@@ -1,11 +1,12 @@
-ghost use Rattle.std.specs.Prelude.{◌≡◌, ◌≤◌, ◌++◌, [], Some, is_err, IfOk, OnErr, OnOk};
+ghost use Rattle.std.specs.Prelude.{◌≡◌, ◌≤◌, ◌++◌, [], ◌∷◌, Some, length, is_err, IfOk, OnErr, OnOk};
+ghost use Rattle.aio_words.specs.Called.{write_call};
 ghost use Rattle.aio_words.specs.Calls.{one_more};
 ghost use Rattle.aio_words.specs.Content.{with_piece, AppendsFront};
 ghost use Rattle.aio_words.specs.Faults.{HasRisen};
 ghost use Rattle.aio_words.specs.SinkState.{sink_fails};
 
 use crate::calls::{copy_of, is_listed, one_more};
-use crate::{Failed, NoMemory, Sink};
+use crate::{Failed, NoMemory, Sink, SinkCall, Trail};
 use std::alloc::Global;
 use std::marker::Model;
 
@@ -17,6 +18,7 @@ pub struct MemSink {
     fails: Vec<u32>,
     calls: u64,
     faults: u64,
+    called: Trail<SinkCall>,
 }
 
 impl Model for MemSink {
@@ -31,6 +33,7 @@ impl Model for MemSink {
       fails = s.fails.items;
       calls = s.calls;
       faults = s.faults;
+      called = s.called;
     } };
 
     ghost invariant = { λ s. (length s.held.items ≤ s.room) × (s.room ≤ vec_capacity s.held) };
@@ -46,6 +49,7 @@ impl MemSink {
           fails = fails.now;
           calls = 0;
           faults = 0;
+          called = [];
         }) }
     {
         let room = room as usize;
@@ -58,6 +62,7 @@ impl MemSink {
             fails: copy_of(alloc, fails)?,
             calls: 0,
             faults: 0,
+            called: Trail::empty(),
         })
     }
 
@@ -74,16 +79,20 @@ impl Sink for MemSink {
 
     ghost faults = { λ s. s.faults };
 
+    ghost calls = { λ s. s.called };
+
     fn write(&mut self, piece: &[u8]) -> Result<(), Failed>
         // A call fails exactly where its number is listed or the piece doesn't fit whole.
         ensures fails { is_err result ≡ sink_fails self.old piece.now }
         ensures after { OnOk result (self.new ≡ record self.old {
           held = self.old.held ++ piece.now;
           calls = one_more self.old.calls;
+          called = write_call (length piece.now) (is_err result) ∷ self.old.called;
         }) }
         ensures failed { OnErr result (self.new ≡ record self.old {
           calls = one_more self.old.calls;
           faults = one_more self.old.faults;
+          called = write_call (length piece.now) (is_err result) ∷ self.old.called;
         }) }
 
         // What every sink promises.
@@ -91,10 +100,16 @@ impl Sink for MemSink {
         ensures err { OnErr result (AppendsFront (Some self.old.held) (Some self.new.held) piece.now) }
         ensures counted { self.old.faults ≤ self.new.faults }
         ensures cause { OnErr result (HasRisen self.old.faults self.new.faults) }
+        ensures called { self.new.called ≡ write_call (length piece.now) (is_err result) ∷ self.old.called }
     {
         let fails = is_listed(&self.fails, self.calls) || self.room - self.held.len() < piece.len();
         self.calls = one_more(self.calls);
-        if fails || self.held.extend_from_slice(piece).is_err() {
+        let failed = fails || self.held.extend_from_slice(piece).is_err();
+        self.called.note(&SinkCall {
+            length: piece.len(),
+            failed,
+        });
+        if failed {
             self.faults = one_more(self.faults);
             return Err(Failed);
         }

@@ -1,11 +1,12 @@
-ghost use Rattle.std.specs.Prelude.{◌≡◌, ◌≤◌, ◌<◌, [], Some, length, take, drop, is_err, IfOk, OnErr};
+ghost use Rattle.std.specs.Prelude.{◌≡◌, ◌≤◌, ◌<◌, [], ◌∷◌, Some, length, take, drop, is_err, IfOk, OnErr};
+ghost use Rattle.aio_words.specs.Called.{read_call};
 ghost use Rattle.aio_words.specs.Calls.{is_listed, one_more};
 ghost use Rattle.aio_words.specs.Content.{Takes};
 ghost use Rattle.aio_words.specs.Faults.{HasRisen};
 ghost use Rattle.aio_words.specs.SourceState.{count_given};
 
 use crate::calls::{copy_of, is_listed, one_more};
-use crate::{Failed, NoMemory, Source};
+use crate::{Failed, NoMemory, Source, SourceCall, Trail};
 use std::alloc::Global;
 use std::marker::Model;
 
@@ -18,6 +19,7 @@ pub struct MemSource {
     fails: Vec<u32>,
     calls: u64,
     faults: u64,
+    called: Trail<SourceCall>,
 }
 
 impl Model for MemSource {
@@ -32,6 +34,7 @@ impl Model for MemSource {
       fails = s.fails.items;
       calls = s.calls;
       faults = s.faults;
+      called = s.called;
     } };
 
     ghost invariant = { λ s. (s.at ≤ length s.bytes.items) × (0 < s.step) };
@@ -52,6 +55,7 @@ impl MemSource {
           fails = fails.now;
           calls = 0;
           faults = 0;
+          called = [];
         }) }
     {
         Ok(MemSource {
@@ -61,6 +65,7 @@ impl MemSource {
             fails: copy_of(alloc, fails)?,
             calls: 0,
             faults: 0,
+            called: Trail::empty(),
         })
     }
 }
@@ -69,6 +74,8 @@ impl Source for MemSource {
     ghost left = { λ s. Some s.left };
 
     ghost faults = { λ s. s.faults };
+
+    ghost calls = { λ s. s.called };
 
     fn read(&mut self, buf: &mut [u8]) -> Result<usize, Failed>
         requires { 0 < length buf.old }
@@ -80,10 +87,12 @@ impl Source for MemSource {
         ensures after { IfOk result (λ n. self.new ≡ record self.old {
           left = drop n self.old.left;
           calls = one_more self.old.calls;
+          called = read_call (length buf.old) result ∷ self.old.called;
         }) }
         ensures failed { OnErr result (self.new ≡ record self.old {
           calls = one_more self.old.calls;
           faults = one_more self.old.faults;
+          called = read_call (length buf.old) result ∷ self.old.called;
         }) }
 
         // What every source promises.
@@ -93,17 +102,26 @@ impl Source for MemSource {
         ensures kept { OnErr result (self.new.left ≡ self.old.left) }
         ensures counted { self.old.faults ≤ self.new.faults }
         ensures cause { OnErr result (HasRisen self.old.faults self.new.faults) }
+        ensures called { self.new.called ≡ read_call (length buf.old) result ∷ self.old.called }
     {
         let fails = is_listed(&self.fails, self.calls);
         self.calls = one_more(self.calls);
         if fails {
             self.faults = one_more(self.faults);
+            self.called.note(&SourceCall {
+                room: buf.len(),
+                got: None,
+            });
             return Err(Failed);
         }
         let left = &self.bytes[self.at..];
         let n = buf.len().min(self.step as usize).min(left.len());
         buf[..n].copy_from_slice(&left[..n]);
         self.at += n;
+        self.called.note(&SourceCall {
+            room: buf.len(),
+            got: Some(n),
+        });
         Ok(n)
     }
 }

@@ -1,13 +1,14 @@
 // Standard input, output and error: the trusted edge. Sources and sinks over them tell nothing of the bytes that pass,
 // only how many calls failed. Over a stream that tells its bytes, as one in memory may, clauses say what became of them.
-ghost use Rattle.std.specs.Prelude.{◌≡◌, ◌≤◌, None, length, IfOk, IsOkAnd, OnErr, OnOk};
+ghost use Rattle.std.specs.Prelude.{◌≡◌, ◌≤◌, [], ◌∷◌, is_err, None, length, IfOk, IsOkAnd, OnErr, OnOk};
 ghost use Rattle.std.specs.Io.{ReadsAtMost};
 ghost use Rattle.std.specs.Io.KnownBytes.{Appends, ReadConsumes};
+ghost use Rattle.aio_words.specs.Called.{read_call, write_call};
 ghost use Rattle.aio_words.specs.Calls.{one_more};
 ghost use Rattle.aio_words.specs.Faults.{HasRisen};
 
 use crate::calls::one_more;
-use crate::{Failed, NoMemory, Sink, Source};
+use crate::{Failed, NoMemory, Sink, SinkCall, Source, SourceCall, Trail};
 use std::io;
 use std::io::{ErrorKind, Read, Stderr, Stdin, Stdout, Write};
 use std::marker::Model;
@@ -21,22 +22,28 @@ const TRIES: u32 = 1000;
 pub struct StdSource<R> {
     reader: R,
     faults: u64,
+    called: Trail<SourceCall>,
 }
 
 impl<R> Model for StdSource<R> {
     ghost use Rattle.aio_words.specs.Over.{Over};
+    ghost use Rattle.aio_words.specs.declared.called.SourceCall.{SourceCall};
 
-    ghost Value = { Over R };
+    ghost Value = { Over R SourceCall };
 
-    ghost view = { λ s. record { stream = s.reader; faults = s.faults } };
+    ghost view = { λ s. record { stream = s.reader; faults = s.faults; called = s.called } };
 }
 
 impl<R: Read> StdSource<R> {
     /// A source over this reader. Takes no memory.
     pub fn build(reader: R) -> Result<StdSource<R>, NoMemory>
-        ensures { IsOkAnd result (λ source. source ≡ record { stream = reader; faults = 0 }) }
+        ensures { IsOkAnd result (λ source. source ≡ record { stream = reader; faults = 0; called = [] }) }
     {
-        Ok(StdSource { reader, faults: 0 })
+        Ok(StdSource {
+            reader,
+            faults: 0,
+            called: Trail::empty(),
+        })
     }
 }
 
@@ -44,6 +51,8 @@ impl<R: Read> Source for StdSource<R> {
     ghost left = { λ _. None };
 
     ghost faults = { λ s. s.faults };
+
+    ghost calls = { λ s. s.called };
 
     fn read(&mut self, buf: &mut [u8]) -> Result<usize, Failed>
         ensures after { OnOk result (self.new.faults ≡ self.old.faults) }
@@ -54,10 +63,21 @@ impl<R: Read> Source for StdSource<R> {
         ensures within { IfOk result (λ n. n ≤ length buf.old) }
         ensures counted { self.old.faults ≤ self.new.faults }
         ensures cause { OnErr result (HasRisen self.old.faults self.new.faults) }
+        ensures called { self.new.called ≡ read_call (length buf.old) result ∷ self.old.called }
     {
         match read_retrying(&mut self.reader, buf) {
-            Ok(n) => Ok(n),
+            Ok(n) => {
+                self.called.note(&SourceCall {
+                    room: buf.len(),
+                    got: Some(n),
+                });
+                Ok(n)
+            }
             Err(_) => {
+                self.called.note(&SourceCall {
+                    room: buf.len(),
+                    got: None,
+                });
                 self.faults = one_more(self.faults);
                 Err(Failed)
             }
@@ -89,24 +109,27 @@ fn read_retrying<R: Read>(reader: &mut R, buf: &mut [u8]) -> io::Result<usize>
 pub struct StdSink<W> {
     writer: W,
     faults: u64,
+    called: Trail<SinkCall>,
 }
 
 impl<W> Model for StdSink<W> {
     ghost use Rattle.aio_words.specs.Over.{Over};
+    ghost use Rattle.aio_words.specs.declared.called.SinkCall.{SinkCall};
 
-    ghost Value = { Over W };
+    ghost Value = { Over W SinkCall };
 
-    ghost view = { λ s. record { stream = s.writer; faults = s.faults } };
+    ghost view = { λ s. record { stream = s.writer; faults = s.faults; called = s.called } };
 }
 
 impl StdSink<Stdout> {
     /// Takes no memory.
     pub fn output(stdout: Stdout) -> Result<StdSink<Stdout>, NoMemory>
-        ensures { IsOkAnd result (λ sink. sink ≡ record { stream = stdout; faults = 0 }) }
+        ensures { IsOkAnd result (λ sink. sink ≡ record { stream = stdout; faults = 0; called = [] }) }
     {
         Ok(StdSink {
             writer: stdout,
             faults: 0,
+            called: Trail::empty(),
         })
     }
 }
@@ -114,11 +137,12 @@ impl StdSink<Stdout> {
 impl StdSink<Stderr> {
     /// Takes no memory.
     pub fn errors(stderr: Stderr) -> Result<StdSink<Stderr>, NoMemory>
-        ensures { IsOkAnd result (λ sink. sink ≡ record { stream = stderr; faults = 0 }) }
+        ensures { IsOkAnd result (λ sink. sink ≡ record { stream = stderr; faults = 0; called = [] }) }
     {
         Ok(StdSink {
             writer: stderr,
             faults: 0,
+            called: Trail::empty(),
         })
     }
 }
@@ -128,6 +152,8 @@ impl<W: Write> Sink for StdSink<W> {
 
     ghost faults = { λ s. s.faults };
 
+    ghost calls = { λ s. s.called };
+
     fn write(&mut self, piece: &[u8]) -> Result<(), Failed>
         ensures after { OnOk result (self.new.faults ≡ self.old.faults) }
         ensures failed { OnErr result (self.new.faults ≡ one_more self.old.faults) }
@@ -136,8 +162,14 @@ impl<W: Write> Sink for StdSink<W> {
         // What every sink promises.
         ensures counted { self.old.faults ≤ self.new.faults }
         ensures cause { OnErr result (HasRisen self.old.faults self.new.faults) }
+        ensures called { self.new.called ≡ write_call (length piece.now) (is_err result) ∷ self.old.called }
     {
-        match self.writer.write_all(piece) {
+        let written = self.writer.write_all(piece);
+        self.called.note(&SinkCall {
+            length: piece.len(),
+            failed: written.is_err(),
+        });
+        match written {
             Ok(()) => Ok(()),
             Err(_) => {
                 self.faults = one_more(self.faults);
@@ -178,7 +210,11 @@ mod tests {
     fn goes_on_with_short_writes_until_nothing_is_taken(rt: HostRuntime) {
         let got = Vec::new(rt.alloc());
         let writer = Narrow { got, room: 5 };
-        let mut sink = StdSink { writer, faults: 0 };
+        let mut sink = StdSink {
+            writer,
+            faults: 0,
+            called: Trail::empty(),
+        };
         assert_eq!(rt; sink.write(b"abcd"), Ok(()));
         assert_eq!(rt; sink.write(b"ef"), Err(Failed));
         assert_eq!(rt; sink.writer.got.as_slice(), b"abcde".as_slice());

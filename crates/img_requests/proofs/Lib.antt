@@ -1,3 +1,4 @@
+pub mod CallCounts
 pub mod Counting
 pub mod Joining
 pub mod PutAt

@@ -1,10 +1,11 @@
-ghost use Rattle.std.specs.Prelude.{◌≡◌, ◌+◌, ◌<◌, ◌≤◌, ◌^◌, take, drop, length, replicate, option_map, IfSome, OnOk, OnErr};
+ghost use Rattle.std.specs.Prelude.{◌≡◌, is_err, ◌+◌, ◌<◌, ◌≤◌, ◌^◌, take, drop, length, replicate, option_map, IfSome, OnOk, OnErr};
 ghost use Rattle.aio_model.specs.Serving.{put_at, length_of, end_of};
 ghost use Rattle.aio_words.specs.Faults.{HasRisen};
+ghost use Rattle.img_requests.specs.PieceCalls.{CallsOnce, MakesCall};
 ghost use Rattle.img_requests.specs.Pieces.{bytes_with, buffer_with, HasRoom, TouchesOnly, NeedsCall, IsSilent};
 
 use aio_model::Request;
-use aio_words::{Device, Failed};
+use aio_words::{Device, DeviceAsk, Failed};
 
 static ZEROS: [u8; 4096] = [0; 4096];
 
@@ -27,6 +28,7 @@ fn read_piece<D: Device>(device: &mut D, at: u64, buf: &mut [u8]) -> Result<(), 
     ensures quiet { length buf.old ≡ 0 → D.faults device.new ≡ D.faults device.old }
     ensures cause { OnErr result (HasRisen (D.faults device.old) (D.faults device.new)) }
     ensures sizes { D.size_faults device.new ≡ D.size_faults device.old }
+    ensures calls { CallsOnce (length buf.old) (DeviceAsk.Read at (length buf.old)) (is_err result) (D.calls device.old) (D.calls device.new) }
 {
     if buf.is_empty() {
         return Ok(());
@@ -45,6 +47,7 @@ fn write_piece<D: Device>(device: &mut D, at: u64, piece: &[u8]) -> Result<(), F
     ensures quiet { length piece.now ≡ 0 → D.faults device.new ≡ D.faults device.old }
     ensures cause { OnErr result (HasRisen (D.faults device.old) (D.faults device.new)) }
     ensures sizes { D.size_faults device.new ≡ D.size_faults device.old }
+    ensures calls { CallsOnce (length piece.now) (DeviceAsk.Write at (length piece.now)) (is_err result) (D.calls device.old) (D.calls device.new) }
 {
     if piece.is_empty() {
         return Ok(());
@@ -76,6 +79,7 @@ pub(crate) fn serve_piece<D: Device>(
     ensures quiet { IsSilent request.now n → D.faults device.new ≡ D.faults device.old }
     ensures cause { OnErr result (HasRisen (D.faults device.old) (D.faults device.new)) }
     ensures sizes { D.size_faults device.new ≡ D.size_faults device.old }
+    ensures calls { MakesCall request.now done n (is_err result) (D.calls device.old) (D.calls device.new) }
 {
     let from = done as usize;
     let to = from + n as usize;
