@@ -1,0 +1,2 @@
+pub mod PoolRule
+pub mod Pools
