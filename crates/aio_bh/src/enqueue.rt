@@ -31,7 +31,7 @@ fn try_to_push<J: Job>(
 }
 
 /// Pushes an index that the seat has announced, trying until it succeeds.
-fn push<J: Job, R: Wait>(rt: &R, table: &LoopTable<J>, seat: &mut Seat<J>, owed: Announced)
+pub fn push<J: Job, R: Wait>(rt: &R, table: &LoopTable<J>, seat: &mut Seat<J>, owed: Announced)
     requires seat { IsSeatOf table.now seat.old }
     requires phase { seat.old.known.phase ≡ announced owed }
     ensures seat { IsSeatOf table.now seat.new }
