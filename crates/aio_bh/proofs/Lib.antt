@@ -1,5 +1,7 @@
 pub mod HomeSteps
 pub mod Standing
+pub mod OneShots
+pub mod Returning
 pub mod Trying
 pub mod Scheduled
 pub mod Entries

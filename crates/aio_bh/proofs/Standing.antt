@@ -70,7 +70,7 @@ quiet_then u v w h k =
     record { same = same_then u v w h.same k.same; seen = k.seen ∙ h.seen; mine = k.mine ∙ h.mine }
 
 -- a change of what was seen, done and due alone
-changed : (v w : Known) (s m : History) (d : List Done) (p : Phase) → w ≡ record v { seen = s; mine = m; did = d; phase = p } → home_steps d ≡ home_steps v.did → IsSame v w
+pub changed : (v w : Known) (s m : History) (d : List Done) (p : Phase) → w ≡ record v { seen = s; mine = m; did = d; phase = p } → home_steps d ≡ home_steps v.did → IsSame v w
 changed v w s m d p e none =
     record {
       sizes = ap (λ (k : Known). k.sizes) e;
@@ -82,7 +82,7 @@ changed v w s m d p e none =
       steps = ap (λ (k : Known). home_steps k.did) e ∙ none;
     }
 
-quieted : (v w : Known) (d : List Done) (p : Phase) → w ≡ record v { did = d; phase = p } → home_steps d ≡ home_steps v.did → IsQuiet v w
+pub quieted : (v w : Known) (d : List Done) (p : Phase) → w ≡ record v { did = d; phase = p } → home_steps d ≡ home_steps v.did → IsQuiet v w
 quieted v w d p e none =
     record { same = changed v w v.seen v.mine d p e none; seen = ap (λ (k : Known). k.seen) e; mine = ap (λ (k : Known). k.mine) e }
 
@@ -93,7 +93,7 @@ missed_quiet : (i : ℕ) (v w : Known) → MissesOnce i v w → IsQuiet v w
 missed_quiet i v w once =
     quiet_then v once.aimed w (aims_quiet i once.head v once.aimed once.aims) (quieted once.aimed w _ _ once.missed.misses.rest refl)
 
-quiet_refl : (v : Known) → IsQuiet v v
+pub quiet_refl : (v : Known) → IsQuiet v v
 quiet_refl v =
     record { same = record { sizes = refl; first = refl; count = refl; stage = refl; sleep = refl; told = refl; steps = refl }; seen = refl; mine = refl }
 
@@ -102,7 +102,7 @@ sets_quiet : (b : Bool) (v w : Known) → MatchBool b (w ≡ v) ((was : ℕ) × 
 sets_quiet true v w same = subst (IsQuiet v) (sym same) (quiet_refl v)
 sets_quiet false v w set = quieted v w _ _ set.1.rest refl
 
-notifies_quiet : (v w : Known) → Notifies v w → IsQuiet v w
+pub notifies_quiet : (v w : Known) → Notifies v w → IsQuiet v w
 notifies_quiet v w run =
     quiet_then v run.stored w (quieted v run.stored _ _ run.stores.rest refl) (quiet_then run.stored run.loaded w (quieted run.stored run.loaded _ _ run.loads.rest refl) (sets_quiet (eqb run.armed 0) run.loaded w run.sets))
 
@@ -113,12 +113,12 @@ tries_quiet i (suc misses) v w h =
 
 -- Calls.
 
-abbrev AtEnd : Known → History → Known → Type 0
+abbrev pub AtEnd : Known → History → Known → Type 0
 AtEnd v entries w =
     StandsAtTheEnd v.sizes v.first entries v.seen v.mine w.seen w.mine
 
 -- what stands behind quiet steps stands behind what came before them
-at_quiet : (v a w : Known) (entries : ℕ → History) → IsQuiet v a → AtEnd a (entries a.first) w → AtEnd v (entries v.first) w
+pub at_quiet : (v a w : Known) (entries : ℕ → History) → IsQuiet v a → AtEnd a (entries a.first) w → AtEnd v (entries v.first) w
 at_quiet v a w entries quiet h =
     let one = subst (λ z. StandsAtTheEnd z a.first (entries a.first) a.seen a.mine w.seen w.mine) quiet.same.sizes h in
     let two = subst (λ n. StandsAtTheEnd v.sizes n (entries n) a.seen a.mine w.seen w.mine) quiet.same.first one in
@@ -149,11 +149,11 @@ pub enqueue_alone : (i : ℕ) (asked : Asked) (flags : Flags) (v a : Known) → 
 enqueue_alone i asked flags v a enqueues =
     (makes_stand (Enqueue i asked v.first flags) v a enqueues.makes refl, changed v a _ _ _ _ enqueues.rest refl)
 
-to_stands : (entries : History) (v w : Known) → AtEnd v entries w × IsSame v w → Stands entries v w
+pub to_stands : (entries : History) (v w : Known) → AtEnd v entries w × IsSame v w → Stands entries v w
 to_stands entries v w h = record { stands = h.0; rest = same_rest v w h.1; steps = h.1.steps }
 
 -- quiet steps behind a call
-then_quiet : (entries : History) (v w x : Known) → Stands entries v w → IsQuiet w x → Stands entries v x
+pub then_quiet : (entries : History) (v w x : Known) → Stands entries v w → IsQuiet w x → Stands entries v x
 then_quiet entries v w x h quiet =
     let one = subst (λ s. StandsAtTheEnd v.sizes v.first entries v.seen v.mine s w.mine) (sym quiet.seen) h.stands in
     let same = changed v w w.seen w.mine w.did w.phase h.rest h.steps in

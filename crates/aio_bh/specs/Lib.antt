@@ -1,5 +1,6 @@
 pub mod HomeSteps
 pub mod Enqueuing
+pub mod OneShots
 pub mod Puts
 pub mod Running
 pub mod Polling

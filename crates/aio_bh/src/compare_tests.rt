@@ -5,9 +5,10 @@ ghost use Rattle.aio_model.specs.InFlight.{AtRest};
 ghost use Rattle.aio_core.specs.Known.{empty_stage};
 ghost use Rattle.aio_core.specs.Calls.{IsSeatOf};
 ghost use Rattle.aio_bh.specs.Ready.{IsReady};
+ghost use Rattle.aio_bh.specs.OneShots.{ServesHome};
 
 use crate::tests::Notes;
-use crate::{BottomHalves, Polled};
+use crate::{BottomHalves, LotBuilt, LotPool, Polled};
 use aio_core::{Built, Home, LoopTable, Seat};
 use aio_model::{Flags, OneLoop};
 use std::alloc::Global;
@@ -35,6 +36,8 @@ struct Shared {
     table: LoopTable<()>,
     home: Home<()>,
     seat: Seat<()>,
+    lots: LotBuilt,
+    ghost serves: { ServesHome table.sizes lots.pool lots.home },
     ghost four: { table.sizes.handles ≡ 4 },
     ghost home_of: { IsSeatOf table home.seat },
     ghost home_rests: { home.seat.known.phase ≡ AtRest },
@@ -58,12 +61,20 @@ fn act_on<R: Wait>(rt: &R, table: &LoopTable<()>, seat: &mut Seat<()>, act: Act,
 }
 
 impl Shared {
-    fn build(alloc: Global) -> Result<Shared, Fail> {
+    fn build<R: Wait>(rt: &R, alloc: Global) -> Result<Shared, Fail> {
+        let Ok(lots) = LotPool::build(rt, alloc, 4, 0) else {
+            return Err(Fail::from("no memory"));
+        };
         let Ok(built) = LoopTable::<()>::build(alloc, 4, 0, 0) else {
             return Err(Fail::from("no memory"));
         };
         let Built { table, home, seat } = built;
-        Ok(Shared { table, home, seat })
+        Ok(Shared {
+            table,
+            home,
+            seat,
+            lots,
+        })
     }
 
     fn act<R: Wait>(&mut self, rt: &R, act: Act, bh: u32) -> Flags
@@ -72,10 +83,12 @@ impl Shared {
         act_on(rt, &self.table, &mut self.seat, act, bh)
     }
 
-    fn poll<T: Abort>(&mut self, notes: &mut Notes<T>) -> Polled
+    fn poll<T: Abort, R: Wait>(&mut self, rt: &R, notes: &mut Notes<T>) -> Polled
         requires { IfSome notes.old.schedules (λ bh. bh < 4) × IfSome notes.old.cancels (λ bh. bh < 4) }
     {
-        self.table.poll(&mut self.home, notes)
+        let lots = &mut self.lots;
+        self.table
+            .poll(rt, &lots.pool, &mut lots.home, &mut self.home, notes)
     }
 }
 
@@ -142,10 +155,10 @@ impl Plain {
 }
 
 /// One poll of both: they call the same, one after the other.
-fn both_poll(rt: &impl Abort, shared: &mut Shared, plain: &mut Plain) {
+fn both_poll<R: Abort + Wait>(rt: &R, shared: &mut Shared, plain: &mut Plain) {
     let mut called = Notes::of(rt);
     let mut wanted = Notes::of(rt);
-    assert_eq!(rt; shared.poll(&mut called), plain.poll(&mut wanted));
+    assert_eq!(rt; shared.poll(rt, &mut called), plain.poll(&mut wanted));
     assert_eq!(rt; called.count, wanted.count);
     assert_eq!(rt; called.called, wanted.called);
 }
@@ -172,7 +185,7 @@ fn step<R: Abort + Wait>(rt: &R, shared: &mut Shared, plain: &mut Plain, number:
 
 /// Thirty calls, one after the other. The numbers go on from the last one.
 fn compared<R: Abort + Wait>(rt: &R, alloc: Global, seed: u32) -> Result<u32, Fail> {
-    let mut shared = Shared::build(alloc)?;
+    let mut shared = Shared::build(rt, alloc)?;
     let mut plain = Plain::build(alloc)?;
     let mut number = seed;
     for _ in 0..30 {
@@ -235,9 +248,9 @@ enum Row {
 }
 
 /// One poll.
-fn polls(rt: &impl Abort, shared: &mut Shared, ran: u64, calls: [u32; 3], progress: bool) {
+fn polls<R: Abort + Wait>(rt: &R, shared: &mut Shared, ran: u64, calls: [u32; 3], progress: bool) {
     let mut notes = Notes::of(rt);
-    let polled = shared.poll(&mut notes);
+    let polled = shared.poll(rt, &mut notes);
     assert_eq!(rt;
         (polled.ran, polled.progress, polled.cut_nests),
         (ran, progress, 0)
@@ -250,7 +263,7 @@ fn polls(rt: &impl Abort, shared: &mut Shared, ran: u64, calls: [u32; 3], progre
 
 /// One row after another is as wanted.
 fn holds<R: Abort + Wait>(rt: &R, alloc: Global, rows: &[Row]) -> Result<(), Fail> {
-    let mut shared = Shared::build(alloc)?;
+    let mut shared = Shared::build(rt, alloc)?;
     for row in rows {
         match *row {
             Row::Finds(act, bh, found) => assert_eq!(rt; shared.act(rt, act, bh % 4), found),

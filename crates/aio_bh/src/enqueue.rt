@@ -49,7 +49,7 @@ pub fn push_and_notify<J: Job>(
 /// Pushes an index that the seat has announced, trying until it succeeds, and notifies. Rare: another thread pushed at the same
 /// time, or home took the list.
 #[cold]
-fn push_in_the_end<J: Job, R: Wait>(
+pub fn push_in_the_end<J: Job, R: Wait>(
     rt: &R,
     table: &LoopTable<J>,
     seat: &mut Seat<J>,

@@ -5,8 +5,11 @@ mod call;
 #[cfg(test)]
 mod compare_tests;
 mod enqueue;
+mod once;
 #[cfg(test)]
 mod one_shot_tests;
+#[cfg(test)]
+mod placing_tests;
 mod polled;
 #[cfg(test)]
 mod polling_tests;
@@ -20,6 +23,8 @@ mod thread_tests;
 mod turn;
 
 pub use call::Call;
+pub use lot_pool::{LotBuilt, LotPass, LotPool};
+pub use once::NoRoom;
 pub use polled::Polled;
 pub use polls::BottomHalves;
 pub use put::Put;

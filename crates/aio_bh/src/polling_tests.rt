@@ -3,8 +3,9 @@ ghost use Rattle.std.specs.Prelude.{◌≡◌, ◌<◌};
 ghost use Rattle.std.specs.Thread.{IsSync};
 ghost use Rattle.aio_core.specs.Known.{empty_stage};
 ghost use Rattle.aio_bh.specs.Ready.{IsReady};
+ghost use Rattle.aio_bh.specs.OneShots.{ServesHome};
 
-use crate::{BottomHalves, Call, Runner, Turn};
+use crate::{BottomHalves, Call, LotBuilt, LotPool, Runner, Turn};
 use aio_core::{Built, Home, LoopTable, Seat};
 use std::process::Abort;
 use std::sync::Wait;
@@ -118,17 +119,19 @@ fn both_schedule<R: Threads + Wait + Sync>(
 }
 
 /// Polls until both threads are done.
-fn poll_all(table: &LoopTable<u64>, home: Home<u64>) -> Tally
+fn poll_all<R: Wait>(rt: &R, table: &LoopTable<u64>, lots: LotBuilt, home: Home<u64>) -> Tally
+    requires lots { ServesHome table.now.sizes lots.pool lots.home }
     requires seat { IsReady table.now home.seat }
     requires empty { home.seat.known.stage ≡ empty_stage }
 {
+    let mut lots = lots;
     let mut home = home;
     let mut called = Tally { times: [0; 64] };
     for _ in 0..u64::MAX {
         if called.have_ended() {
             break;
         }
-        table.poll(&mut home, &mut called);
+        table.poll(rt, &lots.pool, &mut lots.home, &mut home, &mut called);
     }
     called
 }
@@ -137,10 +140,12 @@ fn poll_all(table: &LoopTable<u64>, home: Home<u64>) -> Tally
 fn announced_and_called<R: Threads + Wait + Sync>(
     rt: &R,
     table: &LoopTable<u64>,
+    lots: LotBuilt,
     home: Home<u64>,
     first: Seat<u64>,
     second: Seat<u64>,
 ) -> ((Tally, Tally), Tally)
+    requires lots { ServesHome table.now.sizes lots.pool lots.home }
     requires home { IsReady table.now home.seat }
     requires empty { home.seat.known.stage ≡ empty_stage }
     requires first { IsReady table.now first }
@@ -153,8 +158,8 @@ fn announced_and_called<R: Threads + Wait + Sync>(
             requires { IsReady table.now first × IsReady table.now second × (table.now.sizes.handles ≡ 64) }
         { both_schedule(rt, table, first, second) },
         || -> Tally
-            requires { IsReady table.now home.seat × (home.seat.known.stage ≡ empty_stage) }
-        { poll_all(table, home) },
+            requires { ServesHome table.now.sizes lots.pool lots.home × IsReady table.now home.seat × (home.seat.known.stage ≡ empty_stage) }
+        { poll_all(rt, table, lots, home) },
     )
 }
 
@@ -171,6 +176,9 @@ fn all_called(rt: &impl Abort, first: &Tally, second: &Tally, called: &Tally) ->
 
 #[test]
 fn each_announced_call_is_made_once(rt: HostRuntime) -> Result<(), Fail> {
+    let Ok(lots) = LotPool::build(&rt, rt.alloc(), HANDLES, 0) else {
+        return Err(Fail::from("no memory"));
+    };
     let Ok(built) = LoopTable::<u64>::build(rt.alloc(), HANDLES, 0, 0) else {
         return Err(Fail::from("no memory"));
     };
@@ -182,7 +190,7 @@ fn each_announced_call_is_made_once(rt: HostRuntime) -> Result<(), Fail> {
     let Some(other) = table.split(&mut seat) else {
         return Err(Fail::from("64 numbers are not split"));
     };
-    let ((first, second), called) = announced_and_called(&rt, &table, home, seat, other);
+    let ((first, second), called) = announced_and_called(&rt, &table, lots, home, seat, other);
     let announced = all_called(&rt, &first, &second, &called);
     println!(rt; "{announced} of 20002 schedules found their handle not pending")?;
     assert!(rt;

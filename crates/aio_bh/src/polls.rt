@@ -17,16 +17,20 @@ ghost use Rattle.aio_bh.specs.Enqueuing.{PushesAndNotifies, MissesOnce, Schedule
 ghost use Rattle.aio_bh.specs.Puts.{TriedToPut};
 ghost use Rattle.aio_bh.specs.Running.{answer_by, RunsOnce};
 ghost use Rattle.aio_bh.specs.Polling.{Polls};
+ghost use Rattle.aio_bh.specs.OneShots.{IsPoolFor, FindsNoRoom, PlacesOnce, FreesNone, GivesFreed, ReturnsLots};
+ghost use Rattle.lot_pool.specs.Pools.{IsPassOf, IsHomeOf};
 ghost use Rattle.aio_bh.specs.SoFar.{far, Goes, Calls, Follows, IsBetween, FindsNone, MayEnd, TakesNext, noted};
 
 use crate::call::Call;
 use crate::enqueue::{push_and_notify, schedule_as, try_schedule_as};
+use crate::once::{NoRoom, once_in};
 use crate::polled::Polled;
 use crate::put::Put;
 use crate::runner::Runner;
 use crate::turn::Turn;
 use aio_core::{Announced, Dequeued, Home, Job, LoopTable, Seat};
 use aio_model::{Flags, Kind};
+use lot_pool::{LotPass, LotPool};
 use std::sync::Wait;
 
 /// How many nested polls a callback may ask for: none, as polls don't nest yet.
@@ -40,14 +44,14 @@ fn enter<J: Job + Drop, R: Runner<J>>(
     bh: u32,
     job: Option<J>,
 ) -> Turn
-    requires can_run { R.can_run runner.old table.now.sizes.handles }
+    requires can_run { R.can_run runner.old table.now.sizes }
     requires seat { IsSeatOf table.now seat.old }
     requires home { (seat.old.known.first ≡ 64) × (seat.old.known.count ≡ 1) }
     requires rest { seat.old.known.phase ≡ AtRest }
     requires legal { IsLegal table.now.sizes seat.old.known.seen }
     requires index { bh < index_count table.now.sizes }
     requires handle { job ≡ None → bh < table.now.sizes.handles }
-    ensures can_run { R.can_run runner.new table.now.sizes.handles }
+    ensures can_run { R.can_run runner.new table.now.sizes }
     ensures seat { IsSeatOf table.now seat.new }
     ensures runs { RunsOnce R.does (lent_of bh (option_map J.number_of job) true 0) (answer_by result) runner.old seat.old.known runner.new seat.new.known }
 {
@@ -115,14 +119,15 @@ fn body<J: Job + Drop, R: Runner<J>>(
     job: Option<J>,
     polled: &mut Polled,
 )
-    requires can_run { R.can_run runner.old table.now.sizes.handles }
+    requires can_run { R.can_run runner.old table.now.sizes }
     requires between { IsBetween table.now home.old.seat }
     requires index { bh < index_count table.now.sizes }
     requires handle { job ≡ None → bh < table.now.sizes.handles }
-    ensures can_run { R.can_run runner.new table.now.sizes.handles }
+    ensures can_run { R.can_run runner.new table.now.sizes }
     ensures between { IsBetween table.now home.new.seat }
     ensures same_out { out_of home.new.seat.known.seen ≡ out_of home.old.seat.known.seen }
     ensures may_end { MayEnd table.now.sizes bh home.old.seat.known.seen → MayEnd table.now.sizes bh home.new.seat.known.seen }
+    ensures frees_none { FreesNone home.old.seat.known home.new.seat.known }
     ensures goes { Goes (Body (Frame table.now.sizes 0) bh (option_map J.number_of job) true 0) R.does (far home.old.seat.known runner.old polled.old) (far home.new.seat.known runner.new polled.new) }
 {
     let turn = enter(table, &mut home.seat, runner, bh, job);
@@ -137,14 +142,15 @@ fn call<J: Job + Drop, R: Runner<J>>(
     next: Dequeued<J>,
     polled: &mut Polled,
 )
-    requires can_run { R.can_run runner.old table.now.sizes.handles }
+    requires can_run { R.can_run runner.old table.now.sizes }
     requires between { IsBetween table.now home.old.seat }
     requires index { next.bh < index_count table.now.sizes }
     requires handle { next.job ≡ None → next.bh < table.now.sizes.handles }
-    ensures can_run { R.can_run runner.new table.now.sizes.handles }
+    ensures can_run { R.can_run runner.new table.now.sizes }
     ensures between { IsBetween table.now home.new.seat }
     ensures same_out { out_of home.new.seat.known.seen ≡ out_of home.old.seat.known.seen }
     ensures may_end { MayEnd table.now.sizes next.bh home.old.seat.known.seen → MayEnd table.now.sizes next.bh home.new.seat.known.seen }
+    ensures frees_none { FreesNone home.old.seat.known home.new.seat.known }
     ensures goes { Goes (Calls (Frame table.now.sizes 0) 0 next.bh (option_map J.number_of next.job) (are_due next.flags)) R.does (far home.old.seat.known runner.old polled.old) (far home.new.seat.known runner.new polled.new) }
 {
     if is_due(next.flags) {
@@ -152,62 +158,88 @@ fn call<J: Job + Drop, R: Runner<J>>(
     }
 }
 
-/// Ends a turn: the life of a lot is over.
-fn finish<J: Job + Drop>(table: &LoopTable<J>, home: &mut Home<J>, bh: u32)
+/// Ends a turn: the life of a lot is over, and the pool gets it back.
+fn finish<J: Job + Drop, W: Wait>(
+    rt: &W,
+    table: &LoopTable<J>,
+    pool: &LotPool,
+    pass: &mut LotPass,
+    home: &mut Home<J>,
+    bh: u32,
+)
     requires seat { IsSeatOf table.now home.old.seat }
     requires index { bh < index_count table.now.sizes }
     requires may_end { MayEnd table.now.sizes bh home.old.seat.known.seen }
+    requires pool { IsPoolFor table.now.sizes pool.now }
+    requires pass { IsHomeOf pool.now pass.old }
     ensures seat { IsSeatOf table.now home.new.seat }
     ensures ends { MatchBool (is_lot table.now.sizes bh) (Frees bh home.old.seat.known home.new.seat.known) (home.new.seat.known ≡ home.old.seat.known) }
+    ensures pass { IsHomeOf pool.now pass.new }
+    ensures gives { GivesFreed pool.now home.old.seat.known home.new.seat.known pass.old pass.new }
 {
     if bh < table.handles() {
         return;
     }
     table.free(home, bh);
+    pool.give_back(rt, pass, bh);
 }
 
 /// What follows a dequeue in its turn.
-fn follow<J: Job + Drop, R: Runner<J>>(
+fn follow<J: Job + Drop, R: Runner<J>, W: Wait>(
+    rt: &W,
     table: &LoopTable<J>,
+    pool: &LotPool,
+    pass: &mut LotPass,
     home: &mut Home<J>,
     runner: &mut R,
     next: Dequeued<J>,
     polled: &mut Polled,
 )
-    requires can_run { R.can_run runner.old table.now.sizes.handles }
+    requires can_run { R.can_run runner.old table.now.sizes }
     requires between { IsBetween table.now home.old.seat }
     requires index { next.bh < index_count table.now.sizes }
     requires handle { next.job ≡ None → next.bh < table.now.sizes.handles }
     requires may_end { MayEnd table.now.sizes next.bh home.old.seat.known.seen }
-    ensures can_run { R.can_run runner.new table.now.sizes.handles }
+    requires pool { IsPoolFor table.now.sizes pool.now }
+    requires pass { IsHomeOf pool.now pass.old }
+    ensures can_run { R.can_run runner.new table.now.sizes }
     ensures between { IsBetween table.now home.new.seat }
     ensures same_out { out_of home.new.seat.known.seen ≡ out_of home.old.seat.known.seen }
     ensures goes { Goes (Follows table.now.sizes (Frame table.now.sizes 0) 0 next.bh (option_map J.number_of next.job) (are_due next.flags)) R.does (far home.old.seat.known runner.old polled.old) (far home.new.seat.known runner.new polled.new) }
+    ensures pass { IsHomeOf pool.now pass.new }
+    ensures gives { GivesFreed pool.now home.old.seat.known home.new.seat.known pass.old pass.new }
 {
     let bh = next.bh;
     call(table, home, runner, next, polled);
-    finish(table, home, bh);
+    finish(rt, table, pool, pass, home, bh);
 }
 
 /// One turn. False where nothing was out.
-fn turn<J: Job + Drop, R: Runner<J>>(
+fn turn<J: Job + Drop, R: Runner<J>, W: Wait>(
+    rt: &W,
     table: &LoopTable<J>,
+    pool: &LotPool,
+    pass: &mut LotPass,
     home: &mut Home<J>,
     runner: &mut R,
     polled: &mut Polled,
 ) -> bool
-    requires can_run { R.can_run runner.old table.now.sizes.handles }
+    requires can_run { R.can_run runner.old table.now.sizes }
     requires between { IsBetween table.now home.old.seat }
-    ensures can_run { R.can_run runner.new table.now.sizes.handles }
+    requires pool { IsPoolFor table.now.sizes pool.now }
+    requires pass { IsHomeOf pool.now pass.old }
+    ensures can_run { R.can_run runner.new table.now.sizes }
     ensures between { IsBetween table.now home.new.seat }
     ensures goes { result ≡ true → Goes (OneTurn table.now.sizes (Frame table.now.sizes 0) 0) R.does (far home.old.seat.known runner.old polled.old) (far home.new.seat.known runner.new polled.new) }
     ensures shorter { result ≡ true → length (out_of home.new.seat.known.seen) < length (out_of home.old.seat.known.seen) }
     ensures none { result ≡ false → FindsNone home.old.seat.known home.new.seat.known polled.old polled.new × (runner.new ≡ runner.old) }
+    ensures pass { IsHomeOf pool.now pass.new }
+    ensures gives { GivesFreed pool.now home.old.seat.known home.new.seat.known pass.old pass.new }
 {
     let Some(next) = next(table, home, polled) else {
         return false;
     };
-    follow(table, home, runner, next, polled);
+    follow(rt, table, pool, pass, home, runner, next, polled);
     true
 }
 
@@ -263,16 +295,47 @@ pub trait BottomHalves<J: Job + Drop> {
         ensures seat { IsSeatOf (table self.now) seat.new }
         ensures step { MatchResult result (λ _. PushesAndNotifies owed seat.old.known seat.new.known × (seat.new.known.phase ≡ AtRest)) (λ again. (again ≡ owed) × MissesOnce owed seat.old.known seat.new.known × (seat.new.known.phase ≡ announced again)) };
 
+    /// Places a one-shot: its callback is called once, with this job, at the next poll. `NoRoom` hands the job back: each lot that
+    /// was popped was taken, and then the pool was found empty. Any thread, with a seat and a pass of its own. It takes no memory.
+    fn once<R: Wait>(
+        &self,
+        rt: &R,
+        pool: &LotPool,
+        pass: &mut LotPass,
+        seat: &mut Seat<J>,
+        job: J,
+    ) -> Result<(), NoRoom<J>>
+        requires pool { IsPoolFor (table self.now).sizes pool.now }
+        requires pass { IsPassOf pool.now pass.old }
+        requires seat { IsSeatOf (table self.now) seat.old }
+        requires rest { seat.old.known.phase ≡ AtRest }
+        ensures pass { IsPassOf pool.now pass.new }
+        ensures seat { IsSeatOf (table self.now) seat.new }
+        ensures rest { seat.new.known.phase ≡ AtRest }
+        ensures placed { MatchResult result (λ _. PlacesOnce (J.number_of job) pass.old seat.old.known pass.new seat.new.known) (λ refused. (refused.job ≡ job) × FindsNoRoom pass.old seat.old.known pass.new seat.new.known) };
+
     /// Calls back all that is due of what was scheduled before, one after another, the last one first, and dequeues the
-    /// rest. What a callback schedules is for the next poll. The home thread, outside any poll.
-    fn poll<R: Runner<J>>(&self, home: &mut Home<J>, runner: &mut R) -> Polled
-        requires can_run { R.can_run runner.old (table self.now).sizes.handles }
+    /// rest. What a callback schedules is for the next poll. The lots of one-shots go back to the pool, or stay with the pass
+    /// until the next poll where the pool was found full. The home thread, outside any poll, with the pool's home pass.
+    fn poll<R: Runner<J>, W: Wait>(
+        &self,
+        rt: &W,
+        pool: &LotPool,
+        pass: &mut LotPass,
+        home: &mut Home<J>,
+        runner: &mut R,
+    ) -> Polled
+        requires can_run { R.can_run runner.old (table self.now).sizes }
+        requires pool { IsPoolFor (table self.now).sizes pool.now }
+        requires pass { IsHomeOf pool.now pass.old }
         requires seat { IsSeatOf (table self.now) home.old.seat }
         requires rest { home.old.seat.known.phase ≡ AtRest }
         requires empty { home.old.seat.known.stage ≡ empty_stage }
-        ensures can_run { R.can_run runner.new (table self.now).sizes.handles }
+        ensures can_run { R.can_run runner.new (table self.now).sizes }
+        ensures pass { IsHomeOf pool.now pass.new }
         ensures seat { IsSeatOf (table self.now) home.new.seat }
-        ensures polls { Polls R.does result runner.old home.old.seat.known runner.new home.new.seat.known };
+        ensures polls { Polls R.does result runner.old home.old.seat.known runner.new home.new.seat.known }
+        ensures returns { ReturnsLots pool.now home.old.seat.known home.new.seat.known pass.old pass.new };
 }
 
 impl<J: Job + Drop> BottomHalves<J> for LoopTable<J> {
@@ -299,11 +362,30 @@ impl<J: Job + Drop> BottomHalves<J> for LoopTable<J> {
         push_and_notify(self, seat, owed)
     }
 
+    fn once<R: Wait>(
+        &self,
+        rt: &R,
+        pool: &LotPool,
+        pass: &mut LotPass,
+        seat: &mut Seat<J>,
+        job: J,
+    ) -> Result<(), NoRoom<J>> {
+        once_in(rt, self, pool, pass, seat, job)
+    }
+
     #[inline(always)]
-    fn poll<R: Runner<J>>(&self, home: &mut Home<J>, runner: &mut R) -> Polled {
+    fn poll<R: Runner<J>, W: Wait>(
+        &self,
+        rt: &W,
+        pool: &LotPool,
+        pass: &mut LotPass,
+        home: &mut Home<J>,
+        runner: &mut R,
+    ) -> Polled {
         let mut polled = Polled::nothing();
+        pool.give_kept(rt, pass);
         self.take(home);
-        while turn(self, home, runner, &mut polled) {}
+        while turn(rt, self, pool, pass, home, runner, &mut polled) {}
         polled
     }
 }

@@ -12,11 +12,11 @@ use aio_core::{Job, LoopTable, Seat};
 
 /// The callbacks of a loop. A poll enters it once for each bottom half that is due.
 pub trait Runner<J: Job> {
-    ghost use Rattle.std.specs.Prelude.{ℕ};
+    ghost use Rattle.aio_model.specs.LoopHistory.{Sizes};
     ghost use Rattle.aio_model.specs.LoopFrame.{Entered};
 
-    /// What it needs of the number of handles.
-    ghost can_run: { Self → ℕ → Type 0 };
+    /// What it needs of the sizes of the loop.
+    ghost can_run: { Self → Sizes → Type 0 };
 
     /// What one entry does to it: what it was lent, what it answered, and what was made through the seat.
     ghost does: { Self → Entered → Self → Type 0 };
@@ -24,14 +24,14 @@ pub trait Runner<J: Job> {
     /// One entry. The seat is the home's, to be given back at rest. A callback schedules and cancels through it; what it
     /// schedules is for a later poll. A first entry that brings no job is for a handle.
     fn run(&mut self, table: &LoopTable<J>, seat: &mut Seat<J>, call: &mut Call<J>) -> Turn
-        requires can_run { can_run self.old table.now.sizes.handles }
+        requires can_run { can_run self.old table.now.sizes }
         requires seat { IsSeatOf table.now seat.old }
         requires home { (seat.old.known.first ≡ 64) × (seat.old.known.count ≡ 1) }
         requires rest { seat.old.known.phase ≡ AtRest }
         requires legal { IsLegal table.now.sizes seat.old.known.seen }
         requires index { call.old.bh < index_count table.now.sizes }
         requires handle { call.old.first ≡ true → call.old.job ≡ None → call.old.bh < table.now.sizes.handles }
-        ensures can_run { can_run self.new table.now.sizes.handles }
+        ensures can_run { can_run self.new table.now.sizes }
         ensures seat { IsSeatOf table.now seat.new }
         ensures runs { RunsOnce does (lent_of call.old.bh (option_map J.number_of call.old.job) call.old.first call.old.nests_left) (answer_by result) self.old seat.old.known self.new seat.new.known };
 }

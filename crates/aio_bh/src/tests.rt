@@ -5,9 +5,10 @@ ghost use Rattle.aio_model.specs.LoopLegal.{IsLegal};
 ghost use Rattle.aio_core.specs.Calls.{IsSeatOf};
 ghost use Rattle.aio_core.specs.Known.{empty_stage};
 ghost use Rattle.aio_bh.specs.Running.{GivesBack};
+ghost use Rattle.aio_bh.specs.OneShots.{ServesHome};
 
 use crate::enqueue::try_schedule_as;
-use crate::{BottomHalves, Call, Polled, Put, Runner, Turn};
+use crate::{BottomHalves, Call, LotBuilt, LotPool, Polled, Put, Runner, Turn};
 use aio_core::{Built, Home, LoopTable, Seat};
 use aio_model::Kind;
 use std::alloc::Global;
@@ -81,7 +82,7 @@ impl<'a, T: Abort> Notes<'a, T> {
 }
 
 impl<'a, T: Abort> Runner<()> for Notes<'a, T> {
-    ghost can_run = { λ r handles. IfSome r.schedules (λ bh. bh < handles) × IfSome r.cancels (λ bh. bh < handles) };
+    ghost can_run = { λ r sizes. IfSome r.schedules (λ bh. bh < sizes.handles) × IfSome r.cancels (λ bh. bh < sizes.handles) };
 
     ghost does = { λ before entered after. (after.schedules ≡ before.schedules) × (after.cancels ≡ before.cancels) };
 
@@ -98,6 +99,8 @@ struct Bench {
     table: LoopTable<()>,
     home: Home<()>,
     seat: Seat<()>,
+    lots: LotBuilt,
+    ghost serves: { ServesHome table.sizes lots.pool lots.home },
     ghost four: { table.sizes.handles ≡ 4 },
     ghost home_of: { IsSeatOf table home.seat },
     ghost home_rests: { home.seat.known.phase ≡ AtRest },
@@ -108,12 +111,20 @@ struct Bench {
 }
 
 impl Bench {
-    fn build(rt: &impl Abort, alloc: Global) -> Bench {
+    fn build<R: Abort + Wait>(rt: &R, alloc: Global) -> Bench {
+        let Ok(lots) = LotPool::build(rt, alloc, 4, 0) else {
+            panic!(rt; "no memory");
+        };
         let Ok(built) = LoopTable::<()>::build(alloc, 4, 0, 0) else {
             panic!(rt; "no memory");
         };
         let Built { table, home, seat } = built;
-        Bench { table, home, seat }
+        Bench {
+            table,
+            home,
+            seat,
+            lots,
+        }
     }
 
     fn ask(&mut self, rt: &impl Abort, bh: u32, kind: Kind)
@@ -122,11 +133,13 @@ impl Bench {
         push(rt, &self.table, &mut self.seat, bh, kind);
     }
 
-    fn poll<T: Abort>(&mut self, notes: &mut Notes<T>) -> Polled
+    fn poll<T: Abort, R: Wait>(&mut self, rt: &R, notes: &mut Notes<T>) -> Polled
         requires { IfSome notes.old.schedules (λ bh. bh < 4) × IfSome notes.old.cancels (λ bh. bh < 4) }
         ensures { IfSome notes.new.schedules (λ bh. bh < 4) × IfSome notes.new.cancels (λ bh. bh < 4) }
     {
-        self.table.poll(&mut self.home, notes)
+        let lots = &mut self.lots;
+        self.table
+            .poll(rt, &lots.pool, &mut lots.home, &mut self.home, notes)
     }
 }
 
@@ -138,13 +151,13 @@ fn the_last_scheduled_is_called_first(rt: HostRuntime) {
     bench.ask(&rt, 1, Kind::Sched);
     bench.ask(&rt, 2, Kind::Sched);
     bench.ask(&rt, 1, Kind::Sched);
-    let polled = bench.poll(&mut notes);
+    let polled = bench.poll(&rt, &mut notes);
     assert_eq!(rt;
         (polled.ran, polled.progress, polled.cut_nests),
         (3, true, 0)
     );
     assert_eq!(rt; notes.called, [2, 1, 0, 0, 0, 0, 0, 0]);
-    let polled = bench.poll(&mut notes);
+    let polled = bench.poll(&rt, &mut notes);
     assert_eq!(rt; (polled.ran, polled.progress, notes.count), (0, false, 3));
 }
 
@@ -154,11 +167,11 @@ fn what_was_deleted_is_not_called(rt: HostRuntime) {
     let mut notes = Notes::of(&rt);
     bench.ask(&rt, 0, Kind::Sched);
     bench.ask(&rt, 0, Kind::Del);
-    let polled = bench.poll(&mut notes);
+    let polled = bench.poll(&rt, &mut notes);
     assert_eq!(rt; (polled.ran, polled.progress, notes.count), (0, false, 0));
     bench.ask(&rt, 0, Kind::Sched);
     bench.ask(&rt, 3, Kind::Idle);
-    let polled = bench.poll(&mut notes);
+    let polled = bench.poll(&rt, &mut notes);
     assert_eq!(rt;
         (polled.ran, polled.progress, notes.called[0]),
         (1, false, 3)
@@ -171,8 +184,8 @@ fn what_a_callback_schedules_is_for_the_next_poll(rt: HostRuntime) {
     let mut notes = Notes::of(&rt);
     notes.schedules = Some(0);
     bench.ask(&rt, 0, Kind::Sched);
-    assert_eq!(rt; bench.poll(&mut notes).ran, 1);
-    assert_eq!(rt; bench.poll(&mut notes).ran, 1);
+    assert_eq!(rt; bench.poll(&rt, &mut notes).ran, 1);
+    assert_eq!(rt; bench.poll(&rt, &mut notes).ran, 1);
     assert_eq!(rt; notes.count, 2);
 }
 
@@ -184,7 +197,7 @@ fn one_that_a_callback_cancels_is_not_called(rt: HostRuntime) {
     notes.nests = true;
     bench.ask(&rt, 0, Kind::Sched);
     bench.ask(&rt, 1, Kind::Sched);
-    let polled = bench.poll(&mut notes);
+    let polled = bench.poll(&rt, &mut notes);
     assert_eq!(rt;
         (polled.ran, polled.progress, polled.cut_nests),
         (1, true, 1)
@@ -236,9 +249,12 @@ fn a_push_that_lost_is_owed(rt: HostRuntime) -> Result<(), Fail> {
         mut home,
         mut seat,
     } = built;
+    let Ok(mut lots) = LotPool::build(&rt, rt.alloc(), 4, 0) else {
+        return Err(Fail::from("no memory"));
+    };
     let mut notes = Notes::of(&rt);
     lose_once(&rt, &table, &mut seat, &mut home.seat);
-    let polled = table.poll(&mut home, &mut notes);
+    let polled = table.poll(&rt, &lots.pool, &mut lots.home, &mut home, &mut notes);
     assert_eq!(rt; (polled.ran, notes.count), (2, 2));
     assert_eq!(rt; notes.called, [0, 1, 0, 0, 0, 0, 0, 0]);
     Ok(())

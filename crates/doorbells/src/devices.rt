@@ -16,7 +16,7 @@ use std::sync::Wait;
 /// rings `to`.
 #[derive(Drop)]
 pub struct Devices<'a, R: Wait> {
-    rt: &'a R,
+    pub(crate) rt: &'a R,
     /// How often each doorbell was answered. A count stays at the greatest u64.
     pub answered: Vec<u64>,
     /// How many rings of `to` a device made that were new.
@@ -94,7 +94,7 @@ impl<'a, R: Wait> Runner<()> for Devices<'a, R> {
     ghost use Rattle.std.specs.Prelude.{◌≡◌, ◌==◌, ◌&&◌};
     ghost use Rattle.doorbells.specs.Responding.{Counts, PassesOn, AreFit, answers};
 
-    ghost can_run = { λ devices handles. AreFit handles devices.answered.items devices.to };
+    ghost can_run = { λ devices sizes. AreFit sizes.handles devices.answered.items devices.to };
 
     ghost does = { λ before entered after. Counts entered before.answered.items after.answered.items × PassesOn (answers before.from entered) before.to entered.made before.passed_on after.passed_on × (after.from ≡ before.from) × (after.to ≡ before.to) };
 

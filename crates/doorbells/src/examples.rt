@@ -1,5 +1,5 @@
 //! The examples of docs/CONTRACTS.md on `aio_core` and `aio_bh`, as it has them.
-use aio_bh::{BottomHalves, Call, Runner, Turn};
+use aio_bh::{BottomHalves, Call, LotPool, Runner, Turn};
 use aio_core::{Built, LoopTable, Seat};
 use aio_model::Kind;
 use std::process::Abort;
@@ -63,7 +63,7 @@ fn steps_of_one_index(rt: HostRuntime) -> Result<(), Fail> {
 
 #[test]
 fn one_call(rt: HostRuntime) -> Result<(), Fail> {
-    let Ok(built) = LoopTable::<u64>::build(rt.alloc(), 2, 0, 0) else {
+    let Ok(built) = LoopTable::<u64>::build(rt.alloc(), 2, 1, 0) else {
         return Err(Fail::from("no memory"));
     };
     let Built {
@@ -71,10 +71,14 @@ fn one_call(rt: HostRuntime) -> Result<(), Fail> {
         mut home,
         mut seat,
     } = built;
+    let Ok(mut lots) = LotPool::build(&rt, rt.alloc(), 2, 1) else {
+        return Err(Fail::from("no memory"));
+    };
     let mut calls = Calls { count: 0 };
     let found = table.schedule(&rt, &mut seat, 1);
     assert!(rt; !found.pending);
-    let polled = table.poll(&mut home, &mut calls);
-    assert_eq!(rt; (polled.ran, polled.progress, calls.count), (1, true, 1));
+    assert!(rt; table.once(&rt, &lots.pool, &mut lots.pass, &mut seat, 7).is_ok());
+    let polled = table.poll(&rt, &lots.pool, &mut lots.home, &mut home, &mut calls);
+    assert_eq!(rt; (polled.ran, polled.progress, calls.count), (2, true, 2));
     Ok(())
 }

@@ -2,6 +2,7 @@
 ghost use Rattle.std.specs.Prelude.{◌≡◌, ◌<◌, ◌≤◌, ◌+◌, MatchOption};
 ghost use Rattle.std.specs.Thread.{IsSync};
 ghost use Rattle.aio_bh.specs.Ready.{IsReady};
+ghost use Rattle.aio_bh.specs.OneShots.{ServesHome};
 ghost use Rattle.doorbells.specs.Responding.{AreFit};
 ghost use Rattle.doorbells.specs.Rings.{Rings, RingsTwice};
 ghost use Rattle.doorbells.specs.Answering.{IsHomeReady, RingsAndAnswers};
@@ -9,6 +10,7 @@ ghost use Rattle.doorbells.specs.Answering.{IsHomeReady, RingsAndAnswers};
 use crate::devices::Devices;
 use crate::polling::answer;
 use crate::ringing::ring;
+use aio_bh::LotBuilt;
 use aio_core::{Home, LoopTable, Seat};
 use aio_model::Flags;
 use std::sync::Wait;
@@ -95,23 +97,26 @@ pub fn ring_from_two<R: Threads + Wait + Sync>(
 pub fn ring_from_two_and_answer<R: Threads + Wait + Sync>(
     rt: &R,
     table: &LoopTable<()>,
+    lots: &mut LotBuilt,
     home: &mut Home<()>,
     seat: Seat<()>,
     devices: &mut Devices<R>,
     low: u32,
     high: u32,
 ) -> (Seat<()>, Option<Rung>)
+    requires lots { ServesHome table.now.sizes lots.old.pool lots.old.home }
     requires home { IsHomeReady table.now home.old.seat }
     requires seat { IsReady table.now seat }
     requires numbers { seat.known.first + seat.known.count ≤ 64 }
     requires devices { AreFit table.now.sizes.handles devices.old.answered.items devices.old.to }
     requires low { low < table.now.sizes.handles }
     requires high { high < table.now.sizes.handles }
+    ensures lots { ServesHome table.now.sizes lots.new.pool lots.new.home }
     ensures home { IsHomeReady table.now home.new.seat }
     ensures devices { AreFit table.now.sizes.handles devices.new.answered.items devices.new.to × (devices.new.to ≡ devices.old.to) }
     ensures rung { MatchOption result.1 ((seat.known.count ≡ 1) × (result.0 ≡ seat)) (λ rung. RingsAndAnswers table.now low high rung.low rung.high devices.old.to seat result.0 home.old.seat.known.seen home.new.seat.known.seen (record { answered = devices.old.answered.items; passed_on = devices.old.passed_on }) (record { answered = devices.new.answered.items; passed_on = devices.new.passed_on })) }
 {
     let rung = ring_from_two(rt, table, seat, low, high);
-    answer(table, home, devices);
+    answer(table, lots, home, devices);
     rung
 }

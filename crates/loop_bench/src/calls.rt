@@ -10,6 +10,9 @@ pub const MANY_ROUNDS: u64 = 50_000;
 /// How many handles there are.
 pub const HANDLES: u32 = 64;
 
+/// How many one-shots may be on their way at a time.
+pub const LOTS: u32 = 16;
+
 /// How many callbacks were called.
 #[derive(Drop)]
 pub struct Calls {

@@ -1,4 +1,4 @@
-//! Rounds of bottom halves, to be measured from outside: it prints counts alone. With a word it does one part, else the three
+//! Rounds of bottom halves, to be measured from outside: it prints counts alone. With a word it does one part, else the four
 //! of the shared loop.
 #![tactic(auto)]
 
@@ -16,11 +16,13 @@ fn main(rt: HostRuntime) -> io::Result<()> {
     let Some(word) = env::args(&rt)?.nth(1) else {
         shared::one_handle(&rt, alloc)?;
         shared::many_handles(&rt, alloc)?;
+        shared::one_shot(&rt, alloc)?;
         return threads::two_threads(&rt, alloc);
     };
     match Part::of(word.as_str()) {
         Some(Part::Nothing) => Ok(()),
         Some(Part::OneHandle) => shared::one_handle(&rt, alloc),
+        Some(Part::OneShot) => shared::one_shot(&rt, alloc),
         Some(Part::ManyHandles) => shared::many_handles(&rt, alloc),
         Some(Part::TwoThreads) => threads::two_threads(&rt, alloc),
         Some(Part::PlainOne) => plain::one_handle(&rt, alloc),

@@ -3,6 +3,7 @@ pub enum Part {
     /// What starting the program costs.
     Nothing,
     OneHandle,
+    OneShot,
     ManyHandles,
     TwoThreads,
     /// The rounds of one handle on the plain loop of one thread.
@@ -15,6 +16,7 @@ impl Part {
         match word {
             "nothing" => Some(Part::Nothing),
             "one" => Some(Part::OneHandle),
+            "once" => Some(Part::OneShot),
             "many" => Some(Part::ManyHandles),
             "threads" => Some(Part::TwoThreads),
             "plain-one" => Some(Part::PlainOne),

@@ -3,9 +3,10 @@ ghost use Rattle.std.specs.Prelude.{◌≡◌, ◌<◌};
 ghost use Rattle.std.specs.Thread.{IsSync};
 ghost use Rattle.aio_core.specs.Known.{empty_stage};
 ghost use Rattle.aio_bh.specs.Ready.{IsReady};
+ghost use Rattle.aio_bh.specs.OneShots.{ServesHome};
 
 use crate::calls::{Calls, HANDLES};
-use aio_bh::BottomHalves;
+use aio_bh::{BottomHalves, LotBuilt, LotPool};
 use aio_core::{Built, Home, LoopTable, Seat};
 use std::alloc::Global;
 use std::io;
@@ -59,28 +60,38 @@ fn both_schedule<R: Threads + Wait + Sync>(
 }
 
 /// Polls over and over.
-fn poll_all(table: &LoopTable<u64>, home: Home<u64>) -> (Home<u64>, Calls)
+fn poll_all<R: Wait>(
+    rt: &R,
+    table: &LoopTable<u64>,
+    lots: LotBuilt,
+    home: Home<u64>,
+) -> (LotBuilt, Home<u64>, Calls)
+    requires lots { ServesHome table.now.sizes lots.pool lots.home }
     requires seat { IsReady table.now home.seat }
     requires empty { home.seat.known.stage ≡ empty_stage }
-    ensures seat { IsReady table.now result.0.seat }
-    ensures empty { result.0.seat.known.stage ≡ empty_stage }
+    ensures lots { ServesHome table.now.sizes result.0.pool result.0.home }
+    ensures seat { IsReady table.now result.1.seat }
+    ensures empty { result.1.seat.known.stage ≡ empty_stage }
 {
+    let mut lots = lots;
     let mut home = home;
     let mut calls = Calls { count: 0 };
     for _ in 0..POLLS {
-        table.poll(&mut home, &mut calls);
+        table.poll(rt, &lots.pool, &mut lots.home, &mut home, &mut calls);
     }
-    (home, calls)
+    (lots, home, calls)
 }
 
 /// How many the two threads announced, and how many calls were made, while they scheduled and by one poll more.
 fn announced_and_called<R: Threads + Wait + Sync>(
     rt: &R,
     table: &LoopTable<u64>,
+    lots: LotBuilt,
     home: Home<u64>,
     first: Seat<u64>,
     second: Seat<u64>,
 ) -> (u64, u64)
+    requires lots { ServesHome table.now.sizes lots.pool lots.home }
     requires home { IsReady table.now home.seat }
     requires empty { home.seat.known.stage ≡ empty_stage }
     requires first { IsReady table.now first }
@@ -92,17 +103,20 @@ fn announced_and_called<R: Threads + Wait + Sync>(
         || -> u64
             requires { IsReady table.now first × IsReady table.now second × (table.now.sizes.handles ≡ 64) }
         { both_schedule(rt, table, first, second) },
-        || -> (Home<u64>, Calls)
-            requires { IsReady table.now home.seat × (home.seat.known.stage ≡ empty_stage) }
-            ensures { IsReady table.entry.now result.0.seat × (result.0.seat.known.stage ≡ empty_stage) }
-        { poll_all(table, home) },
+        || -> (LotBuilt, Home<u64>, Calls)
+            requires { ServesHome table.now.sizes lots.pool lots.home × IsReady table.now home.seat × (home.seat.known.stage ≡ empty_stage) }
+            ensures { ServesHome table.entry.now.sizes result.0.pool result.0.home × IsReady table.entry.now result.1.seat × (result.1.seat.known.stage ≡ empty_stage) }
+        { poll_all(rt, table, lots, home) },
     );
-    let (mut home, mut calls) = polled;
-    table.poll(&mut home, &mut calls);
+    let (mut lots, mut home, mut calls) = polled;
+    table.poll(rt, &lots.pool, &mut lots.home, &mut home, &mut calls);
     (announced, calls.count)
 }
 
 pub fn two_threads<R: Threads + Wait + Print + Sync>(rt: &R, alloc: Global) -> io::Result<()> {
+    let Ok(lots) = LotPool::build(rt, alloc, HANDLES, 0) else {
+        return Err(io::Error::from(io::ErrorKind::OutOfMemory));
+    };
     let Ok(built) = LoopTable::<u64>::build(alloc, HANDLES, 0, 0) else {
         return Err(io::Error::from(io::ErrorKind::OutOfMemory));
     };
@@ -114,7 +128,7 @@ pub fn two_threads<R: Threads + Wait + Print + Sync>(rt: &R, alloc: Global) -> i
     let Some(other) = table.split(&mut seat) else {
         return println!(rt; "the seat is not split");
     };
-    let (announced, called) = announced_and_called(rt, &table, home, seat, other);
+    let (announced, called) = announced_and_called(rt, &table, lots, home, seat, other);
     let off = announced.abs_diff(called);
     println!(rt; "two threads: {SCHEDULES} schedules each, {off} calls too few or too many")
 }

@@ -4,6 +4,7 @@ use Rattle.aio_bh.specs.Running.{answer_by}
 use Rattle.aio_bh.specs.SoFar.{far, Goes, noted}
 use Rattle.aio_bh.proofs.Parts.{Body-cut, Goes-as, Goes-enter}
 use Rattle.aio_bh.proofs.Turning.{back_may_end, back_same_out, between-back}
+use Rattle.aio_bh.proofs.Returning.{callback_frees_none}
 use Rattle.aio_bh.proofs.polls.body.Goals as goal
 
 pub returns-clause-between : goal.returns-clause-between
@@ -33,3 +34,8 @@ returns-clause-goes g c =
     let body = Goes-as (Enters (lent_of a.bh job true 0) answer) (Body frame a.bh job true 0) g.R.Runner.does old new (Body-cut frame a.bh job true answer)
     (Goes-enter g.R.Runner.does a.bh job true 0 answer a.home.now.seat.known c.enter-turn.new.seat.known a.runner.now c.enter-turn.new.runner a.polled.now a.home.now.number.0 c.enter-turn.ensures.runs) in
     subst (λ p. Goes (Body frame a.bh job true 0) g.R.Runner.does old (far c.enter-turn.new.seat.known c.enter-turn.new.runner p)) (sym c.note.ensures) body
+
+pub returns-clause-frees_none : goal.returns-clause-frees_none
+returns-clause-frees_none g c =
+    let once = c.enter-turn.ensures.runs in
+    callback_frees_none once.made c.args.home.now.seat.known c.enter-turn.new.seat.known once.back

@@ -4,6 +4,7 @@ use Rattle.aio_model.specs.LoopFrame.{Frame}
 use Rattle.aio_bh.specs.SoFar.{far, Calls, Ends, Follows}
 use Rattle.aio_bh.proofs.Parts.{Goes-then}
 use Rattle.aio_bh.proofs.Turning.{Goes-ends, between-finished, finished_same_out}
+use Rattle.aio_bh.proofs.Returning.{gives_behind}
 use Rattle.aio_bh.proofs.polls.follow.Goals as goal
 
 pub returns-clause-between : goal.returns-clause-between
@@ -32,3 +33,8 @@ returns-clause-goes g c =
     let between = c.call.ensures.between in
     let ends = Goes-ends sizes bh does home.seat.known after runner polled home.number.0 home.number.1 between.of_table.sizes between.legal c.finish.ensures.ends in
     Goes-then (Calls (Frame sizes 0) 0 bh job due) (Ends sizes bh) (Follows sizes (Frame sizes 0) 0 bh job due) does (far a.home.now.seat.known a.runner.now a.polled.now) (far home.seat.known runner polled) (far after runner polled) (λ x y z called ended. (y, called, ended)) c.call.ensures.goes ends
+
+pub returns-clause-gives : goal.returns-clause-gives
+returns-clause-gives g c =
+    let a = c.args in
+    gives_behind a.pool.now a.home.now.seat.known c.call.new.home.seat.known c.finish.new.home.seat.known a.pass.now c.finish.new.pass c.call.ensures.frees_none c.finish.ensures.gives
