@@ -2,24 +2,12 @@
 #![tactic(auto)]
 
 mod call;
-#[cfg(test)]
-mod compare_tests;
 mod enqueue;
 mod once;
-#[cfg(test)]
-mod one_shot_tests;
-#[cfg(test)]
-mod placing_tests;
 mod polled;
-#[cfg(test)]
-mod polling_tests;
 mod polls;
 mod put;
 mod runner;
-#[cfg(test)]
-mod tests;
-#[cfg(test)]
-mod thread_tests;
 mod turn;
 
 pub use call::Call;

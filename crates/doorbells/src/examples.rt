@@ -77,7 +77,11 @@ fn one_call(rt: HostRuntime) -> Result<(), Fail> {
     let mut calls = Calls { count: 0 };
     let found = table.schedule(&rt, &mut seat, 1);
     assert!(rt; !found.pending);
-    assert!(rt; table.once(&rt, &lots.pool, &mut lots.pass, &mut seat, 7).is_ok());
+    assert!(rt;
+        table
+            .once(&rt, &lots.pool, &mut lots.pass, &mut seat, 7)
+            .is_ok()
+    );
     let polled = table.poll(&rt, &lots.pool, &mut lots.home, &mut home, &mut calls);
     assert_eq!(rt; (polled.ran, polled.progress, calls.count), (2, true, 2));
     Ok(())

@@ -23,11 +23,29 @@ fn rings_from_two_threads(rt: HostRuntime) -> Result<(), Fail> {
     let Ok(mut devices) = Devices::build(&rt, rt.alloc(), BELLS, 0, 1) else {
         return Err(Fail::from("no memory"));
     };
-    let (seat, both) = ring_from_two_and_answer(&rt, &table, &mut lots, &mut home, seat, &mut devices, 2, 3);
+    let (seat, both) = ring_from_two_and_answer(
+        &rt,
+        &table,
+        &mut lots,
+        &mut home,
+        seat,
+        &mut devices,
+        2,
+        3,
+    );
     assert!(rt; both.is_some());
     assert_eq!(rt; (seat.first(), seat.count()), (0, 64));
     assert_eq!(rt; devices.answered.as_slice(), [0, 0, 1, 1].as_slice());
-    let (_, again) = ring_from_two_and_answer(&rt, &table, &mut lots, &mut home, seat, &mut devices, 3, 3);
+    let (_, again) = ring_from_two_and_answer(
+        &rt,
+        &table,
+        &mut lots,
+        &mut home,
+        seat,
+        &mut devices,
+        3,
+        3,
+    );
     let Some(Rung { low, high }) = again else {
         return Err(Fail::from("64 numbers are not split"));
     };

@@ -1,6 +1,0 @@
-use Rattle.lot_pool.specs.Pools.{IsPassOf}
-use Rattle.aio_bh.specs.Ready.{IsReady}
-use Rattle.aio_bh.proofs.placing_tests.place.Given as goal
-
-abbrev pub invariant-loop : goal.invariant-loop
-invariant-loop g l = IsPassOf l.pool l.pass × IsReady l.table l.seat

@@ -1,9 +1,0 @@
-use Rattle.std.proofs.Common.{◌≡◌}
-use Rattle.aio_core.specs.Known.{empty_stage}
-use Rattle.aio_bh.specs.OneShots.{ServesHome}
-use Rattle.aio_bh.specs.Ready.{IsReady}
-use Rattle.aio_bh.proofs.polling_tests.poll_all.Given as goal
-
-abbrev pub invariant-loop : goal.invariant-loop
-invariant-loop g l =
-    ServesHome l.table.sizes l.lots.pool l.lots.home × IsReady l.table l.home.seat × (l.home.seat.known.stage ≡ empty_stage)

@@ -1,7 +1,0 @@
-use Rattle.std.proofs.Common.{◌≡◌, None}
-use Rattle.aio_core.specs.Calls.{IsSeatOf}
-use Rattle.aio_bh.proofs.thread_tests.times_taken.Given as goal
-
-abbrev pub invariant-loop : goal.invariant-loop
-invariant-loop l =
-    IsSeatOf l.table l.home.seat × (l.home.seat.known.stage.hand ≡ None)

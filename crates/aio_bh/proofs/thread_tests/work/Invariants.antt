@@ -1,5 +1,0 @@
-use Rattle.aio_bh.specs.Ready.{ComesBack}
-use Rattle.aio_bh.proofs.thread_tests.work.Given as goal
-
-abbrev pub invariant-loop-turn : goal.invariant-loop-turn
-invariant-loop-turn g l = ComesBack l.fn.table l.fn.seat l.seat

@@ -1,0 +1,16 @@
+//! Tests of bottom halves on the shared loop. They stand apart from `aio_bh`, so that its own proof isn't made once more with
+//! them. What is expected was worked out by hand, or is what the plain loop of one thread answers.
+#![tactic(auto)]
+
+#[cfg(test)]
+mod enqueues;
+#[cfg(test)]
+mod one_shots;
+#[cfg(test)]
+mod placings;
+#[cfg(test)]
+mod plain_loop;
+#[cfg(test)]
+mod polled_threads;
+#[cfg(test)]
+mod threads;

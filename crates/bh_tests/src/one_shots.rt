@@ -1,0 +1,254 @@
+//! One-shots over pools of one and of two places, and one-shots that place one-shots.
+ghost use Rattle.std.specs.Prelude.{◌≡◌, ◌≤◌};
+ghost use Rattle.aio_model.specs.InFlight.{AtRest};
+ghost use Rattle.aio_model.specs.LoopHistory.{History};
+ghost use Rattle.aio_model.specs.LoopLegal.{IsLegal};
+ghost use Rattle.aio_core.specs.Known.{empty_stage};
+ghost use Rattle.aio_core.specs.Calls.{IsSeatOf};
+ghost use Rattle.lot_pool.specs.Pools.{IsPassOf};
+ghost use Rattle.aio_bh.specs.Running.{GivesBack};
+ghost use Rattle.aio_bh.specs.OneShots.{ServesHome, IsPoolFor};
+
+use aio_bh::{BottomHalves, Call, LotBuilt, LotPass, LotPool, Runner, Turn};
+use aio_core::{Built, Home, LoopTable, Seat};
+use std::alloc::Global;
+use std::process::Abort;
+use std::sync::Wait;
+use std::test::Fail;
+
+/// An entry into a callback: which, with which job, and whether it is the first.
+type Entry = (u32, Option<u64>, bool);
+
+const NO_ENTRY: Entry = (0, None, false);
+
+/// Callbacks that note with what they are entered.
+#[derive(Drop)]
+struct Entries {
+    entries: [Entry; 4],
+    count: usize,
+}
+
+impl Entries {
+    fn note(&mut self, entry: Entry) {
+        if self.count < 4 {
+            self.entries[self.count] = entry;
+            self.count += 1;
+        }
+    }
+}
+
+impl Runner<u64> for Entries {
+    ghost use Rattle.std.specs.Prelude.{true};
+
+    ghost can_run = { λ _ _. true ≡ true };
+
+    ghost does = { λ _ _ _. true ≡ true };
+
+    fn run(
+        &mut self,
+        _table: &LoopTable<u64>,
+        _seat: &mut Seat<u64>,
+        call: &mut Call<u64>,
+    ) -> Turn {
+        self.note((call.bh, call.job, call.first));
+        Turn::Done
+    }
+}
+
+/// A loop of one handle, 0, and some lots.
+#[derive(Drop)]
+struct Lots {
+    table: LoopTable<u64>,
+    home: Home<u64>,
+    seat: Seat<u64>,
+    lots: LotBuilt,
+    ghost one: { table.sizes.handles ≡ 1 },
+    ghost serves: { ServesHome table.sizes lots.pool lots.home },
+    ghost pass_of: { IsPassOf lots.pool lots.pass },
+    ghost home_of: { IsSeatOf table home.seat },
+    ghost home_rests: { home.seat.known.phase ≡ AtRest },
+    ghost home_empty: { home.seat.known.stage ≡ empty_stage },
+    ghost seat_of: { IsSeatOf table seat },
+    ghost seat_rests: { seat.known.phase ≡ AtRest },
+}
+
+impl Lots {
+    fn build<R: Wait>(rt: &R, alloc: Global, count: u32) -> Result<Lots, Fail>
+        requires { count ≤ 4095 }
+    {
+        let Ok(lots) = LotPool::build(rt, alloc, 1, count) else {
+            return Err(Fail::from("no memory"));
+        };
+        let Ok(built) = LoopTable::<u64>::build(alloc, 1, count, 0) else {
+            return Err(Fail::from("no memory"));
+        };
+        let Built { table, home, seat } = built;
+        Ok(Lots {
+            table,
+            home,
+            seat,
+            lots,
+        })
+    }
+
+    /// The job comes back where there is no room.
+    fn once<R: Wait>(&mut self, rt: &R, job: u64) -> Option<u64> {
+        let lots = &mut self.lots;
+        let placed = self
+            .table
+            .once(rt, &lots.pool, &mut lots.pass, &mut self.seat, job);
+        match placed {
+            Ok(()) => None,
+            Err(refused) => Some(refused.job),
+        }
+    }
+
+    fn schedule<R: Wait>(&mut self, rt: &R) {
+        self.table.schedule(rt, &mut self.seat, 0);
+    }
+
+    /// One poll, and what it is to call.
+    fn poll<R: Abort + Wait>(&mut self, rt: &R, ran: u64, wanted: [Entry; 4]) {
+        let mut entries = Entries {
+            entries: [NO_ENTRY; 4],
+            count: 0,
+        };
+        let lots = &mut self.lots;
+        let polled = self.table.poll(rt, &lots.pool, &mut lots.home, &mut self.home, &mut entries);
+        assert_eq!(rt; (polled.ran, polled.progress), (ran, ran > 0));
+        assert_eq!(rt; (entries.count as u64, entries.entries), (ran, wanted));
+        assert_eq!(rt; self.lots.home.kept(), 0);
+    }
+}
+
+fn alone(entry: Entry) -> [Entry; 4] {
+    [entry, NO_ENTRY, NO_ENTRY, NO_ENTRY]
+}
+
+#[test]
+fn one_place_holds_one_job_at_a_time(rt: HostRuntime) -> Result<(), Fail> {
+    let mut lots = Lots::build(&rt, rt.alloc(), 1)?;
+    assert_eq!(rt; lots.once(&rt, 7), None);
+    assert_eq!(rt; lots.once(&rt, 8), Some(8));
+    lots.poll(&rt, 1, alone((1, Some(7), true)));
+    assert_eq!(rt; lots.once(&rt, 8), None);
+    lots.poll(&rt, 1, alone((1, Some(8), true)));
+    lots.poll(&rt, 0, [NO_ENTRY; 4]);
+    Ok(())
+}
+
+#[test]
+fn two_places_hold_two_jobs(rt: HostRuntime) -> Result<(), Fail> {
+    let mut lots = Lots::build(&rt, rt.alloc(), 2)?;
+    lots.schedule(&rt);
+    assert_eq!(rt; lots.once(&rt, 7), None);
+    assert_eq!(rt; lots.once(&rt, 8), None);
+    assert_eq!(rt; lots.once(&rt, 9), Some(9));
+    let wanted = [
+        (2, Some(8), true),
+        (1, Some(7), true),
+        (0, None, true),
+        NO_ENTRY,
+    ];
+    lots.poll(&rt, 3, wanted);
+    assert_eq!(rt; lots.once(&rt, 9), None);
+    Ok(())
+}
+
+#[test]
+fn no_place_has_no_room(rt: HostRuntime) -> Result<(), Fail> {
+    let mut lots = Lots::build(&rt, rt.alloc(), 0)?;
+    assert_eq!(rt; lots.once(&rt, 7), Some(7));
+    lots.poll(&rt, 0, [NO_ENTRY; 4]);
+    Ok(())
+}
+
+/// Callbacks of one-shots, each of which places a one-shot more, and counts what was refused.
+#[derive(Drop)]
+struct Placing<'a, R: Wait> {
+    rt: &'a R,
+    pool: &'a LotPool,
+    pass: LotPass,
+    last: u64,
+    refused: u64,
+}
+
+impl<'a, R: Wait> Placing<'a, R> {
+    fn place(&mut self, table: &LoopTable<u64>, seat: &mut Seat<u64>)
+        requires seat { IsSeatOf table.now seat.old }
+        requires rest { seat.old.known.phase ≡ AtRest }
+        requires legal { IsLegal table.now.sizes seat.old.known.seen }
+        requires pool { IsPoolFor table.now.sizes self.old.pool.now }
+        requires pass { IsPassOf self.old.pool.now self.old.pass }
+        ensures seat { IsSeatOf table.now seat.new }
+        ensures same { self.new.pool ≡ self.old.pool }
+        ensures pass { IsPassOf self.new.pool.now self.new.pass }
+        ensures back { (made : History) × GivesBack made seat.old.known seat.new.known }
+    {
+        self.last = self.last.wrapping_add(1);
+        let placed = table.once(self.rt, self.pool, &mut self.pass, seat, self.last);
+        if placed.is_err() {
+            self.refused = self.refused.wrapping_add(1);
+        }
+    }
+}
+
+impl<'a, R: Wait> Runner<u64> for Placing<'a, R> {
+    ghost use Rattle.std.specs.Prelude.{true};
+    ghost use Rattle.lot_pool.specs.Pools.{IsPassOf};
+    ghost use Rattle.aio_bh.specs.Running.{GivesBack};
+    ghost use Rattle.aio_bh.specs.OneShots.{IsPoolFor};
+
+    ghost can_run = { λ r sizes. IsPoolFor sizes r.pool.now × IsPassOf r.pool.now r.pass };
+
+    ghost does = { λ _ _ _. true ≡ true };
+
+    fn run(&mut self, table: &LoopTable<u64>, seat: &mut Seat<u64>, _call: &mut Call<u64>) -> Turn {
+        self.place(table, seat);
+        Turn::Done
+    }
+}
+
+#[test]
+fn a_one_shot_places_the_next_one(rt: HostRuntime) -> Result<(), Fail> {
+    let Ok(
+        LotBuilt {
+            pool,
+            home: mut lots,
+            pass,
+        },
+    ) = LotPool::build(&rt, rt.alloc(), 0, 2)
+    else {
+        return Err(Fail::from("no memory"));
+    };
+    let Ok(built) = LoopTable::<u64>::build(rt.alloc(), 0, 2, 0) else {
+        return Err(Fail::from("no memory"));
+    };
+    let Built {
+        table,
+        mut home,
+        mut seat,
+    } = built;
+    let mut pass = pass;
+    let Some(other) = pool.split(&mut pass) else {
+        return Err(Fail::from("64 numbers are not split"));
+    };
+    assert!(rt; table.once(&rt, &pool, &mut pass, &mut seat, 1).is_ok());
+    let mut placing = Placing {
+        rt: &rt,
+        pool: &pool,
+        pass: other,
+        last: 1,
+        refused: 0,
+    };
+    for _ in 0..3 {
+        assert_eq!(rt;
+            table
+                .poll(&rt, &pool, &mut lots, &mut home, &mut placing)
+                .ran,
+            1
+        );
+    }
+    assert_eq!(rt; (placing.last, placing.refused, lots.kept()), (4, 0, 0));
+    Ok(())
+}
