@@ -1,11 +1,12 @@
-//! Rounds of bottom halves, to be measured from outside: it prints counts alone. With a word it does one part, else the four
-//! of the shared loop.
+//! Rounds of bottom halves and of ways to sleep, to be measured from outside: it prints counts alone. With a word it does one
+//! part, else four of the shared loop.
 #![tactic(auto)]
 
 mod calls;
 mod part;
 mod plain;
 mod shared;
+mod sleeps;
 mod threads;
 
 use crate::part::Part;
@@ -27,6 +28,9 @@ fn main(rt: HostRuntime) -> io::Result<()> {
         Some(Part::TwoThreads) => threads::two_threads(&rt, alloc),
         Some(Part::PlainOne) => plain::one_handle(&rt, alloc),
         Some(Part::PlainMany) => plain::many_handles(&rt, alloc),
+        Some(Part::Commits) => sleeps::over_an_empty_list(&rt, alloc),
+        Some(Part::IdleCommits) => sleeps::over_idle_ones(&rt, alloc),
+        Some(Part::Accepts) => sleeps::accepts(&rt, alloc),
         None => println!(rt; "no such part"),
     }
 }

@@ -9,6 +9,11 @@ pub enum Part {
     /// The rounds of one handle on the plain loop of one thread.
     PlainOne,
     PlainMany,
+    /// A home with an empty list commits.
+    Commits,
+    /// A home with idle handles in its list commits.
+    IdleCommits,
+    Accepts,
 }
 
 impl Part {
@@ -21,6 +26,9 @@ impl Part {
             "threads" => Some(Part::TwoThreads),
             "plain-one" => Some(Part::PlainOne),
             "plain-many" => Some(Part::PlainMany),
+            "commits" => Some(Part::Commits),
+            "idle-commits" => Some(Part::IdleCommits),
+            "accepts" => Some(Part::Accepts),
             _ => None,
         }
     }
