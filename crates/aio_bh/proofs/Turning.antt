@@ -97,8 +97,8 @@ next_may_end i was None a c next lot =
     absurd (false≢true (sym (lot_has_job a.sizes i None next.below next.of_lot) ∙ lot))
 next_may_end i was (Some n) a c next lot = may_free-next i n was a c next
 
-pub TakesNext-of : (i : ℕ) (was : Flags) (job : Option ℕ) (a c : Known) (p : Polled) → a.first ≡ 64 → a.count ≡ 1 → DequeuesNext i was job a c → TakesNext i (are_due was) job a c p (record p { progress = p.progress || (are_due was && not was.idle) })
-TakesNext-of i was job a c p first count next =
+TakesNext-of : (i : ℕ) (was : Flags) (job : Option ℕ) (a c : Known) (p q : Polled) → a.first ≡ 64 → a.count ≡ 1 → DequeuesNext i was job a c → q ≡ record p { progress = p.progress || (are_due was && not was.idle) } → TakesNext i (are_due was) job a c p q
+TakesNext-of i was job a c p q first count next noted =
     let b : Known = next.lifted in
     let makes = next.dequeues.makes in
     let up = next.lifts.rest in
@@ -122,12 +122,16 @@ TakesNext-of i was job a c p first count next =
       was_out = sym (out_beside a.seen makes.others none) ∙ out_of-dequeue (makes.others ++ a.seen) i (are_due was) here.0.0 ∙ ap (λ h. i ∷ out_of h) (sym seen);
       rest = changes b c _ _ next.dequeues.rest ∙ ap (λ (k : Known). record k { seen = c.seen; mine = c.mine; did = c.did; stage = c.stage; told = c.told }) up;
       steps = two_steps (home_steps c.did) (home_steps b.did) (home_steps a.did) (ap (λ (k : Known). home_steps k.did) next.dequeues.rest) (ap (λ (k : Known). home_steps k.did) up);
-      progress = ap (λ b. record p { progress = p.progress || (are_due was && not b) }) (ap (λ (f : Flags). f.idle) next.dequeues.were ∙ ap (λ h. is_idle i h) before);
+      progress = noted ∙ ap (λ b. record p { progress = p.progress || (are_due was && not b) }) (ap (λ (f : Flags). f.idle) next.dequeues.were ∙ ap (λ h. is_idle i h) before);
     }
 
-pub number_mapped : {J : Type 0} (number : J → ℕ) (job : Option J) → number_in number job ≡ option_map number job
+number_mapped : {J : Type 0} (number : J → ℕ) (job : Option J) → number_in number job ≡ option_map number job
 number_mapped number None = refl
 number_mapped number (Some job) = refl
+
+pub takes_next : {J : Type 0} (number : J → ℕ) (i : ℕ) (was : Flags) (job : Option J) (a c : Known) (p q : Polled) → a.first ≡ 64 → a.count ≡ 1 → DequeuesNext i was (number_in number job) a c → q ≡ record p { progress = p.progress || (are_due was && not was.idle) } → TakesNext i (are_due was) (option_map number job) a c p q
+takes_next number i was job a c p q first count next noted =
+    TakesNext-of i was (option_map number job) a c p q first count (subst (λ n. DequeuesNext i was n a c) (number_mapped number job) next) noted
 
 -- An entry into a callback.
 

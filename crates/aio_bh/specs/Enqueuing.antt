@@ -59,6 +59,12 @@ pub record SchedulesAtOnce (i : ℕ) (asked : Asked) (flags : Flags) (before aft
   pub inserts : InsertsAtOnce i asked flags before inserted
   pub notifies : Notifies inserted after
 
+-- tries until one pushed the index, and home was notified
+pub record PushesInTheEnd (i : ℕ) (before after : Known) : Type 0 where
+  pub pushed : Known
+  pub pushes : PushesAtLast i before pushed
+  pub notifies : Notifies pushed after
+
 -- one try pushed the index, and home was notified
 pub record PushesAndNotifies (i : ℕ) (before after : Known) : Type 0 where
   pub pushed : Known

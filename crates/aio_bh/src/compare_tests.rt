@@ -21,7 +21,7 @@ fn shuffled(seed: u32) -> u32 {
 }
 
 /// What is called on a handle.
-#[derive(Clone, Copy, Debug)]
+#[derive(Clone, Copy)]
 enum Act {
     Schedule,
     ScheduleIdle,

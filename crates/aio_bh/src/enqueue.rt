@@ -5,7 +5,7 @@ ghost use Rattle.aio_model.specs.LoopHistory.{Put as pushed, Enqueue as enqueued
 ghost use Rattle.aio_model.specs.InFlight.{AtRest, Announced as announced, ToStore, ForIndex};
 ghost use Rattle.aio_core.specs.Standing.{asked_by};
 ghost use Rattle.aio_core.specs.Calls.{IsSeatOf};
-ghost use Rattle.aio_bh.specs.Enqueuing.{MissesOnce, PushesOnce, PushesAtLast, PushesAndNotifies, Inserts, Schedules, enqueue_entries, Stands};
+ghost use Rattle.aio_bh.specs.Enqueuing.{MissesOnce, PushesOnce, PushesAndNotifies, PushesInTheEnd, Schedules, enqueue_entries, Stands};
 ghost use Rattle.aio_bh.specs.Puts.{TriedToPut};
 
 use crate::put::Put;
@@ -30,67 +30,6 @@ fn try_to_push<J: Job>(
     table.link(seat, aimed)
 }
 
-/// Pushes an index that the seat has announced, trying until it succeeds.
-fn push<J: Job, R: Wait>(rt: &R, table: &LoopTable<J>, seat: &mut Seat<J>, owed: Announced)
-    requires seat { IsSeatOf table.now seat.old }
-    requires phase { seat.old.known.phase ≡ announced owed }
-    ensures seat { IsSeatOf table.now seat.new }
-    ensures steps { PushesAtLast owed seat.old.known seat.new.known }
-    ensures phase { seat.new.known.phase ≡ ToStore (ForIndex owed) }
-{
-    let mut owed = owed;
-    for _ in rt.forever() {
-        match try_to_push(table, seat, owed) {
-            Ok(()) => return,
-            Err(again) => owed = again,
-        }
-    }
-    unreachable!()
-}
-
-/// The part of an enqueue before its notify. One atomic step where the index is pending; else three more for each try to push it.
-fn insert<J: Job, R: Wait>(
-    rt: &R,
-    table: &LoopTable<J>,
-    seat: &mut Seat<J>,
-    bh: u32,
-    kind: Kind,
-) -> Flags
-    requires seat { IsSeatOf table.now seat.old }
-    requires rest { seat.old.known.phase ≡ AtRest }
-    requires handle { bh < table.now.sizes.handles }
-    ensures seat { IsSeatOf table.now seat.new }
-    ensures steps { Inserts bh (asked_by kind) result seat.old.known seat.new.known }
-    ensures phase { seat.new.known.phase ≡ ToStore (ForIndex bh) }
-{
-    let (flags, owed) = table.announce(seat, bh, kind);
-    if let Some(owed) = owed {
-        push(rt, table, seat, owed);
-    }
-    flags
-}
-
-/// An enqueue of this kind.
-pub fn schedule_as<J: Job, R: Wait>(
-    rt: &R,
-    table: &LoopTable<J>,
-    seat: &mut Seat<J>,
-    bh: u32,
-    kind: Kind,
-) -> Flags
-    requires seat { IsSeatOf table.now seat.old }
-    requires rest { seat.old.known.phase ≡ AtRest }
-    requires handle { bh < table.now.sizes.handles }
-    ensures seat { IsSeatOf table.now seat.new }
-    ensures steps { Schedules bh (asked_by kind) result seat.old.known seat.new.known }
-    ensures stands { Stands (enqueue_entries bh (asked_by kind) seat.old.known.first result) seat.old.known seat.new.known }
-    ensures rest { seat.new.known.phase ≡ AtRest }
-{
-    let flags = insert(rt, table, seat, bh, kind);
-    table.notify(seat);
-    flags
-}
-
 /// One more try to push an index that the seat has announced, with the notify where it pushed.
 pub fn push_and_notify<J: Job>(
     table: &LoopTable<J>,
@@ -107,7 +46,33 @@ pub fn push_and_notify<J: Job>(
     Ok(())
 }
 
+/// Pushes an index that the seat has announced, trying until it succeeds, and notifies. Rare: another thread pushed at the same
+/// time, or home took the list.
+#[cold]
+fn push_in_the_end<J: Job, R: Wait>(
+    rt: &R,
+    table: &LoopTable<J>,
+    seat: &mut Seat<J>,
+    owed: Announced,
+)
+    requires seat { IsSeatOf table.now seat.old }
+    requires phase { seat.old.known.phase ≡ announced owed }
+    ensures seat { IsSeatOf table.now seat.new }
+    ensures steps { PushesInTheEnd owed seat.old.known seat.new.known }
+    ensures rest { seat.new.known.phase ≡ AtRest }
+{
+    let mut owed = owed;
+    for _ in rt.forever() {
+        match push_and_notify(table, seat, owed) {
+            Ok(()) => return,
+            Err(again) => owed = again,
+        }
+    }
+    unreachable!()
+}
+
 /// An enqueue of this kind that tries once to push.
+#[inline]
 pub fn try_schedule_as<J: Job>(table: &LoopTable<J>, seat: &mut Seat<J>, bh: u32, kind: Kind) -> Put
     requires seat { IsSeatOf table.now seat.old }
     requires rest { seat.old.known.phase ≡ AtRest }
@@ -123,5 +88,31 @@ pub fn try_schedule_as<J: Job>(table: &LoopTable<J>, seat: &mut Seat<J>, bh: u32
     match push_and_notify(table, seat, owed) {
         Ok(()) => Put::Done(flags),
         Err(owed) => Put::Owed(flags, owed),
+    }
+}
+
+/// An enqueue of this kind that tries until it has pushed.
+#[inline(always)]
+pub fn schedule_as<J: Job, R: Wait>(
+    rt: &R,
+    table: &LoopTable<J>,
+    seat: &mut Seat<J>,
+    bh: u32,
+    kind: Kind,
+) -> Flags
+    requires seat { IsSeatOf table.now seat.old }
+    requires rest { seat.old.known.phase ≡ AtRest }
+    requires handle { bh < table.now.sizes.handles }
+    ensures seat { IsSeatOf table.now seat.new }
+    ensures steps { Schedules bh (asked_by kind) result seat.old.known seat.new.known }
+    ensures stands { Stands (enqueue_entries bh (asked_by kind) seat.old.known.first result) seat.old.known seat.new.known }
+    ensures rest { seat.new.known.phase ≡ AtRest }
+{
+    match try_schedule_as(table, seat, bh, kind) {
+        Put::Done(flags) => flags,
+        Put::Owed(flags, owed) => {
+            push_in_the_end(rt, table, seat, owed);
+            flags
+        }
     }
 }

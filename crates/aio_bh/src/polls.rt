@@ -278,6 +278,7 @@ pub trait BottomHalves<J: Job + Drop> {
 impl<J: Job + Drop> BottomHalves<J> for LoopTable<J> {
     ghost table = { λ t. t };
 
+    #[inline(always)]
     fn schedule<R: Wait>(&self, rt: &R, seat: &mut Seat<J>, bh: u32) -> Flags {
         schedule_as(rt, self, seat, bh, Kind::Sched)
     }
@@ -298,6 +299,7 @@ impl<J: Job + Drop> BottomHalves<J> for LoopTable<J> {
         push_and_notify(self, seat, owed)
     }
 
+    #[inline(always)]
     fn poll<R: Runner<J>>(&self, home: &mut Home<J>, runner: &mut R) -> Polled {
         let mut polled = Polled::nothing();
         self.take(home);

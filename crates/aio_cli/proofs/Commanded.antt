@@ -1,6 +1,6 @@
 -- Commands one after another, and their lines.
 use Rattle.std.specs.List.{flat_map, AllByRecursion}
-use Rattle.std.proofs.Common.{◌≡◌, ℕ, zero, suc, length-append, ◌+◌, ◌<◌, ◌≤◌, Option, Result, Ok, Err, List, [], ◌∷◌, ◌++◌, length, map, get_or, eqb, true, false, refl, sym, ◌∙◌, ap, subst, arith, inl, inr, ltb}
+use Rattle.std.proofs.Common.{◌≡◌, ℕ, zero, suc, length-append, ◌+◌, ◌<◌, ◌≤◌, Option, Result, Ok, List, [], ◌∷◌, ◌++◌, length, map, get_or, eqb, true, false, refl, sym, ◌∙◌, ap, subst, arith, inl, inr, ltb}
 use Rattle.std.proofs.lemmas.List.{append-nil, get_or_past, map-append, length-map}
 use Rattle.std.proofs.Math.ListN.{get_or-append}
 use Rattle.std.proofs.Math.Seq.{get_or-append_seam}

@@ -1,7 +1,7 @@
 -- The commands of a loop script, from what the loop's own calls say.
 use Rattle.std.proofs.Common.{◌≡◌, ℕ, zero, suc, ◌+◌, ◌-◌, ◌<◌, ◌≤◌, Bool, true, false, not, MatchBool, eqb, Option, None, Some, List, [], ◌∷◌, length, map, take, get_or, vec_len, set, get_or-set_same, get_or-set_other, refl, sym, ◌∙◌, ap, subst, arith, inl, inr}
 use Rattle.std.proofs.lemmas.Bool.{eq-eqb, false≢true, not-true, cases_eq, ltb-false}
-use Rattle.std.proofs.lemmas.List.{append-nil, length-take-le}
+use Rattle.std.proofs.lemmas.List.{append-nil}
 use Rattle.aio_model.specs.declared.flags.Flags.{Flags}
 use Rattle.aio_model.specs.declared.loop_scripts.ActKind.{ActKind}
 use Rattle.aio_model.specs.declared.loop_scripts.Command.{Command}
@@ -15,12 +15,11 @@ use Rattle.aio_model.specs.LoopLegal.{IsLegal}
 use Rattle.aio_model.specs.LoopState.{LoopState, StandsFor, Follows, KeepsUp}
 use Rattle.aio_model.specs.LoopLog.{Made, Log, history_of, first_from, flags_before, enqueued_log, canceled_log, vacant_of, begun_from, begun_log, once_log, set_log}
 use Rattle.aio_model.specs.LoopFrame.{Place, Entered, Frame, Runs, called_of, cut_nests_of}
-use Rattle.aio_model.specs.LoopLines.{HasLine}
 use Rattle.aio_model.specs.LoopActs.{Waiting, DoesActs, acts_called, acts_of, enqueue_made}
 use Rattle.aio_model.specs.LoopReplies.{called_as, counted, made_log, named_most, sizes_of}
 use Rattle.aio_model.proofs.Indices.{by_query}
 use Rattle.aio_cli.specs.declared.bells.Bells.{Bells}
-use Rattle.aio_cli.specs.Bells.{Goes, Keeps, Stands, acts_at, same}
+use Rattle.aio_cli.specs.Bells.{Goes, Keeps, acts_at, same}
 use Rattle.aio_cli.specs.BellsRun.{Answers, BeginsPoll, KeepsSome, PutsIn}
 use Rattle.aio_cli.proofs.Known.{bool_cases, lot_below}
 use Rattle.aio_model.proofs.Lifeless.{lot_above}

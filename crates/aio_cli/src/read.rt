@@ -59,7 +59,7 @@ pub(crate) fn read_text<S: Source>(alloc: Global, source: &mut S) -> Result<Vec<
     ensures read_on { (IsErrOf result ReadFail.Fault → ⊥) → Reads false (S.calls source.old) (S.calls source.new) }
     ensures read_fault { IsErrOf result ReadFail.Fault → Reads true (S.calls source.old) (S.calls source.new) }
 {
-    let mut text = Vec::new(alloc);
+    let mut text = Vec::with_capacity(alloc, READ_LIMIT)?;
     let mut chunk = [0u8; CHUNK];
     while text.len() < READ_LIMIT {
         let room = CHUNK.min(READ_LIMIT - text.len());

@@ -3,7 +3,7 @@ use Rattle.std.proofs.Common.{◌≡◌, ℕ, ◌+◌, ◌<◌, ◌≤◌, true,
 use Rattle.atomic_table.specs.Table.{Me}
 use Rattle.atomic_table.specs.Seated.{TableId}
 use Rattle.aio_model.specs.LoopHistory.{Sizes}
-use Rattle.aio_core.specs.Words.{flags_at, next_at, index_count, word_count}
+use Rattle.aio_core.specs.Words.{event_at, flags_at, next_at, index_count, word_count}
 use Rattle.aio_model.specs.LoopSeats.{owns, home}
 use Rattle.aio_core.specs.Known.{Known, numbers_of}
 use Rattle.aio_core.specs.Calls.{TableState, SeatState, IsSeatOf}
@@ -65,3 +65,6 @@ home_opened table known s is number =
 
 pub word_within : (words k : ℕ) (sizes : Sizes) → words ≡ word_count sizes → k < 68 → k < words
 word_within words k sizes counts low = omega arith
+
+pub event_within : (words word event : ℕ) (sizes : Sizes) → words ≡ word_count sizes → word ≡ event_at event → event < 64 → word < words
+event_within words word event sizes counts is low = omega arith

@@ -5,6 +5,7 @@
 mod built;
 mod cancel;
 mod enqueue;
+mod events;
 mod home;
 mod home_lots;
 mod job;
@@ -33,5 +34,7 @@ pub use seat::Seat;
 pub use table::LoopTable;
 pub use tokens::{Aimed, Announced, InHand};
 
+#[cfg(test)]
+mod order_tests;
 #[cfg(test)]
 mod tests;

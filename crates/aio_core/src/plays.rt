@@ -2,7 +2,7 @@
 ghost use Rattle.aio_core.specs.Known.{first_known};
 ghost use Rattle.aio_core.specs.Splitting.{seats_known, home_known, first_half, last_half};
 ghost use Rattle.aio_core.specs.Joining.{joined_known, spent_known};
-ghost use Rattle.aio_core.specs.Plays.{enqueued, head_loaded, next_stored, head_compared, canceled, taken, next_loaded, dequeued, learned, notified_stored, notify_me_loaded, notifier_set, scan_begun, scan_lifted, flags_scanned, armed, tested, disarmed};
+ghost use Rattle.aio_core.specs.Plays.{enqueued, head_loaded, next_stored, head_compared, canceled, taken, next_loaded, dequeued, learned, notified_stored, notify_me_loaded, notifier_set, scan_begun, scan_lifted, flags_scanned, armed, tested, disarmed, notifier_cleared, accepted, event_set, event_cleared, event_loaded};
 
 use crate::job::Job;
 use crate::sizes::Counts;
@@ -152,6 +152,36 @@ pub struct Disarm;
 
 impl<S> Play<S, View> for Disarm {
     ghost then = { disarmed };
+}
+
+pub struct ClearNotifier;
+
+impl<S> Play<S, View> for ClearNotifier {
+    ghost then = { notifier_cleared };
+}
+
+pub struct Accept;
+
+impl<S> Play<S, View> for Accept {
+    ghost then = { accepted };
+}
+
+pub struct SetEvent;
+
+impl<S> Play<S, View> for SetEvent {
+    ghost then = { event_set };
+}
+
+pub struct ClearEvent;
+
+impl<S> Play<S, View> for ClearEvent {
+    ghost then = { event_cleared };
+}
+
+pub struct LoadEvent;
+
+impl<S> Play<S, View> for LoadEvent {
+    ghost then = { event_loaded };
 }
 
 /// A seat of the base crate.

@@ -1,16 +1,16 @@
 //! The steps by which home says that it is about to sleep, and that it is awake, after aio_poll of QEMU's util/aio-posix.c.
 ghost use Rattle.std.specs.Prelude.{◌≡◌, ℕ, [], length, true, ◌==◌};
-ghost use Rattle.aio_core.specs.Known.{Scanning, Armed, empty_stage};
-ghost use Rattle.aio_core.specs.SleepSteps.{Arms, Tests, Disarms, scan_in, watched_in, is_to_disarm};
+ghost use Rattle.aio_core.specs.Known.{Scanning, Armed, empty_stage, is_running};
+ghost use Rattle.aio_core.specs.SleepSteps.{Arms, Tests, Disarms, ClearsNotifier, Accepts, scan_in, watched_in, is_to_disarm};
 ghost use Rattle.aio_core.specs.Scans.{IsAhead};
 ghost use Rattle.aio_core.specs.Calls.{IsSeatOf};
 
 use crate::home::Home;
 use crate::job::Job;
-use crate::plays::{Arm, Disarm, Test};
+use crate::plays::{Accept, Arm, ClearNotifier, Disarm, Test};
 use crate::seat::Seat;
 use crate::table::LoopTable;
-use crate::words::{NOTIFIED, NOTIFY_ME};
+use crate::words::{NOTIFIED, NOTIFIER, NOTIFY_ME};
 
 impl<J: Job> LoopTable<J> {
     fn add_notify_me(&self, seat: &mut Seat<J>) -> u64
@@ -48,6 +48,30 @@ impl<J: Job> LoopTable<J> {
             .fetch_sub::<Disarm>(&mut seat.inner, NOTIFY_ME, 2)
     }
 
+    fn take_notifier(&self, seat: &mut Seat<J>) -> u64
+        requires seat { IsSeatOf self.now seat.old }
+        requires number { (seat.old.known.first ≡ 64) × (seat.old.known.count ≡ 1) }
+        requires running { is_running seat.old.known.sleep ≡ true }
+        ensures seat { IsSeatOf self.now seat.new }
+        ensures step { ClearsNotifier result seat.old.known seat.new.known }
+    {
+        self.table
+            .shared
+            .swap::<ClearNotifier>(&mut seat.inner, NOTIFIER, 0)
+    }
+
+    fn store_accept(&self, seat: &mut Seat<J>)
+        requires seat { IsSeatOf self.now seat.old }
+        requires number { (seat.old.known.first ≡ 64) × (seat.old.known.count ≡ 1) }
+        requires running { is_running seat.old.known.sleep ≡ true }
+        ensures seat { IsSeatOf self.now seat.new }
+        ensures step { Accepts seat.old.known seat.new.known }
+    {
+        self.table
+            .shared
+            .store::<Accept>(&mut seat.inner, NOTIFIED, 0);
+    }
+
     /// Says that home is about to sleep, by one atomic addition. A scan has found nothing urgent, and was home's last step but
     /// for looks at events.
     pub fn arm(&self, home: &mut Home<J>)
@@ -78,5 +102,24 @@ impl<J: Job> LoopTable<J> {
         ensures step { (found : ℕ) × Disarms found home.old.seat.known home.new.seat.known }
     {
         self.sub_notify_me(&mut home.seat);
+    }
+    /// Clears the notifier, by one atomic swap. Home runs.
+    pub fn clear_notifier(&self, home: &mut Home<J>)
+        requires seat { IsSeatOf self.now home.old.seat }
+        requires running { is_running home.old.seat.known.sleep ≡ true }
+        ensures seat { IsSeatOf self.now home.new.seat }
+        ensures step { (found : ℕ) × ClearsNotifier found home.old.seat.known home.new.seat.known }
+    {
+        self.take_notifier(&mut home.seat);
+    }
+
+    /// Forgets that anybody notified, by one atomic store. Home runs, and looks at the list and the events before it sleeps.
+    pub fn clear_notified(&self, home: &mut Home<J>)
+        requires seat { IsSeatOf self.now home.old.seat }
+        requires running { is_running home.old.seat.known.sleep ≡ true }
+        ensures seat { IsSeatOf self.now home.new.seat }
+        ensures step { Accepts home.old.seat.known home.new.seat.known }
+    {
+        self.store_accept(&mut home.seat);
     }
 }

@@ -40,10 +40,18 @@ impl<J: Job> LoopTable<J> {
     {
         LoopTable { table, counts }
     }
+
     /// How many handles it has; the indices below are handles.
     pub fn handles(&self) -> u32
         ensures { result ≡ self.now.sizes.handles }
     {
         self.counts.handles
+    }
+    /// How many events it has.
+    pub fn events(&self) -> u32
+        ensures value { result ≡ self.now.sizes.events }
+        ensures few { result ≤ 64 }
+    {
+        self.counts.events
     }
 }

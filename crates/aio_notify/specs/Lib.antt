@@ -1,1 +1,4 @@
 pub mod Notifying
+pub mod Watching
+pub mod Commits
+pub mod Setting

@@ -4,8 +4,13 @@
 //! to sleep, and then looks for the mark.
 #![tactic(auto)]
 
+mod events;
 mod notification;
+mod sleeping;
 #[cfg(test)]
 mod tests;
+mod watching;
 
+pub use events::LoopEvents;
 pub use notification::Notify;
+pub use sleeping::Sleeping;

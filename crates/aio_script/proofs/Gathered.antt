@@ -2,11 +2,10 @@
 use Rattle.std.proofs.Common.{◌≡◌, ℕ, ◌≤◌, List, [], ◌++◌, Option, Result, Ok, Err, ap, sym, subst, ◌∙◌, append_assoc, append-nil, arith}
 use Rattle.std.specs.Prelude.{IsErr, OnOk}
 use Rattle.aio_words.specs.Content.{with_piece, AppendsFront}
-use Rattle.aio_words.specs.Faults.{HasRisen}
 use Rattle.aio_words.proofs.ContentLemmas.{with_piece-nil, with_piece-with_piece, AppendsFront-longer, AppendsFront-behind}
 use Rattle.aio_words.proofs.FaultLemmas.{HasRisen-earlier}
 use Rattle.aio_script.specs.declared.print.WriteFault.{WriteFault}
-use Rattle.aio_script.specs.Printing.{Gathers, HandsOver, Prints}
+use Rattle.aio_script.specs.Printing.{Gathers, Prints}
 
 -- what was handed over, and then a part of what was left and of what came behind it
 regroup : (page a b first left second rest : List ℕ) → page ++ a ≡ first ++ left → left ++ b ≡ second ++ rest

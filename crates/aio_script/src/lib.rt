@@ -21,7 +21,7 @@ pub use aio_model::{
     Act, ActKind, Acts, Bytes, Called, Command, Commands, LoopReply, LoopScript, Placed, RanList,
     Reply, Request, Script, Step, Steps, Stream, Streams, What,
 };
-pub use loop_print::{print_ran, print_reply};
+pub use loop_print::{print_poll, print_reply};
 pub use loop_reader::read_loop_script;
 pub use page::{Page, hand_over};
 pub use print::{WriteFault, print_numbered, print_text};

@@ -1,5 +1,5 @@
 //! Replies of loop scripts to text, piece by piece.
-ghost use Rattle.std.specs.Prelude.{◌≡◌, ◌++◌, ◌≤◌, codes, decimal, OnOk, OnErr, if◌then◌else◌};
+ghost use Rattle.std.specs.Prelude.{◌≡◌, ◌++◌, [], true, false, ◌≤◌, codes, decimal, OnOk, OnErr, if◌then◌else◌};
 ghost use Rattle.std.specs.List.{flat_map};
 ghost use Rattle.aio_model.specs.LoopLines.{behind_space, call_text, commit_text, flag_text, flags_text, HasLine, HasNoDeadline, IsCall, list_text, more_text, progress_text, reply_text};
 ghost use Rattle.aio_model.specs.declared.loop_replies.LoopReply.TheVariants.{Committed, Flagged, Ran};
@@ -8,7 +8,7 @@ ghost use Rattle.aio_words.specs.Content.{AppendsFront};
 ghost use Rattle.aio_words.specs.Faults.{HasRisen};
 ghost use Rattle.aio_script.specs.Printing.{Gathers, HandsOver};
 
-use crate::page::{Page, put_counted, put_parts};
+use crate::page::{Page, put, put_counted, put_parts};
 use crate::print::WriteFault;
 use aio_model::{Called, Command, Commit, Flags, LoopReply, RanList, Why};
 use aio_words::Sink;
@@ -38,7 +38,7 @@ pub fn print_reply<K: Sink>(
             )
         }
         LoopReply::Ran(called, more, progress, cut) => {
-            print_ran(sink, page, called, *more, *progress, *cut)
+            print_poll(sink, page, called, *more, *progress, *cut)
         }
         LoopReply::Committed(commit) => print_commit(sink, page, *commit),
         LoopReply::WasSet(event) => put_counted(sink, page, b"set ", u64::from(*event)),
@@ -147,7 +147,36 @@ fn print_sleep<K: Sink>(sink: &mut K, page: &mut Page, left: Option<u64>) -> Res
 }
 
 /// Prints the line of a poll, as of the reply that has this list.
-pub fn print_ran<K: Sink>(
+pub fn print_poll<K: Sink>(
+    sink: &mut K,
+    page: &mut Page,
+    called: &RanList,
+    more: u64,
+    progress: bool,
+    cut: u64,
+) -> Result<(), WriteFault>
+    ensures { Gathers (reply_text (Ran called.now more progress cut)) page.old page.new (K.held sink.old) (K.held sink.new) (K.faults sink.old) (K.faults sink.new) result }
+{
+    if found_nothing(called, more, progress, cut) {
+        return print_idle(sink, page);
+    }
+    print_ran(sink, page, called, more, progress, cut)
+}
+
+fn found_nothing(called: &RanList, more: u64, progress: bool, cut: u64) -> bool
+    ensures { result ≡ true → Ran called.now more progress cut ≡ Ran [] 0 false 0 }
+{
+    called.as_slice().is_empty() && more == 0 && !progress && cut == 0
+}
+
+// The line of a poll that called nothing, which a loop with nothing to do prints again and again, in one piece.
+fn print_idle<K: Sink>(sink: &mut K, page: &mut Page) -> Result<(), WriteFault>
+    ensures { Gathers (reply_text (Ran [] 0 false 0)) page.old page.new (K.held sink.old) (K.held sink.new) (K.faults sink.old) (K.faults sink.new) result }
+{
+    put(sink, page, b"poll ran - progress no cut 0\n")
+}
+
+fn print_ran<K: Sink>(
     sink: &mut K,
     page: &mut Page,
     called: &RanList,

@@ -58,7 +58,11 @@ impl KeyTree {
         self.nodes[node] = key;
         while node > 1 {
             node /= 2;
-            self.nodes[node] = self.nodes[2 * node].min(self.nodes[2 * node + 1]);
+            let lesser = self.nodes[2 * node].min(self.nodes[2 * node + 1]);
+            if self.nodes[node] == lesser {
+                return;
+            }
+            self.nodes[node] = lesser;
         }
     }
 

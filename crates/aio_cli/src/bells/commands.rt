@@ -10,18 +10,27 @@ ghost use Rattle.aio_cli.specs.BellsRun.{Answers, BeginsPoll, KeepsSome, PutsIn,
 
 use crate::bells::Bells;
 use aio_model::{ActKind, Command, LoopReply, RanList};
-use aio_script::{Page, WriteFault, print_ran, print_reply};
+use aio_script::{Page, WriteFault, print_poll, print_reply};
 use aio_words::Sink;
 
 /// How many polls may be nested in one of depth 1.
 const DEEPER: u32 = 7;
+
+/// Empties a list, and writes nothing where it is empty.
+fn empty(ran: &mut RanList)
+    ensures { ran.new ≡ [] }
+{
+    if !ran.as_slice().is_empty() {
+        *ran = RanList::build();
+    }
+}
 
 impl Bells {
     fn begin_poll(&mut self)
         ensures begins { BeginsPoll self.old self.new }
         ensures sizes { self.new.one_loop.sizes ≡ self.old.one_loop.sizes }
     {
-        self.ran = RanList::build();
+        empty(&mut self.ran);
         self.more = 0;
         self.progress = false;
         self.cut = 0;
@@ -87,7 +96,7 @@ impl Bells {
             → Gathers (text ++ reply_text (LoopReply.Ran self.now.ran self.now.more self.now.progress self.now.cut)) first page.new before (K.held sink.new) faults (K.faults sink.new) result }
     {
         written?;
-        print_ran(sink, page, &self.ran, self.more, self.progress, self.cut)
+        print_poll(sink, page, &self.ran, self.more, self.progress, self.cut)
     }
 
     /// Does a command, and prints its reply, unless a reply before it wasn't printed.

@@ -3,7 +3,7 @@ use Rattle.aio_core.specs.Known.{Known}
 use Rattle.aio_core.specs.Standing.{asked_by}
 use Rattle.aio_bh.specs.Enqueuing.{SchedulesAtOnce}
 use Rattle.aio_bh.proofs.Standing.{schedules_at_once_stands, schedules_later_stands}
-use Rattle.aio_bh.proofs.Scheduled.{pushed_at_once, pushed_later, nothing_to_push_at_once, notifies_next}
+use Rattle.aio_bh.proofs.Scheduled.{pushed_at_once, pushed_later, nothing_to_push_at_once}
 use Rattle.aio_bh.proofs.enqueue.try_schedule_as.Goals as goal
 
 pub returns-in_default-clause-put : goal.returns-in_default-clause-put

@@ -1,5 +1,5 @@
 use Rattle.aio_bh.proofs.Trying.{IsTrying}
-use Rattle.aio_bh.proofs.enqueue.push.Given as goal
+use Rattle.aio_bh.proofs.enqueue.push_in_the_end.Given as goal
 
 abbrev pub invariant-loop : goal.invariant-loop
 invariant-loop g l =
