@@ -14,8 +14,7 @@ returns-in_err-extend_from_slice-clause-few g c = record {
 
 pub loop-chunk-preserved : goal.loop-chunk-preserved
 loop-chunk-preserved g c =
-    let well = one_read_more _ _ _ c.min-room.result c.in_ok-n.n c.loop-chunk.invariant.4 (omega arith) c.in_ok-n.ensures.called in
-    (
+    let well = one_read_more _ _ _ c.min-room.result c.in_ok-n.n c.loop-chunk.invariant.4 (omega arith) c.in_ok-n.ensures.called in (
       rw c.in_ok-extend_from_slice.ensures.items (Takes-append _ _ _ _ _ c.loop-chunk.invariant.0 c.in_ok-n.ensures.taken),
       grind (arith, common_steps),
       omega arith,
