@@ -24,7 +24,7 @@ use Rattle.aio_cli.proofs.Streams.{requests_of-due}
 use Rattle.aio_cli.proofs.SoFar.{SoFar, SoFar-more, SoFar-skip}
 use Rattle.aio_cli.proofs.Rooms.{RoomsFor-next}
 
-pub record Going {D : Type 0} (bytes : D → Option (List ℕ)) (faults size_faults extent : D → ℕ) (lines : List Step) (first : ImageState D)
+pub record Going {D : Type 0} (bytes : D → Option (List ℕ)) (faults size_faults extent asked failures : D → ℕ) (lines : List Step) (first : ImageState D)
     (k : ℕ) (image : ImageState D) (served : List Placed) (buffers : List (List ℕ)) : Type 0 where
   pub so_far : SoFar first.size lines k (bytes first.device) (bytes image.device) image.journal served
   pub frame : image ≡ record first { device = image.device; journal = image.journal }
@@ -33,6 +33,8 @@ pub record Going {D : Type 0} (bytes : D → Option (List ℕ)) (faults size_fau
   pub eios : HasRisenBy (eios_of served) (faults first.device) (faults image.device)
   pub sizes : size_faults image.device ≡ size_faults first.device
   pub extents : extent image.device ≡ extent first.device
+  pub asks : asked image.device ≡ asked first.device
+  pub fails : failures image.device ≡ failures first.device + eios_of served
   pub few : length served ≤ k
 
 -- what holds of the line at k
@@ -45,10 +47,10 @@ eios_of-push served placed =
     let one : eios_of (placed ∷ []) ≡ counted placed + 0 = sum_by-cons counted placed [] in
     sum_by-append counted served (placed ∷ []) ∙ omega (arith, one)
 
-module _ {D : Type 0} (bytes : D → Option (List ℕ)) (faults size_faults extent : D → ℕ) (lines : List Step) (first : ImageState D) where
+module _ {D : Type 0} (bytes : D → Option (List ℕ)) (faults size_faults extent asked failures : D → ℕ) (lines : List Step) (first : ImageState D) where
   module _ (k : ℕ) (step : Step) (image : ImageState D) (served : List Placed) (bytes_here : List ℕ) (buffers : List (List ℕ))
       (inside : k < length lines) (here : step ≡ get_or lines k step)
-      (going : Going bytes faults size_faults extent lines first k image served (bytes_here ∷ buffers)) where
+      (going : Going bytes faults size_faults extent asked failures lines first k image served (bytes_here ∷ buffers)) where
     -- the stream has a request left
     pub due-here : AreCounted first.requests lines → is_ask step.what ≡ true → entries_of step.stream image.journal < slice_index image.requests step.stream
     due-here due asks =
@@ -69,8 +71,9 @@ module _ {D : Type 0} (bytes : D → Option (List ℕ)) (faults size_faults exte
         → faults image.device ≤ faults next.device
         → HasRisenBy (cond (is_eio placed.reply) 1 0) (faults image.device) (faults next.device)
         → size_faults next.device ≡ size_faults image.device → extent next.device ≡ extent image.device
-        → Going bytes faults size_faults extent lines first (k + 1) next (served ++ placed ∷ []) buffers
-    Going-more request next placed asks own index replied noted counted eios sizes extents =
+        → asked next.device ≡ asked image.device → failures next.device ≡ failures image.device + cond (is_eio placed.reply) 1 0
+        → Going bytes faults size_faults extent asked failures lines first (k + 1) next (served ++ placed ∷ []) buffers
+    Going-more request next placed asks own index replied noted counted eios sizes extents sized failed =
         let size : image.size ≡ first.size = ap (λ (s : ImageState D). s.size) going.frame in
         let journal : next.journal ≡ image.journal ++ noted.0 ∷ [] = ap (λ (s : ImageState D). s.journal) noted.2 in
         let fitting : Replied first.size request (bytes image.device) (bytes next.device) placed.reply =
@@ -88,11 +91,13 @@ module _ {D : Type 0} (bytes : D → Option (List ℕ)) (faults size_faults exte
               (HasRisenBy-add (eios_of served) (cond (is_eio placed.reply) 1 0) (faults first.device) (faults image.device) (faults next.device) going.eios eios);
           sizes = sizes ∙ going.sizes;
           extents = extents ∙ going.extents;
+          asks = sized ∙ going.asks;
+          fails = omega (arith, failed, going.fails, eios_of-push served placed);
           few = omega (arith, length_push served placed, going.few);
         }
 
     -- a line that asks nothing
-    pub Going-skip : is_ask step.what ≡ false → Going bytes faults size_faults extent lines first (k + 1) image served buffers
+    pub Going-skip : is_ask step.what ≡ false → Going bytes faults size_faults extent asked failures lines first (k + 1) image served buffers
     Going-skip silent = record {
       so_far = SoFar-skip first.size lines k step (bytes first.device) (bytes image.device) image.journal served inside here silent going.so_far;
       frame = going.frame;
@@ -101,6 +106,8 @@ module _ {D : Type 0} (bytes : D → Option (List ℕ)) (faults size_faults exte
       eios = going.eios;
       sizes = going.sizes;
       extents = going.extents;
+      asks = going.asks;
+      fails = going.fails;
       few = omega (arith, going.few);
     }
 

@@ -2,6 +2,7 @@ pub mod Bells
 pub mod BellsRun
 pub mod Answers
 pub mod Buffers
+pub mod Calls
 pub mod FaultText
 pub mod Reading
 pub mod Run

@@ -1,8 +1,9 @@
-ghost use Rattle.std.specs.Prelude.{◌≡◌, ◌↔◌, ◌≤◌, ◌<◌, [], List, ℕ, length, map, string_bytes, vec_len, None, Ok, Err, IfOk, IfErr, IfSome};
+ghost use Rattle.std.specs.Prelude.{◌≡◌, ◌↔◌, ◌≤◌, ◌<◌, [], List, ℕ, length, map, string_bytes, vec_len, None, Ok, Err, IfOk, IfErr, IfSome, true, false, ◌+◌, ◌∷◌};
 ghost use Rattle.aio_model.specs.declared.scripts.Script.{Script};
 ghost use Rattle.aio_script.specs.declared.refusals.ScriptRefusal.{ScriptRefusal};
 ghost use Rattle.aio_model.specs.declared.loop_scripts.LoopScript.{LoopScript};
 ghost use Rattle.aio_model.specs.SerialHistory.{eios_of};
+ghost use Rattle.aio_words.specs.Called.{device_call, failures_in, sizes_asked};
 ghost use Rattle.aio_words.specs.Content.{with_piece, AppendsFront};
 ghost use Rattle.aio_words.specs.Faults.{HasRisen, HasRisenBy};
 ghost use Rattle.aio_script.specs.Bounds.{IsBounded};
@@ -10,6 +11,7 @@ ghost use Rattle.aio_script.specs.Grammar.{script_said};
 ghost use Rattle.aio_script.specs.LoopBounds.{IsLoopBounded};
 ghost use Rattle.aio_script.specs.LoopGrammar.{loop_script_said};
 ghost use Rattle.aio_cli.specs.Answers.{FailsReading, FailsReadingLoop, FailsText, IsDone, IsLengthRefusal, IsOfLoop, IsRefusal, IsWhole, OnBadScript, OnCut, OnDeviceFault, OnRun, OnTooLarge, OnTooLong, OnUnasked, OnUnserved, OnWritten, TellsErrors};
+ghost use Rattle.aio_cli.specs.Calls.{Reads, is_read_fault};
 ghost use Rattle.aio_cli.specs.Reading.{IsText, IsTooLong, Refuses, RefusesLoop, Says, SaysLoop, SaysFitting, SaysImage, SaysSome, TakesAtMost, longest_script, most_read};
 ghost use Rattle.aio_cli.specs.BellsRun.{RingsSaid};
 ghost use Rattle.aio_cli.specs.Run.{Runs};
@@ -22,7 +24,7 @@ use crate::words::{Mode, mode_said};
 use crate::{Answer, End};
 use aio_model::{LoopScript, Script};
 use aio_script::{ScriptFail, read_loop_script, read_script};
-use aio_words::{Clock, Device, Gate, Sink, Source};
+use aio_words::{Clock, Device, DeviceAsk, Gate, Sink, Source};
 use std::alloc::Global;
 
 /// How many bytes a script may have.
@@ -34,6 +36,8 @@ fn read_whole<S: Source>(alloc: Global, source: &mut S) -> Result<Vec<u8>, Answe
     ensures fails { IfErr result (FailsText (S.left source.old) (S.left source.new) (S.faults source.old) (S.faults source.new)) }
     ensures taken { TakesAtMost most_read (S.left source.old) (S.left source.new) }
     ensures counted { S.faults source.old ≤ S.faults source.new }
+    ensures reads { IfOk result (λ _. Reads false (S.calls source.old) (S.calls source.new)) }
+    ensures stops { IfErr result (λ answer. Reads (is_read_fault answer) (S.calls source.old) (S.calls source.new)) }
 {
     let text = match read_text(alloc, source) {
         Ok(text) => text,
@@ -54,6 +58,8 @@ fn read_all<S: Source>(alloc: Global, source: &mut S) -> Result<Script, Answer>
         FailsReading (S.left source.old) (S.left source.new) (S.faults source.old) (S.faults source.new) answer) }
     ensures taken { TakesAtMost most_read (S.left source.old) (S.left source.new) }
     ensures counted { S.faults source.old ≤ S.faults source.new }
+    ensures reads { IfOk result (λ _. Reads false (S.calls source.old) (S.calls source.new)) }
+    ensures stops { IfErr result (λ answer. Reads (is_read_fault answer) (S.calls source.old) (S.calls source.new)) }
 {
     let text = read_whole(alloc, source)?;
     match read_script(alloc, text.as_slice()) {
@@ -71,6 +77,8 @@ fn read_loop<S: Source>(alloc: Global, source: &mut S) -> Result<LoopScript, Ans
         FailsReadingLoop (S.left source.old) (S.left source.new) (S.faults source.old) (S.faults source.new) answer) }
     ensures taken { TakesAtMost most_read (S.left source.old) (S.left source.new) }
     ensures counted { S.faults source.old ≤ S.faults source.new }
+    ensures reads { IfOk result (λ _. Reads false (S.calls source.old) (S.calls source.new)) }
+    ensures stops { IfErr result (λ answer. Reads (is_read_fault answer) (S.calls source.old) (S.calls source.new)) }
 {
     let text = read_whole(alloc, source)?;
     match read_loop_script(alloc, text.as_slice()) {
@@ -111,6 +119,11 @@ fn run_image<S: Source, K: Sink, D: Device>(
     ensures device_counted { D.faults device ≤ D.faults result.device }
     ensures sizes { D.size_faults device ≤ D.size_faults result.device }
     ensures extent { D.extent result.device ≡ D.extent device }
+    ensures reads { Reads (is_read_fault result.answer) (S.calls source.old) (S.calls source.new) }
+    ensures size_failed { OnDeviceFault result.answer (D.calls result.device ≡ device_call DeviceAsk.Size true ∷ D.calls device) }
+    ensures size_told { OnTooLarge result.answer (λ _ _. D.calls result.device ≡ device_call DeviceAsk.Size false ∷ D.calls device) }
+    ensures size_once { sizes_asked (D.calls result.device) ≤ sizes_asked (D.calls device) + 1 }
+    ensures failures { OnRun result.answer (failures_in (D.calls result.device) ≡ failures_in (D.calls device) + eios_of result.served.items) }
 {
     match read_all(alloc, source) {
         Ok(script) => run_script(alloc, &script, sink, device),
@@ -140,6 +153,7 @@ fn run_bells<S: Source, K: Sink, D: Device>(
     ensures taken { TakesAtMost most_read (S.left source.old) (S.left source.new) }
     ensures source_counted { S.faults source.old ≤ S.faults source.new }
     ensures sink_counted { K.faults sink.old ≤ K.faults sink.new }
+    ensures reads { Reads (is_read_fault result.answer) (S.calls source.old) (S.calls source.new) }
 {
     let answer = match read_loop(alloc, source) {
         Ok(script) => run_loop_script(alloc, &script, sink),
@@ -208,6 +222,14 @@ pub fn top<S: Source, K: Sink, D: Device + Send, C: Clock + Send + Drop, G: Gate
     ensures device_counted { D.faults device ≤ D.faults result.device }
     ensures sizes { D.size_faults device ≤ D.size_faults result.device }
     ensures extent { D.extent result.device ≡ D.extent device }
+
+    // The calls. Each read but the last gave some bytes, and ReadFault comes where the last one failed. The device is
+    // asked for its size at most once, and each EIO has one call that failed.
+    ensures reads { Reads (is_read_fault result.answer) (S.calls source.old) (S.calls source.new) }
+    ensures size_failed { OnDeviceFault result.answer (D.calls result.device ≡ device_call DeviceAsk.Size true ∷ D.calls device) }
+    ensures size_told { OnTooLarge result.answer (λ _ _. D.calls result.device ≡ device_call DeviceAsk.Size false ∷ D.calls device) }
+    ensures size_once { sizes_asked (D.calls result.device) ≤ sizes_asked (D.calls device) + 1 }
+    ensures failures { InImage (mode_said (map string_bytes words.now)) (OnRun result.answer (failures_in (D.calls result.device) ≡ failures_in (D.calls device) + eios_of result.served.items)) }
 
     // Where no read failed, a text that is too long or says no script is answered so.
     ensures long { (mode_said (map string_bytes words.now) ≡ None → ⊥) → (HasRisen (S.faults source.old) (S.faults source.new) → ⊥)

@@ -1,6 +1,8 @@
-ghost use Rattle.std.specs.Prelude.{◌≡◌, ◌≤◌, ◌<◌, [], length, take, IfOk, IfErr, OnErr, IfSome, IsErrOf};
+ghost use Rattle.std.specs.Prelude.{◌≡◌, ◌≤◌, ◌<◌, [], ◌∷◌, length, take, IfOk, IfErr, OnErr, IfSome, IsErrOf, true, false};
+ghost use Rattle.aio_words.specs.Called.{read_call};
 ghost use Rattle.aio_words.specs.Content.{Takes};
 ghost use Rattle.aio_words.specs.Faults.{HasRisen};
+ghost use Rattle.aio_cli.specs.Calls.{Reads};
 ghost use Rattle.aio_cli.specs.Reading.{IsRead, TakesAtMost, most_read};
 ghost use Rattle.aio_cli.specs.declared.read.ReadFail.TheVariants.{NoMemory};
 
@@ -39,6 +41,7 @@ fn read_piece<S: Source>(source: &mut S, chunk: &mut [u8], room: usize) -> Resul
     ensures counted { S.faults source.old ≤ S.faults source.new }
     ensures fault { IfErr result (λ e. e ≡ ReadFail.Fault) }
     ensures cause { OnErr result (HasRisen (S.faults source.old) (S.faults source.new)) }
+    ensures called { S.calls source.new ≡ read_call room result ∷ S.calls source.old }
 {
     match source.read(&mut chunk[..room]) {
         Ok(n) => Ok(n),
@@ -47,11 +50,14 @@ fn read_piece<S: Source>(source: &mut S, chunk: &mut [u8], room: usize) -> Resul
 }
 
 /// Reads all that the source has left, but stops once more was read than a script may have.
+#[tactic(auto, using(crate::proofs::Reading::no_read_yet, crate::proofs::Reading::one_read_more, crate::proofs::Reading::reads_so_far, crate::proofs::Reading::reads_to_end, crate::proofs::Reading::reads_to_fault))]
 pub(crate) fn read_text<S: Source>(alloc: Global, source: &mut S) -> Result<Vec<u8>, ReadFail>
     ensures read { IfOk result (λ text. IsRead most_read (S.left source.old) (S.left source.new) text.items) }
     ensures few { TakesAtMost most_read (S.left source.old) (S.left source.new) }
     ensures counted { S.faults source.old ≤ S.faults source.new }
     ensures cause { IsErrOf result ReadFail.Fault → HasRisen (S.faults source.old) (S.faults source.new) }
+    ensures read_on { (IsErrOf result ReadFail.Fault → ⊥) → Reads false (S.calls source.old) (S.calls source.new) }
+    ensures read_fault { IsErrOf result ReadFail.Fault → Reads true (S.calls source.old) (S.calls source.new) }
 {
     let mut text = Vec::with_capacity(alloc, READ_LIMIT)?;
     let mut chunk = [0u8; CHUNK];

@@ -1,11 +1,13 @@
-ghost use Rattle.std.specs.Prelude.{◌≡◌, ◌<◌, ◌≤◌, ◌^◌, [], length, map, vec_capacity, IfOk, IfErr};
+ghost use Rattle.std.specs.Prelude.{◌≡◌, ◌<◌, ◌≤◌, ◌^◌, ◌+◌, ◌∷◌, [], true, false, length, map, vec_capacity, IfOk, IfErr};
 ghost use Rattle.aio_model.specs.Asked.{asked};
 ghost use Rattle.aio_model.specs.PrintedText.{printed_text};
 ghost use Rattle.aio_model.specs.SerialHistory.{asked_name, placed_name, eios_of};
+ghost use Rattle.aio_words.specs.Called.{device_call, failures_in, sizes_asked};
 ghost use Rattle.aio_words.specs.Content.{with_piece, AppendsFront};
 ghost use Rattle.aio_words.specs.Faults.{HasRisen, HasRisenBy};
 ghost use Rattle.aio_script.specs.Bounds.{IsBounded};
 ghost use Rattle.aio_cli.specs.Answers.{IsOfRun, IsOfServing, IsServed, OnCut, OnDeviceFault, OnRun, OnTooLarge, OnUnserved, OnWritten, TellsErrors};
+ghost use Rattle.aio_cli.specs.Calls.{is_read_fault};
 ghost use Rattle.aio_cli.specs.Buffers.{RoomsFor};
 ghost use Rattle.aio_cli.specs.Run.{Serves};
 
@@ -14,7 +16,7 @@ use crate::serve::{count_requests, prepare_buffers, serve_lines};
 use crate::{Answer, End};
 use aio_model::{Placed, Script, Step, Unmade};
 use aio_script::{Page, WriteFault};
-use aio_words::{Device, Failed, Sink};
+use aio_words::{Device, DeviceAsk, Failed, Sink};
 use img_requests::Image;
 use std::alloc::{AllocError, Global};
 use std::collections::VecDeque;
@@ -77,6 +79,8 @@ fn serve_script<D: Device>(
     ensures counted { IfOk result (λ served. D.faults device ≤ D.faults served.device) }
     ensures sizes { IfOk result (λ served. D.size_faults served.device ≡ D.size_faults device) }
     ensures extent { IfOk result (λ served. D.extent served.device ≡ D.extent device) }
+    ensures asked { IfOk result (λ served. sizes_asked (D.calls served.device) ≡ sizes_asked (D.calls device)) }
+    ensures failures { IfOk result (λ served. failures_in (D.calls served.device) ≡ failures_in (D.calls device) + eios_of served.replies.items) }
 {
     let lines = script.lines.as_slice();
     let Ok(room) = prepare(alloc, lines) else {
@@ -107,6 +111,7 @@ fn run_fitting<K: Sink, D: Device>(
     requires bounded { IsBounded script.now }
     requires fits { script.now.image ≤ D.extent device }
     ensures of_run { IsOfServing result.answer }
+    ensures no_read { is_read_fault result.answer ≡ false }
     ensures written { OnWritten result.answer
         (Serves script.now (D.bytes device) (D.bytes result.device) result.served.items
         × (K.held sink.new ≡ with_piece (printed_text (asked script.now.lines) result.served.items) (K.held sink.old))) }
@@ -121,6 +126,8 @@ fn run_fitting<K: Sink, D: Device>(
     ensures extent { D.extent result.device ≡ D.extent device }
     ensures sink_counted { K.faults sink.old ≤ K.faults sink.new }
     ensures write_fault { OnCut result.answer (HasRisen (K.faults sink.old) (K.faults sink.new)) }
+    ensures asked { sizes_asked (D.calls result.device) ≡ sizes_asked (D.calls device) }
+    ensures failures { OnRun result.answer (failures_in (D.calls result.device) ≡ failures_in (D.calls device) + eios_of result.served.items) }
 {
     match serve_script(alloc, script, device) {
         Err(unmade) => unserved(alloc, Answer::NoMemory, unmade.back),
@@ -151,6 +158,7 @@ pub(crate) fn run_script<K: Sink, D: Device>(
 ) -> End<D>
     requires bounded { IsBounded script.now }
     ensures of_run { IsOfRun result.answer }
+    ensures no_read { is_read_fault result.answer ≡ false }
     ensures written { OnWritten result.answer
         (Serves script.now (D.bytes device) (D.bytes result.device) result.served.items
         × (K.held sink.new ≡ with_piece (printed_text (asked script.now.lines) result.served.items) (K.held sink.old))) }
@@ -168,6 +176,10 @@ pub(crate) fn run_script<K: Sink, D: Device>(
     ensures device_fault { OnDeviceFault result.answer (HasRisen (D.size_faults device) (D.size_faults result.device)) }
     ensures too_large { OnTooLarge result.answer (λ image size. (image ≡ script.now.image) × (size ≡ D.extent device) × (size < image)) }
     ensures fits { OnRun result.answer (script.now.image ≤ D.extent device) }
+    ensures size_failed { OnDeviceFault result.answer (D.calls result.device ≡ device_call DeviceAsk.Size true ∷ D.calls device) }
+    ensures size_told { OnTooLarge result.answer (λ _ _. D.calls result.device ≡ device_call DeviceAsk.Size false ∷ D.calls device) }
+    ensures size_once { sizes_asked (D.calls result.device) ≡ sizes_asked (D.calls device) + 1 }
+    ensures failures { OnRun result.answer (failures_in (D.calls result.device) ≡ failures_in (D.calls device) + eios_of result.served.items) }
 {
     match device.size() {
         Err(Failed) => unserved(alloc, Answer::DeviceFault, device),
@@ -187,6 +199,7 @@ fn print_answer<K: Sink>(sink: &mut K, page: &mut Page, lines: &[Step], served: 
     requires names { map placed_name served.now ≡ map asked_name (asked lines.now) }
     requires few { length served.now ≤ 4096 }
     ensures of_run { IsServed result }
+    ensures no_read { is_read_fault result ≡ false }
     ensures written { OnWritten result (K.held sink.new ≡ with_piece (printed_text (asked lines.now) served.now) (K.held sink.old)) }
     ensures cut { OnCut result (AppendsFront (K.held sink.old) (K.held sink.new) (printed_text (asked lines.now) served.now)) }
     ensures errors { TellsErrors result served.now }

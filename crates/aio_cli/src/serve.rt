@@ -3,6 +3,7 @@ ghost use Rattle.std.specs.List.{AllByRecursion};
 ghost use Rattle.aio_model.specs.Asked.{asked};
 ghost use Rattle.aio_model.specs.Serving.{length_of};
 ghost use Rattle.aio_model.specs.SerialHistory.{asked_name, placed_name, bytes_left, FitAlong, is_eio, eios_of};
+ghost use Rattle.aio_words.specs.Called.{failures_in, sizes_asked};
 ghost use Rattle.aio_words.specs.Faults.{HasRisenBy};
 ghost use Rattle.img_requests.specs.Journal.{entries_of, entry_next, mark_of, reply_of};
 ghost use Rattle.img_requests.specs.Pieces.{HasRoom};
@@ -26,6 +27,8 @@ fn serve_pieces<D: Device>(image: &mut Image<D>, stream: u32, request: &Request,
         (D.faults image.old.device) (D.faults image.new.device) }
     ensures sizes { D.size_faults image.new.device ≡ D.size_faults image.old.device }
     ensures extent { D.extent image.new.device ≡ D.extent image.old.device }
+    ensures asked { sizes_asked (D.calls image.new.device) ≡ sizes_asked (D.calls image.old.device) }
+    ensures failures { failures_in (D.calls image.new.device) ≡ failures_in (D.calls image.old.device) + (if is_eio (reply_of (mark_of image.new.present) buffer.new) then 1 else 0) }
 {
     loop {
         match image.piece(stream, request, buffer) {
@@ -59,6 +62,8 @@ fn serve_request<D: Device>(
     ensures eios { HasRisenBy (if is_eio result.reply then 1 else 0) (D.faults image.old.device) (D.faults image.new.device) }
     ensures sizes { D.size_faults image.new.device ≡ D.size_faults image.old.device }
     ensures extent { D.extent image.new.device ≡ D.extent image.old.device }
+    ensures asked { sizes_asked (D.calls image.new.device) ≡ sizes_asked (D.calls image.old.device) }
+    ensures failures { failures_in (D.calls image.new.device) ≡ failures_in (D.calls image.old.device) + (if is_eio result.reply then 1 else 0) }
 {
     let place = match image.enter(stream, request) {
         Enter::Begun => {
@@ -141,6 +146,8 @@ pub(crate) fn serve_lines<D: Device>(
     ensures eios { HasRisenBy (eios_of served.new.items) (D.faults image.old.device) (D.faults image.new.device) }
     ensures sizes { D.size_faults image.new.device ≡ D.size_faults image.old.device }
     ensures extent { D.extent image.new.device ≡ D.extent image.old.device }
+    ensures asked { sizes_asked (D.calls image.new.device) ≡ sizes_asked (D.calls image.old.device) }
+    ensures failures { failures_in (D.calls image.new.device) ≡ failures_in (D.calls image.old.device) + eios_of served.new.items }
 {
     for line in lines {
         let Some(buffer) = buffers.pop_front() else {

@@ -1,5 +1,5 @@
 //! A whole loop script: its replies printed, one after another.
-ghost use Rattle.std.specs.Prelude.{◌≡◌, ◌+◌, ◌<◌, ◌≤◌, ℕ, Option, List, [], ◌++◌, length, map, IfOk};
+ghost use Rattle.std.specs.Prelude.{◌≡◌, ◌+◌, ◌<◌, ◌≤◌, ℕ, Option, List, [], ◌++◌, length, map, false, IfOk};
 ghost use Rattle.std.specs.List.{AllByRecursion};
 ghost use Rattle.aio_model.specs.LoopActs as Spec;
 ghost use Rattle.aio_model.specs.LoopLines.{reply_text};
@@ -9,6 +9,7 @@ ghost use Rattle.aio_words.specs.Faults.{HasRisen};
 ghost use Rattle.aio_script.specs.LoopBounds.{IsCommandWithin, IsLoopBounded};
 ghost use Rattle.aio_cli.specs.Answers.{OnCut, OnUnserved, OnWritten};
 ghost use Rattle.aio_cli.specs.Bells.{AreLists, Keeps};
+ghost use Rattle.aio_cli.specs.Calls.{is_read_fault};
 ghost use Rattle.aio_cli.specs.BellsRun.{AreListsOf, Collects, IsOf, IsOfBells, KeepsSome, Rings, Writes};
 
 use crate::Answer;
@@ -125,6 +126,7 @@ fn make(alloc: Global, script: &LoopScript) -> Result<Made, NoMemory>
 pub(crate) fn run_loop_script<K: Sink>(alloc: Global, script: &LoopScript, sink: &mut K) -> Answer
     requires bounded { IsLoopBounded script.now }
     ensures of_bells { IsOfBells result }
+    ensures no_read { is_read_fault result ≡ false }
     ensures written { OnWritten result (Rings script.now (λ text. K.held sink.new ≡ with_piece text (K.held sink.old))) }
     ensures cut { OnCut result (Rings script.now (AppendsFront (K.held sink.old) (K.held sink.new))) }
     ensures unserved { OnUnserved result (sink.new ≡ sink.old) }
