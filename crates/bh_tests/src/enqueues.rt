@@ -9,12 +9,13 @@ ghost use Rattle.aio_bh.specs.OneShots.{ServesHome};
 
 use aio_bh::{BottomHalves, Call, LotBuilt, LotPool, Polled, Put, Runner, Turn};
 use aio_core::{Built, Home, LoopTable, Seat};
+use aio_model::Kind;
 use std::alloc::Global;
 use std::process::Abort;
 use std::sync::Wait;
 use std::test::Fail;
 
-/// Enqueues a bottom half, on one thread.
+/// Schedules a bottom half, where no other thread pushes.
 fn push(rt: &impl Abort, table: &LoopTable<()>, seat: &mut Seat<()>, bh: u32)
     requires seat { IsSeatOf table.now seat.old }
     requires rest { seat.old.known.phase ≡ AtRest }
@@ -26,6 +27,22 @@ fn push(rt: &impl Abort, table: &LoopTable<()>, seat: &mut Seat<()>, bh: u32)
         Put::Done(_) => {}
         Put::Owed(_, owed) => panic!(rt; "the head moved on under {}", owed.bh()),
     }
+}
+
+/// Enqueues a bottom half by the call of this kind.
+fn enqueue<R: Wait>(rt: &R, table: &LoopTable<()>, seat: &mut Seat<()>, bh: u32, kind: Kind)
+    requires seat { IsSeatOf table.now seat.old }
+    requires rest { seat.old.known.phase ≡ AtRest }
+    requires handle { bh < table.now.sizes.handles }
+    ensures seat { IsSeatOf table.now seat.new }
+    ensures rest { seat.new.known.phase ≡ AtRest }
+    ensures count { seat.new.known.count ≡ seat.old.known.count }
+{
+    match kind {
+        Kind::Sched => table.schedule(rt, seat, bh),
+        Kind::Idle => table.schedule_idle(rt, seat, bh),
+        Kind::Del => table.delete(rt, seat, bh),
+    };
 }
 
 /// Callbacks that note which they are, and do the same each: schedule one, or cancel one, or nest.
@@ -125,10 +142,10 @@ impl Bench {
         }
     }
 
-    fn ask(&mut self, rt: &impl Abort, bh: u32)
+    fn ask<R: Wait>(&mut self, rt: &R, bh: u32, kind: Kind)
         requires { bh < 4 }
     {
-        push(rt, &self.table, &mut self.seat, bh, kind);
+        enqueue(rt, &self.table, &mut self.seat, bh, kind);
     }
 
     fn poll<T: Abort, R: Wait>(&mut self, rt: &R, notes: &mut Notes<T>) -> Polled
