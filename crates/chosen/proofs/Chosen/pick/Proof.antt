@@ -1,0 +1,47 @@
+-- `pick` makes a value of no bytes, whose ghost field is what its caller picks.
+use mathlib.Core.Path.{◌≡◌, refl}
+use mathlib.Core.List.{List, [], ◌∷◌, ◌++◌}
+use mir.Syntax.{Fn, a_type}
+use mir.Val.{Val, vptr, vstruct, vcons, vnil}
+use mir.MapTy.{inst_fn}
+use base.Logic.{SProp, emp}
+use Rattle.atomic_table.proofs.Names.{fact, fact_i}
+use base.Fml.{Fml}
+use types.Kit.{‵, raw, ◌⊛◌, ◌$◌, ◌∵◌, !, qed, by, move, keep, split, join, fjoin, use0, suffices, done}
+use types.Run.{no_more, and_then, returns, enter}
+use types.Part.{agg}
+use types.ByLocal.{alloc_all, pass_all, free_all, look_at, get, sets, env}
+use contract.Running.{tables}
+use denote.RattleType.{RattleType, owns}
+use denote.Param.{param, layouts}
+use denote.Shadow.{makes_shadow}
+use denote.Signature.{types_at, type_at}
+use denote.Steps.{nothing}
+use denote.Triple.Entry.{alive}
+use denote.Triple.Walked.{says, Stays, walk_of, ends_at}
+use Rattle.atomic_table.proofs.Walks.{proved, leaves}
+use Rattle.chosen.specs.contracts.Chosen.{the_row}
+use Rattle.chosen.specs.contracts.Chosen.pick.{ended, clauses}
+use Rattle.chosen.specs.contracts.Chosen.pick.Key.{name as #self}
+use Rattle.chosen.proofs.Chosen.pick.Statement.{statement}
+use Rattle.chosen.proofs.Chosen.pick.Code as code
+
+pub pick_spec : {M : Type 1} → statement M
+pick_spec 𝓤 𝓛 𝓜 𝓡 wired U _ =
+    let H = 𝓛.H in let 𝓣 = tables 𝓤 H 𝓜 𝓡 𝓡.env in let W : RattleType = param 0 U in let En = ended U in let c = clauses U 𝓛 𝓜.mem 𝓡.returns in
+    let inst = layouts (a_type ∷ []) (U, tt) in let fn = inst_fn inst code.function in let closed = code.unfolded 𝓤 H 𝓜 𝓡 wired (U, tt) in let Br : RattleType = the_row W in
+    let hs : Stays En.signature.params En.kept = tt in
+    proved 𝓛 En hs c 𝓜 𝓡 tt (#self inst) fn closed (λ κs. tt) (λ κs. tt) (λ κs qs bounds a gh are.
+    let r : Br.Denot = record { marker = record {}; value = gh } in
+    let v : Val = vstruct (vcons (vstruct vnil) vnil) in
+    let Told : Type 0 = r.value ≡ gh in
+    let O : Fml = Br.own_val r (v ∷ []) in
+    let y : (walk_of 𝓛 En hs c).Ghost = ((κs, qs, bounds, a, tt), gh) in let Post : Val → SProp 𝓤 = (walk_of 𝓛 En hs c).post y in
+    qed 𝓛 ((raw (alive 𝓛 En.signature κs qs) ⊛ ‵ (owns (types_at En.signature.params κs) a y.0.4)) ∷ raw ((c κs a).requires gh) ∷ []) ∵
+    split ! $ keep ! (0 ∷ []) $
+    enter ! 𝓣.C 𝓣.Λ fn [] Post $ alloc_all ! (λ l. pass_all ! refl tt $
+    sets ! (agg ! (no_more !)) refl (tt, tt) $ sets ! (agg ! (and_then ! (get ! refl) (no_more !))) refl (tt, (tt, tt)) $
+    returns ! (look_at ! 0 refl) $ free_all ! refl $
+    use0 𝓛 (raw (fact 𝓤 Told)) (fact_i 𝓤 Told (emp 𝓤) refl) $
+    use0 𝓛 (‵ O) (makes_shadow 𝓛 O ((λ vss. (tt, ((λ uss. (tt, tt)), tt))), tt) (((vstruct vnil ∷ [], tt), (refl, ((tt, (refl, tt)), tt))), tt)) $
+    nothing ! $ keep ! (3 ∷ 0 ∷ 1 ∷ 2 ∷ []) $ by ! (leaves 𝓛 En hs c y v r tt tt)))
