@@ -13,3 +13,6 @@ pub use aio_model::NoMemory;
 pub use co::{Co, CoStep, Origin};
 pub use cx::{CoId, Cx};
 pub use store::{CoStore, Entered};
+
+#[cfg(test)]
+mod tests;
