@@ -9,7 +9,7 @@ use Rattle.std.specs.Ordering.{eq_by_cmp}
 use Rattle.slab.specs.Slab.{Slab, get, slab_len, Updates, with_value}
 use Rattle.slab.proofs.SlabLemmas.{Updates-with_value, ContainsKey-within}
 use Rattle.co_state.specs.Coroutines.{AllOf}
-use Rattle.co_state.specs.Lookup.{Rise, key_in}
+use Rattle.co_state.specs.Lookup.{IsRising, key_in}
 use Rattle.co_state.specs.Kept.{coroutine_of, under, with_this, collected, AreNumbered, key_for, held_in, AreKept}
 use Rattle.co_state.specs.declared.directory.Directory.{Directory}
 use Rattle.co_state.specs.declared.store.Slot.{Slot}
@@ -70,14 +70,14 @@ not_among q (id ∷ ids) none (suc i) within e =
     let parts = or_parts (eqb q id) (is_among q ids) none in
     not_among q ids parts.1 i (omega arith) e
 
-first_differs : (id : ℕ) (ids : List ℕ) → Rise (id ∷ ids) → is_among id ids ≡ false
+first_differs : (id : ℕ) (ids : List ℕ) → IsRising (id ∷ ids) → is_among id ids ≡ false
 first_differs id [] rise = refl
 first_differs id (x ∷ ids) rise =
     let other : eqb id x ≡ false = ne_eqb id x (λ e. omega (arith, rise 0 1 (omega arith) (omega arith), e)) in
     let rest = first_differs id ids (without_second id x ids rise) in
     rw other rest
   where
-    without_second : (id x : ℕ) (ids : List ℕ) → Rise (id ∷ x ∷ ids) → Rise (id ∷ ids)
+    without_second : (id x : ℕ) (ids : List ℕ) → IsRising (id ∷ x ∷ ids) → IsRising (id ∷ ids)
     without_second id x ids rise zero zero lt below = absurd (omega arith)
     without_second id x ids rise zero (suc j) lt below = rise 0 (suc (suc j)) (omega arith) (omega arith)
     without_second id x ids rise (suc i) zero lt below = absurd (omega arith)
@@ -140,7 +140,7 @@ module _ {C : Type 0} where
       ∙ ap (λ o. cond (is_some o) (map.len before) (map.len before + 1)) none
       ∙ omega (arith, later)
 
-  len-collected : (at : ℕ → Option C) (ids : List ℕ) → Rise ids → ((i : ℕ) → i < length ids → IsSome (at (get_or ids i 0))) → map.len (map.from_entries {R = nat_cmp} (collected at ids)) ≡ length ids
+  len-collected : (at : ℕ → Option C) (ids : List ℕ) → IsRising ids → ((i : ℕ) → i < length ids → IsSome (at (get_or ids i 0))) → map.len (map.from_entries {R = nat_cmp} (collected at ids)) ≡ length ids
   len-collected at [] rise some = map.len-empty nat_cmp C
   len-collected at (id ∷ ids) rise some =
       let later = len-collected at ids (λ i j lt below. rise (suc i) (suc j) (omega arith) (omega arith)) (λ i within. some (suc i) (omega arith)) in

@@ -4,7 +4,7 @@ use Rattle.std.proofs.lemmas.Bool.{cases_eq, cases_lt}
 use Rattle.std.proofs.lemmas.List.Sorted.{searched}
 use Rattle.std.specs.List.Sorted.{IsBinarySearchResult}
 use Rattle.std.proofs.lemmas.List.Edits.{length-insert, get_or-insert_below, get_or-insert_at, get_or-insert_above, length-remove, get_or-remove_below, get_or-remove_above}
-use Rattle.co_state.specs.Lookup.{Rise, key_in, StandsAt, WouldStandAt}
+use Rattle.co_state.specs.Lookup.{IsRising, key_in, StandsAt, WouldStandAt}
 
 -- a number that stands nowhere has no key
 pub key_in-absent : (ids keys : List ℕ) (q : ℕ) → ((i : ℕ) → i < length ids → get_or ids i 0 ≢ q) → key_in ids keys q ≡ None
@@ -40,7 +40,7 @@ key_in-insert (i ∷ ids) (k ∷ keys) (suc at) id key q within paired apart =
           rw here later
     ]
 
-pub key_in-remove : (ids keys : List ℕ) (at q : ℕ) → at < length ids → length keys ≡ length ids → Rise ids → key_in (remove ids at) (remove keys at) q ≡ cond (eqb q (get_or ids at 0)) None (key_in ids keys q)
+pub key_in-remove : (ids keys : List ℕ) (at q : ℕ) → at < length ids → length keys ≡ length ids → IsRising ids → key_in (remove ids at) (remove keys at) q ≡ cond (eqb q (get_or ids at 0)) None (key_in ids keys q)
 key_in-remove [] keys at q within paired rise = absurd (omega arith)
 key_in-remove (i ∷ ids) [] at q within paired rise = absurd (omega arith)
 key_in-remove (i ∷ ids) (k ∷ keys) zero q within paired rise =
@@ -68,7 +68,7 @@ key_in-remove (i ∷ ids) (k ∷ keys) (suc at) q within paired rise =
 inserted : (ids : List ℕ) (at id k : ℕ) → at ≤ length ids → ((k < at) × (get_or (insert ids at id) k 0 ≡ get_or ids k 0)) ⊎ (((k ≡ at) × (get_or (insert ids at id) k 0 ≡ id)) ⊎ ((at < k) × (get_or (insert ids at id) k 0 ≡ get_or ids (k - 1) 0)))
 inserted ids at id k within = grind (arith, get_or-insert_below ids at id 0 k, get_or-insert_at ids at id 0, get_or-insert_above ids at id 0 (k - 1))
 
-pub rise-insert : (ids : List ℕ) (at id : ℕ) → Rise ids → WouldStandAt ids id at → Rise (insert ids at id)
+pub rise-insert : (ids : List ℕ) (at id : ℕ) → IsRising ids → WouldStandAt ids id at → IsRising (insert ids at id)
 rise-insert ids at id rise place i j lt within =
     let long = length-insert ids at id place.within in
     elim (inserted ids at id i place.within) [
@@ -95,7 +95,7 @@ rise-insert ids at id rise place i j lt within =
 removed : (ids : List ℕ) (at k : ℕ) → at < length ids → ((k < at) × (get_or (remove ids at) k 0 ≡ get_or ids k 0)) ⊎ ((at ≤ k) × (get_or (remove ids at) k 0 ≡ get_or ids (k + 1) 0))
 removed ids at k within = grind (arith, get_or-remove_below ids at 0 k, get_or-remove_above ids at 0 k)
 
-pub rise-remove : (ids : List ℕ) (at : ℕ) → at < length ids → Rise ids → Rise (remove ids at)
+pub rise-remove : (ids : List ℕ) (at : ℕ) → at < length ids → IsRising ids → IsRising (remove ids at)
 rise-remove ids at within rise i j lt below =
     let long = length-remove ids at within in
     elim (removed ids at i within) [
@@ -112,17 +112,17 @@ rise-remove ids at within rise i j lt below =
 pub differ_below : (ids : List ℕ) (at id : ℕ) → ((i : ℕ) → i < at → get_or ids i 0 < id) → (i : ℕ) → i < at → get_or ids i 0 ≢ id
 differ_below ids at id lower i below e = omega (arith, lower i below)
 
-pub apart_before : (ids : List ℕ) (at : ℕ) → Rise ids → at < length ids → (i : ℕ) → i < at → get_or ids i 0 ≢ get_or ids at 0
+pub apart_before : (ids : List ℕ) (at : ℕ) → IsRising ids → at < length ids → (i : ℕ) → i < at → get_or ids i 0 ≢ get_or ids at 0
 apart_before ids at rise within i below e = omega (arith, rise i at below within)
 
-no_lower : (ids : List ℕ) → Rise ids → (i j : ℕ) → i ≤ j → j < length ids → get_or ids i 0 ≤ get_or ids j 0
+no_lower : (ids : List ℕ) → IsRising ids → (i j : ℕ) → i ≤ j → j < length ids → get_or ids i 0 ≤ get_or ids j 0
 no_lower ids rise i j le within =
     elim (cases_eq i j) [
       | inl same ↦ le_of_eq (ap (λ n. get_or ids n 0) same)
       | inr differs ↦ omega (arith, rise i j (omega arith) within)
     ]
 
-pub place_from_search : (ids : List ℕ) (id : ℕ) (r : Result ℕ ℕ) → Rise ids → IsBinarySearchResult (λ y. nat_cmp y id) ids r → MatchResult r (StandsAt ids id) (WouldStandAt ids id)
+pub place_from_search : (ids : List ℕ) (id : ℕ) (r : Result ℕ ℕ) → IsRising ids → IsBinarySearchResult (λ y. nat_cmp y id) ids r → MatchResult r (StandsAt ids id) (WouldStandAt ids id)
 place_from_search ids id (Ok at) rise found =
     let s = searched ids id (Ok at) found (no_lower ids rise) in record { within = s.0; is = s.1 }
 place_from_search ids id (Err at) rise found =
@@ -135,7 +135,7 @@ stands_nowhere ids id at place i within e =
       | inr above ↦ omega (arith, place.higher i above within)
     ]
 
-pub known_from_place : (ids keys : List ℕ) (id : ℕ) (r : Result ℕ ℕ) → Rise ids → length keys ≡ length ids → MatchResult r (StandsAt ids id) (WouldStandAt ids id) → MatchResult r (λ _. IsSome (key_in ids keys id)) (λ _. key_in ids keys id ≡ None)
+pub known_from_place : (ids keys : List ℕ) (id : ℕ) (r : Result ℕ ℕ) → IsRising ids → length keys ≡ length ids → MatchResult r (StandsAt ids id) (WouldStandAt ids id) → MatchResult r (λ _. IsSome (key_in ids keys id)) (λ _. key_in ids keys id ≡ None)
 known_from_place ids keys id (Ok at) rise paired place =
     let here = key_in-at ids keys at id place.within paired place.is (λ i below e. apart_before ids at rise place.within i below (e ∙ sym place.is)) in
     subst IsSome (sym here) refl

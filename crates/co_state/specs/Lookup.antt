@@ -2,8 +2,8 @@
 use Rattle.std.specs.Prelude.{◌≡◌, ℕ, ◌<◌, ◌≤◌, List, [], ◌∷◌, length, nat_eq, Option, Some, None, slice_index, if◌then◌else◌}
 
 -- the numbers rise
-abbrev pub Rise : List ℕ → Type 0
-Rise ids = (i j : ℕ) → i < j → j < length ids → slice_index ids i < slice_index ids j
+abbrev pub IsRising : List ℕ → Type 0
+IsRising ids = (i j : ℕ) → i < j → j < length ids → slice_index ids i < slice_index ids j
 
 -- the key of a number
 abbrev pub key_in : List ℕ → List ℕ → ℕ → Option ℕ

@@ -1,6 +1,6 @@
 //! Under which key each coroutine lies, by its number.
 ghost use Rattle.std.specs.Prelude.{◌≡◌, ℕ, ◌+◌, ◌<◌, ◌≤◌, [], Some, None, IsSome, length, vec_capacity, IfOk, MatchResult, nat_eq, slice_index, insert, if◌then◌else◌};
-ghost use Rattle.co_state.specs.Lookup.{Rise, key_in, StandsAt, WouldStandAt};
+ghost use Rattle.co_state.specs.Lookup.{IsRising, key_in, StandsAt, WouldStandAt};
 
 use std::alloc::{AllocError, Global};
 
@@ -9,13 +9,13 @@ use std::alloc::{AllocError, Global};
 pub(crate) struct Directory {
     ids: Vec<u32>,
     keys: Vec<usize>,
-    ghost rises: { Rise ids.items },
+    ghost rises: { IsRising ids.items },
     ghost paired: { length keys.items ≡ length ids.items },
 }
 
 /// Where a number stands among those in order; `Err` where it would stand.
 fn place_in(ids: &[u32], id: u32) -> Result<usize, usize>
-    requires { Rise ids.now }
+    requires { IsRising ids.now }
     ensures { MatchResult result (StandsAt ids.now id) (WouldStandAt ids.now id) }
 {
     ids.binary_search(&id)

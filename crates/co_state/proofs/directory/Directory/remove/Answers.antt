@@ -1,5 +1,5 @@
 use Rattle.std.proofs.Common.{arith, subst, sym}
-use Rattle.co_state.specs.Lookup.{Rise}
+use Rattle.co_state.specs.Lookup.{IsRising}
 use Rattle.co_state.proofs.Lookups.{key_in-remove, rise-remove}
 use Rattle.co_state.proofs.directory.Directory.remove.Goals as goal
 
@@ -7,7 +7,7 @@ pub invariant_of-self : goal.invariant_of-self
 invariant_of-self c =
     let directory = c.args.self.now in
     record {
-      rises = subst Rise (sym c.remove.ensures.items) (rise-remove directory.ids.items c.args.at c.requires directory.rises);
+      rises = subst IsRising (sym c.remove.ensures.items) (rise-remove directory.ids.items c.args.at c.requires directory.rises);
       paired = omega (arith, c.remove.ensures.len, c.remove-2.ensures.len, directory.paired);
     }
 
