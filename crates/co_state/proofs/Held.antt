@@ -1,16 +1,13 @@
 -- The coroutines by number, seen as a map, after a slot is written, filled or emptied.
-use Rattle.std.proofs.Common.{◌≡◌, ◌≢◌, ◌⊎◌, inl, inr, ℕ, zero, suc, ◌+◌, ◌<◌, ◌≤◌, Bool, true, false, cond, ◌||◌, nat_cmp, nat_eq, nat_le, List, [], ◌∷◌, length, get_or, set, Option, Some, None, is_some, IsSome, MatchOption, refl, sym, ap, ◌∙◌, subst, arith, ne_eqb, eq-eqb, eqb, leb, le-leb, vec_capacity}
+use Rattle.std.proofs.Common.{◌≡◌, ◌≢◌, inl, inr, ℕ, zero, suc, ◌+◌, ◌<◌, Bool, true, false, cond, ◌||◌, nat_cmp, List, [], ◌∷◌, length, get_or, Option, Some, None, is_some, IsSome, refl, sym, ap, ◌∙◌, subst, arith, ne_eqb, eq-eqb, eqb}
 use Rattle.std.proofs.lemmas.Bool.{cases_eq, cases_Bool}
-use Rattle.std.proofs.lemmas.List.Sums.{sum_by-set}
 use Rattle.std.specs.Cmp.{nat_cmp_total, unsigned_tied}
 use Rattle.std.specs.FinMap.{nat_cmp-IsAntisymmetric}
 use Rattle.std.specs.FinMap as map
-use Rattle.std.specs.Ordering.{eq_by_cmp}
-use Rattle.slab.specs.Slab.{Slab, get, slab_len, Updates, with_value}
-use Rattle.slab.proofs.SlabLemmas.{Updates-with_value, ContainsKey-within}
+use Rattle.slab.specs.Slab.{Slab}
 use Rattle.co_state.specs.Coroutines.{AllOf}
-use Rattle.co_state.specs.Lookup.{IsRising, key_in}
-use Rattle.co_state.specs.Kept.{coroutine_of, under, with_this, collected, AreNumbered, key_for, held_in, AreKept}
+use Rattle.co_state.specs.Lookup.{IsRising}
+use Rattle.co_state.specs.Kept.{coroutine_of, under, with_this, collected, key_for, held_in, AreKept}
 use Rattle.co_state.specs.declared.directory.Directory.{Directory}
 use Rattle.co_state.specs.declared.store.Slot.{Slot}
 use Rattle.co_state.proofs.Lookups.{key_in-absent, key_in-at, apart_before}

@@ -1,5 +1,5 @@
 -- Keys looked up by number, after a number is put in or taken out.
-use Rattle.std.proofs.Common.{◌≡◌, ◌≢◌, ◌⊎◌, inl, inr, ℕ, zero, suc, ◌+◌, ◌-◌, ◌<◌, ◌≤◌, Bool, true, false, cond, nat_eq, nat_cmp, List, [], ◌∷◌, length, get_or, insert, remove, Option, Some, None, Result, Ok, Err, MatchResult, IsSome, refl, subst, le_of_eq, sym, ap, ◌∙◌, arith, ne_eqb, eq-eqb, eqb}
+use Rattle.std.proofs.Common.{◌≡◌, ◌≢◌, ◌⊎◌, inl, inr, ℕ, zero, suc, ◌+◌, ◌-◌, ◌<◌, ◌≤◌, true, false, cond, nat_cmp, List, [], ◌∷◌, length, get_or, insert, remove, Some, None, Result, Ok, Err, MatchResult, IsSome, refl, subst, le_of_eq, sym, ap, ◌∙◌, arith, ne_eqb, eq-eqb, eqb}
 use Rattle.std.proofs.lemmas.Bool.{cases_eq, cases_lt}
 use Rattle.std.proofs.lemmas.List.Sorted.{searched}
 use Rattle.std.specs.List.Sorted.{IsBinarySearchResult}

@@ -1,5 +1,5 @@
 -- What the calls on a store leave standing.
-use Rattle.std.proofs.Common.{◌≡◌, ◌≢◌, ◌⊎◌, inl, inr, ℕ, ◌+◌, ◌<◌, ◌≤◌, Bool, true, false, cond, ◌||◌, nat_cmp, nat_le, List, [], ◌∷◌, length, get_or, set, count_by, Option, Some, None, is_some, IsSome, MatchOption, refl, sym, ap, ◌∙◌, subst, arith, ne_eqb, eq-eqb, eqb, leb, le-leb, leb-true, vec_capacity}
+use Rattle.std.proofs.Common.{◌≡◌, ◌≢◌, inl, inr, ℕ, ◌+◌, ◌<◌, ◌≤◌, Bool, true, false, cond, ◌||◌, nat_cmp, nat_le, List, [], ◌∷◌, length, get_or, count_by, Option, Some, None, is_some, IsSome, MatchOption, refl, sym, ap, ◌∙◌, subst, arith, ne_eqb, eq-eqb, eqb, leb, le-leb, leb-true, vec_capacity}
 use Rattle.std.proofs.lemmas.Bool.{cases_eq, cases_Bool}
 use Rattle.std.proofs.lemmas.List.Sums.{sum_by-set}
 use Rattle.std.specs.FinMap as map

@@ -1,4 +1,3 @@
-use Rattle.std.proofs.Common.{ne_of_lt}
 use Rattle.co_state.proofs.Lookups.{key_in-insert, differ_below}
 use Rattle.co_state.proofs.directory.Directory.insert.Goals as goal
 

@@ -1,4 +1,3 @@
-use Rattle.std.proofs.Common.{subst, MatchResult}
 use Rattle.co_state.proofs.Lookups.{known_from_place}
 use Rattle.co_state.proofs.directory.Directory.place.Goals as goal
 

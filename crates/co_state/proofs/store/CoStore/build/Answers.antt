@@ -1,6 +1,5 @@
-use Rattle.std.proofs.Common.{◌≡◌, Some, None, length, [], refl, sym, ap, ◌∙◌, subst, arith, nat_cmp}
+use Rattle.std.proofs.Common.{ap, nat_cmp}
 use Rattle.std.specs.FinMap as map
-use Rattle.co_state.specs.Kept.{held_in, key_for, AreKept, collected}
 use Rattle.co_state.proofs.Standing.{starts}
 use Rattle.co_state.proofs.store.CoStore.build.Goals as goal
 

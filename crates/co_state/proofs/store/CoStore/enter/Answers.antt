@@ -1,4 +1,4 @@
-use Rattle.std.proofs.Common.{◌≡◌, refl, sym, ap, ◌∙◌, subst, arith, Some, None}
+use Rattle.std.proofs.Common.{◌≡◌, refl, sym, ap, ◌∙◌, subst, Some}
 use Rattle.std.specs.FinMap as map
 use Rattle.co_state.specs.Coroutines.{AllOf}
 use Rattle.co_state.specs.Kept.{key_for}
