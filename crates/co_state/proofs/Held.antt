@@ -1,0 +1,152 @@
+-- The coroutines by number, seen as a map, after a slot is written, filled or emptied.
+use Rattle.std.proofs.Common.{◌≡◌, ◌≢◌, inl, inr, ℕ, zero, suc, ◌+◌, ◌<◌, Bool, true, false, cond, ◌||◌, nat_cmp, List, [], ◌∷◌, length, get_or, Option, Some, None, is_some, IsSome, refl, sym, ap, ◌∙◌, subst, arith, ne_eqb, eq-eqb, eqb}
+use Rattle.std.proofs.lemmas.Bool.{cases_eq, cases_Bool}
+use Rattle.std.specs.Cmp.{nat_cmp_total, unsigned_tied}
+use Rattle.std.specs.FinMap.{nat_cmp-IsAntisymmetric}
+use Rattle.std.specs.FinMap as map
+use Rattle.slab.specs.Slab.{Slab}
+use Rattle.co_state.specs.Coroutines.{AllOf}
+use Rattle.co_state.specs.Lookup.{IsRising}
+use Rattle.co_state.specs.Kept.{coroutine_of, under, with_this, collected, key_for, held_in, AreKept}
+use Rattle.co_state.specs.declared.directory.Directory.{Directory}
+use Rattle.co_state.specs.declared.store.Slot.{Slot}
+use Rattle.co_state.proofs.Lookups.{key_in-absent, key_in-at, apart_before}
+
+-- maps of numbers
+module _ {C : Type 0} where
+  pub get_inserted : (held : map.FinMap nat_cmp C) (id : ℕ) (co : C) (q : ℕ) → map.get (map.insert held id co) q ≡ cond (eqb q id) (Some co) (map.get held q)
+  get_inserted held id co q = map.get-insert nat_cmp_total held id co q ∙ ap (λ b. cond b (Some co) (map.get held q)) (unsigned_tied q id)
+
+  pub get_removed : (held : map.FinMap nat_cmp C) (id q : ℕ) → map.get (map.remove held id) q ≡ cond (eqb q id) None (map.get held q)
+  get_removed held id q = map.get-remove nat_cmp_total held id q ∙ ap (λ b. cond b None (map.get held q)) (unsigned_tied q id)
+
+  pub same_held : (m n : map.FinMap nat_cmp C) → ((q : ℕ) → map.get m q ≡ map.get n q) → m ≡ n
+  same_held m n same = map.same_map nat_cmp_total nat_cmp-IsAntisymmetric m n same
+
+  at_once : (b : Bool) (x : Option C) (y z : Option C) → cond b x z ≡ cond b x (cond b y z)
+  at_once true x y z = refl
+  at_once false x y z = refl
+
+  pub remove-insert : (held : map.FinMap nat_cmp C) (id : ℕ) (co : C) → map.remove (map.insert held id co) id ≡ map.remove held id
+  remove-insert held id co = same_held _ _ (λ q. get_removed (map.insert held id co) id q ∙ ap (cond (eqb q id) None) (get_inserted held id co q) ∙ sym (at_once (eqb q id) None (Some co) (map.get held q)) ∙ sym (get_removed held id q))
+
+  chosen_by : (O : Type 0) (is_of : C → O → Type 0) (o : O) (b : Bool) (x y : Option C) (co : C) → ((c : C) → x ≡ Some c → is_of c o) → ((c : C) → y ≡ Some c → is_of c o) → cond b x y ≡ Some co → is_of co o
+  chosen_by O is_of o true x y co first other found = first co found
+  chosen_by O is_of o false x y co first other found = other co found
+
+  pub all_of-insert : {O : Type 0} (is_of : C → O → Type 0) (o : O) (held : map.FinMap nat_cmp C) (id : ℕ) (co : C) → is_of co o → AllOf is_of held o → AllOf is_of (map.insert held id co) o
+  all_of-insert {O} is_of o held id co here all q c found =
+      chosen_by O is_of o (eqb q id) (Some co) (map.get held q) c
+      (λ d e. let same : co ≡ d = cc in subst (λ x. is_of x o) same here)
+      (λ d e. all q d e)
+      (sym (get_inserted held id co q) ∙ found)
+
+  pub all_of-remove : {O : Type 0} (is_of : C → O → Type 0) (o : O) (held : map.FinMap nat_cmp C) (id : ℕ) → AllOf is_of held o → AllOf is_of (map.remove held id) o
+  all_of-remove {O} is_of o held id all q c found =
+      chosen_by O is_of o (eqb q id) None (map.get held q) c
+      (λ d e. absurd (cc))
+      (λ d e. all q d e)
+      (sym (get_removed held id q) ∙ found)
+
+-- whether the number is one of these
+abbrev pub is_among : ℕ → List ℕ → Bool
+is_among q [] = false
+is_among q (id ∷ ids) = eqb q id || is_among q ids
+
+or_parts : (a b : Bool) → (a || b) ≡ false → (a ≡ false) × (b ≡ false)
+or_parts true b e = absurd (cc)
+or_parts false b e = (refl, e)
+
+not_among : (q : ℕ) (ids : List ℕ) → is_among q ids ≡ false → (i : ℕ) → i < length ids → get_or ids i 0 ≢ q
+not_among q [] none i within e = absurd (omega arith)
+not_among q (id ∷ ids) none zero within e =
+    let parts = or_parts (eqb q id) (is_among q ids) none in
+    let here : eqb q id ≡ true = eq-eqb q id (sym e) in
+    cc (parts.0, here)
+not_among q (id ∷ ids) none (suc i) within e =
+    let parts = or_parts (eqb q id) (is_among q ids) none in
+    not_among q ids parts.1 i (omega arith) e
+
+first_differs : (id : ℕ) (ids : List ℕ) → IsRising (id ∷ ids) → is_among id ids ≡ false
+first_differs id [] rise = refl
+first_differs id (x ∷ ids) rise =
+    let other : eqb id x ≡ false = ne_eqb id x (λ e. omega (arith, rise 0 1 (omega arith) (omega arith), e)) in
+    let rest = first_differs id ids (without_second id x ids rise) in
+    rw other rest
+  where
+    without_second : (id x : ℕ) (ids : List ℕ) → IsRising (id ∷ x ∷ ids) → IsRising (id ∷ ids)
+    without_second id x ids rise zero zero lt below = absurd (omega arith)
+    without_second id x ids rise zero (suc j) lt below = rise 0 (suc (suc j)) (omega arith) (omega arith)
+    without_second id x ids rise (suc i) zero lt below = absurd (omega arith)
+    without_second id x ids rise (suc i) (suc j) lt below = rise (suc (suc i)) (suc (suc j)) (omega arith) (omega arith)
+
+-- what was collected at each number is found there
+module _ {C : Type 0} where
+  abbrev rather : Option C → Option C → Option C
+  rather None other = other
+  rather (Some co) other = Some co
+
+  found_first : (q id : ℕ) (o : Option C) (rest : List (ℕ × C)) → map.find nat_cmp q (with_this id o rest) ≡ cond (eqb q id) (rather o (map.find nat_cmp q rest)) (map.find nat_cmp q rest)
+  found_first q id None rest = elim (eqb q id) as (λ b. map.find nat_cmp q rest ≡ cond b (map.find nat_cmp q rest) (map.find nat_cmp q rest)) [ true ↦ refl | false ↦ refl ]
+  found_first q id (Some co) rest = ap (λ b. cond b (Some co) (map.find nat_cmp q rest)) (unsigned_tied q id)
+
+  rather_same : (o : Option C) (b : Bool) → rather o (cond b o None) ≡ o
+  rather_same None true = refl
+  rather_same None false = refl
+  rather_same (Some co) b = refl
+
+  pub find-collected : (at : ℕ → Option C) (ids : List ℕ) (q : ℕ) → map.find nat_cmp q (collected at ids) ≡ cond (is_among q ids) (at q) None
+  find-collected at [] q = refl
+  find-collected at (id ∷ ids) q =
+      let later = find-collected at ids q in
+      elim (cases_eq q id) [
+        | inl same ↦
+            let here : eqb q id ≡ true = eq-eqb q id same in
+            found_first q id (at id) (collected at ids)
+            ∙ ap (λ b. cond b (rather (at id) (map.find nat_cmp q (collected at ids))) (map.find nat_cmp q (collected at ids))) here
+            ∙ ap (λ n. rather (at n) (map.find nat_cmp q (collected at ids))) (sym same)
+            ∙ ap (rather (at q)) later
+            ∙ rather_same (at q) (is_among q ids)
+            ∙ ap (λ b. cond (b || is_among q ids) (at q) None) (sym here)
+        | inr differs ↦
+            let here : eqb q id ≡ false = ne_eqb q id differs in
+            found_first q id (at id) (collected at ids)
+            ∙ ap (λ b. cond b (rather (at id) (map.find nat_cmp q (collected at ids))) (map.find nat_cmp q (collected at ids))) here
+            ∙ later
+            ∙ ap (λ b. cond (b || is_among q ids) (at q) None) (sym here)
+      ]
+
+  pub get-held : (d : Directory) (s : Slab (Slot C)) (q : ℕ) → map.get (held_in d s) q ≡ under s (key_for d q)
+  get-held d s q =
+      let at = λ (id : ℕ). under s (key_for d id) in
+      map.get-from_entries nat_cmp_total (collected at d.ids.items) q
+      ∙ find-collected at d.ids.items q
+      ∙ elim (cases_Bool (is_among q d.ids.items)) [
+        | inl among ↦ ap (λ b. cond b (at q) None) among
+        | inr none ↦
+            ap (λ b. cond b (at q) None) none
+            ∙ sym (ap (under s) (key_in-absent d.ids.items d.keys.items q (not_among q d.ids.items none)))
+      ]
+
+  -- as many as there are numbers
+  one_more : (at : ℕ → Option C) (id : ℕ) (ids : List ℕ) (o : Option C) → IsSome o → map.get (map.from_entries {R = nat_cmp} (collected at ids)) id ≡ None → map.len (map.from_entries {R = nat_cmp} (collected at ids)) ≡ length ids → map.len (map.from_entries {R = nat_cmp} (with_this id o (collected at ids))) ≡ suc (length ids)
+  one_more at id ids None some none later = absurd (cc)
+  one_more at id ids (Some co) some none later =
+      let before = map.from_entries {R = nat_cmp} (collected at ids) in
+      map.len-insert nat_cmp_total before id co
+      ∙ ap (λ o. cond (is_some o) (map.len before) (map.len before + 1)) none
+      ∙ omega (arith, later)
+
+  len-collected : (at : ℕ → Option C) (ids : List ℕ) → IsRising ids → ((i : ℕ) → i < length ids → IsSome (at (get_or ids i 0))) → map.len (map.from_entries {R = nat_cmp} (collected at ids)) ≡ length ids
+  len-collected at [] rise some = map.len-empty nat_cmp C
+  len-collected at (id ∷ ids) rise some =
+      let later = len-collected at ids (λ i j lt below. rise (suc i) (suc j) (omega arith) (omega arith)) (λ i within. some (suc i) (omega arith)) in
+      let none = map.get-from_entries nat_cmp_total (collected at ids) id ∙ find-collected at ids id ∙ ap (λ b. cond b (at id) None) (first_differs id ids rise) in
+      one_more at id ids (at id) (some 0 (omega arith)) none later
+
+  pub len-held : (room : ℕ) (d : Directory) (s : Slab (Slot C)) → AreKept room d s → map.len (held_in d s) ≡ length d.ids.items
+  len-held room d s kept =
+      len-collected (λ id. under s (key_for d id)) d.ids.items d.rises (λ i within.
+      let at = key_in-at d.ids.items d.keys.items i (get_or d.ids.items i 0) within d.paired refl (apart_before d.ids.items i d.rises within) in
+      let there = kept.numbered (get_or d.ids.items i 0) (get_or d.keys.items i 0) at in
+      subst IsSome (sym (ap (under s) at ∙ ap coroutine_of there.1)) refl)

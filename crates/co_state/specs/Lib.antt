@@ -1,0 +1,5 @@
+pub mod Asked
+pub mod Coroutines
+pub mod Entering
+pub mod Kept
+pub mod Lookup
