@@ -1,15 +1,12 @@
-//! One-shots over pools of one and of two places, and one-shots that place one-shots.
+//! One-shots over pools of one place, of two and of none.
 ghost use Rattle.std.specs.Prelude.{◌≡◌, ◌≤◌};
 ghost use Rattle.aio_model.specs.InFlight.{AtRest};
-ghost use Rattle.aio_model.specs.LoopHistory.{History};
-ghost use Rattle.aio_model.specs.LoopLegal.{IsLegal};
 ghost use Rattle.aio_core.specs.Known.{empty_stage};
 ghost use Rattle.aio_core.specs.Calls.{IsSeatOf};
 ghost use Rattle.lot_pool.specs.Pools.{IsPassOf};
-ghost use Rattle.aio_bh.specs.Running.{GivesBack};
-ghost use Rattle.aio_bh.specs.OneShots.{ServesHome, IsPoolFor};
+ghost use Rattle.aio_bh.specs.OneShots.{ServesHome};
 
-use aio_bh::{BottomHalves, Call, LotBuilt, LotPass, LotPool, Runner, Turn};
+use aio_bh::{BottomHalves, Call, LotBuilt, LotPool, Runner, Turn};
 use aio_core::{Built, Home, LoopTable, Seat};
 use std::alloc::Global;
 use std::process::Abort;
@@ -160,95 +157,5 @@ fn no_place_has_no_room(rt: HostRuntime) -> Result<(), Fail> {
     let mut lots = Lots::build(&rt, rt.alloc(), 0)?;
     assert_eq!(rt; lots.once(&rt, 7), Some(7));
     lots.poll(&rt, 0, [NO_ENTRY; 4]);
-    Ok(())
-}
-
-/// Callbacks of one-shots, each of which places a one-shot more, and counts what was refused.
-#[derive(Drop)]
-struct Placing<'a, R: Wait> {
-    rt: &'a R,
-    pool: &'a LotPool,
-    pass: LotPass,
-    last: u64,
-    refused: u64,
-}
-
-impl<'a, R: Wait> Placing<'a, R> {
-    fn place(&mut self, table: &LoopTable<u64>, seat: &mut Seat<u64>)
-        requires seat { IsSeatOf table.now seat.old }
-        requires rest { seat.old.known.phase ≡ AtRest }
-        requires legal { IsLegal table.now.sizes seat.old.known.seen }
-        requires pool { IsPoolFor table.now.sizes self.old.pool.now }
-        requires pass { IsPassOf self.old.pool.now self.old.pass }
-        ensures seat { IsSeatOf table.now seat.new }
-        ensures same { self.new.pool ≡ self.old.pool }
-        ensures pass { IsPassOf self.new.pool.now self.new.pass }
-        ensures back { (made : History) × GivesBack made seat.old.known seat.new.known }
-    {
-        self.last = self.last.wrapping_add(1);
-        let placed = table.once(self.rt, self.pool, &mut self.pass, seat, self.last);
-        if placed.is_err() {
-            self.refused = self.refused.wrapping_add(1);
-        }
-    }
-}
-
-impl<'a, R: Wait> Runner<u64> for Placing<'a, R> {
-    ghost use Rattle.std.specs.Prelude.{true};
-    ghost use Rattle.lot_pool.specs.Pools.{IsPassOf};
-    ghost use Rattle.aio_bh.specs.Running.{GivesBack};
-    ghost use Rattle.aio_bh.specs.OneShots.{IsPoolFor};
-
-    ghost can_run = { λ r sizes. IsPoolFor sizes r.pool.now × IsPassOf r.pool.now r.pass };
-
-    ghost does = { λ _ _ _. true ≡ true };
-
-    fn run(&mut self, table: &LoopTable<u64>, seat: &mut Seat<u64>, _call: &mut Call<u64>) -> Turn {
-        self.place(table, seat);
-        Turn::Done
-    }
-}
-
-#[test]
-fn a_one_shot_places_the_next_one(rt: HostRuntime) -> Result<(), Fail> {
-    let Ok(
-        LotBuilt {
-            pool,
-            home: mut lots,
-            pass,
-        },
-    ) = LotPool::build(&rt, rt.alloc(), 0, 2)
-    else {
-        return Err(Fail::from("no memory"));
-    };
-    let Ok(built) = LoopTable::<u64>::build(rt.alloc(), 0, 2, 0) else {
-        return Err(Fail::from("no memory"));
-    };
-    let Built {
-        table,
-        mut home,
-        mut seat,
-    } = built;
-    let mut pass = pass;
-    let Some(other) = pool.split(&mut pass) else {
-        return Err(Fail::from("64 numbers are not split"));
-    };
-    assert!(rt; table.once(&rt, &pool, &mut pass, &mut seat, 1).is_ok());
-    let mut placing = Placing {
-        rt: &rt,
-        pool: &pool,
-        pass: other,
-        last: 1,
-        refused: 0,
-    };
-    for _ in 0..3 {
-        assert_eq!(rt;
-            table
-                .poll(&rt, &pool, &mut lots, &mut home, &mut placing)
-                .ran,
-            1
-        );
-    }
-    assert_eq!(rt; (placing.last, placing.refused, lots.kept()), (4, 0, 0));
     Ok(())
 }
