@@ -3,6 +3,5 @@ mod Calls
 mod Circles
 pub mod Contained
 mod Paths
-mod SlowLists
 pub mod Steps
 pub mod Walks

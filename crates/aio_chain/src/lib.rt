@@ -5,8 +5,3 @@
 mod links;
 
 pub use links::Links;
-
-#[cfg(test)]
-mod slow_lists;
-#[cfg(test)]
-mod tests;

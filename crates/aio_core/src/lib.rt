@@ -33,8 +33,3 @@ pub use scan::Scanned;
 pub use seat::Seat;
 pub use table::LoopTable;
 pub use tokens::{Aimed, Announced, InHand};
-
-#[cfg(test)]
-mod order_tests;
-#[cfg(test)]
-mod tests;

@@ -10,6 +10,3 @@ mod watch;
 pub use aio_model::NoMemory;
 pub use answers::{AddRefusal, HandlerId, Ready, Removed};
 pub use handlers::Handlers;
-
-#[cfg(test)]
-mod tests;

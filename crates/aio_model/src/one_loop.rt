@@ -406,6 +406,3 @@ impl OneLoop {
         commit_by(urgent, set, rung, due)
     }
 }
-
-#[cfg(test)]
-mod tests;

@@ -9,6 +9,3 @@ mod timers;
 
 pub use aio_model::NoMemory;
 pub use timers::{TimerId, Timers};
-
-#[cfg(test)]
-mod tests;

@@ -32,17 +32,3 @@ impl Clock for StepClock {
         self.now = self.now.saturating_add(ns);
     }
 }
-
-#[cfg(test)]
-mod tests {
-    use super::*;
-
-    #[test]
-    fn pauses_move_it_on_up_to_the_greatest_time(rt: HostRuntime) {
-        let mut clock = StepClock { now: 5 };
-        clock.pause(7);
-        assert_eq!(rt; clock.now(), 12);
-        clock.pause(u64::MAX);
-        assert_eq!(rt; clock.now(), u64::MAX);
-    }
-}

@@ -7,13 +7,3 @@ pub struct OpenGate;
 impl Gate for OpenGate {
     fn pass(&self, _stream: u32, _index: u32) {}
 }
-
-#[cfg(test)]
-mod tests {
-    use super::*;
-
-    #[test]
-    fn lets_a_stream_pass() {
-        OpenGate.pass(3, 4);
-    }
-}

@@ -274,30 +274,3 @@ fn put(bytes: &mut [u8], at: usize, piece: &[u8])
 {
     bytes[at..at + piece.len()].copy_from_slice(piece);
 }
-
-#[cfg(test)]
-mod tests {
-    use super::*;
-    use std::test::Fail;
-
-    #[test]
-    fn finds_what_was_put_and_fails_at_call_two(rt: HostRuntime) -> Result<(), Fail> {
-        let mut device = MemDevice::build(rt.alloc(), b"abcdef", &[2])?;
-        let mut buf = [0; 4];
-        assert_eq!(rt; device.size(), Ok(6));
-        assert_eq!(rt; device.write_at(2, b"XY"), Ok(()));
-        assert_eq!(rt; device.read_at(1, &mut buf), Err(Failed));
-        assert_eq!(rt; device.read_at(1, &mut buf), Ok(()));
-        assert_eq!(rt; device.flush(), Ok(()));
-        assert_eq!(rt; buf.as_slice(), b"bXYe".as_slice());
-        assert_eq!(rt; device.bytes(), b"abXYef".as_slice());
-        Ok(())
-    }
-
-    #[test]
-    fn begins_with_zeros(rt: HostRuntime) -> Result<(), Fail> {
-        let device = MemDevice::zeros(rt.alloc(), 3)?;
-        assert_eq!(rt; device.bytes(), [0, 0, 0].as_slice());
-        Ok(())
-    }
-}

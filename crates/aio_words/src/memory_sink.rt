@@ -116,20 +116,3 @@ impl Sink for MemSink {
         Ok(())
     }
 }
-
-#[cfg(test)]
-mod tests {
-    use super::*;
-    use std::test::Fail;
-
-    #[test]
-    fn keeps_what_fits_and_fails_at_call_one(rt: HostRuntime) -> Result<(), Fail> {
-        let mut sink = MemSink::build(rt.alloc(), 5, &[1])?;
-        assert_eq!(rt; sink.write(b"abc"), Ok(()));
-        assert_eq!(rt; sink.write(b"d"), Err(Failed));
-        assert_eq!(rt; sink.write(b"def"), Err(Failed));
-        assert_eq!(rt; sink.write(b"gh"), Ok(()));
-        assert_eq!(rt; sink.bytes(), b"abcgh".as_slice());
-        Ok(())
-    }
-}

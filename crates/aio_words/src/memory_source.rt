@@ -125,22 +125,3 @@ impl Source for MemSource {
         Ok(n)
     }
 }
-
-#[cfg(test)]
-mod tests {
-    use super::*;
-    use std::test::Fail;
-
-    #[test]
-    fn gives_three_at_a_call_and_fails_at_call_one(rt: HostRuntime) -> Result<(), Fail> {
-        let mut source = MemSource::build(rt.alloc(), b"abcdefgh", 3, &[1])?;
-        let mut buf = [0; 4];
-        for wanted in [Some("abc"), None, Some("def"), Some("gh"), Some("")] {
-            let got = source.read(&mut buf).ok();
-            assert_eq!(rt; got, wanted.map(|text| text.len()));
-            let front = wanted.unwrap_or("");
-            assert!(rt; buf.starts_with(front.as_bytes()), "at {front:?}");
-        }
-        Ok(())
-    }
-}

@@ -126,11 +126,7 @@ impl StdSink<Stdout> {
     pub fn output(stdout: Stdout) -> Result<StdSink<Stdout>, NoMemory>
         ensures { IsOkAnd result (λ sink. sink ≡ record { stream = stdout; faults = 0; called = [] }) }
     {
-        Ok(StdSink {
-            writer: stdout,
-            faults: 0,
-            called: Trail::empty(),
-        })
+        Ok(StdSink::over(stdout))
     }
 }
 
@@ -139,11 +135,27 @@ impl StdSink<Stderr> {
     pub fn errors(stderr: Stderr) -> Result<StdSink<Stderr>, NoMemory>
         ensures { IsOkAnd result (λ sink. sink ≡ record { stream = stderr; faults = 0; called = [] }) }
     {
-        Ok(StdSink {
-            writer: stderr,
+        Ok(StdSink::over(stderr))
+    }
+}
+
+impl<W: Write> StdSink<W> {
+    /// A sink over this writer.
+    pub fn over(writer: W) -> StdSink<W>
+        ensures { result ≡ record { stream = writer; faults = 0; called = [] } }
+    {
+        StdSink {
+            writer,
             faults: 0,
             called: Trail::empty(),
-        })
+        }
+    }
+
+    /// Gives the writer back, with all that was written.
+    pub fn into_writer(self) -> W
+        ensures { result ≡ self.stream }
+    {
+        self.writer
     }
 }
 
@@ -176,69 +188,5 @@ impl<W: Write> Sink for StdSink<W> {
                 Err(Failed)
             }
         }
-    }
-}
-
-#[cfg(test)]
-mod tests {
-    use super::*;
-    use std::test::Fail;
-
-    /// Takes one byte at a write, as long as there is room.
-    #[derive(Drop)]
-    struct Narrow {
-        got: Vec<u8>,
-        room: u32,
-    }
-
-    impl Write for Narrow {
-        fn write(&mut self, buf: &[u8]) -> io::Result<usize> {
-            if buf.is_empty() || self.room == 0 {
-                return Ok(0);
-            }
-            self.got.push(buf[0])?;
-            self.room -= 1;
-            Ok(1)
-        }
-
-        fn flush(&mut self) -> io::Result<()> {
-            Ok(())
-        }
-    }
-
-    #[test]
-    fn goes_on_with_short_writes_until_nothing_is_taken(rt: HostRuntime) {
-        let got = Vec::new(rt.alloc());
-        let writer = Narrow { got, room: 5 };
-        let mut sink = StdSink {
-            writer,
-            faults: 0,
-            called: Trail::empty(),
-        };
-        assert_eq!(rt; sink.write(b"abcd"), Ok(()));
-        assert_eq!(rt; sink.write(b"ef"), Err(Failed));
-        assert_eq!(rt; sink.writer.got.as_slice(), b"abcde".as_slice());
-        assert_eq!(rt; sink.faults, 1);
-    }
-
-    #[test]
-    fn reads_on_from_a_reader(rt: HostRuntime) -> Result<(), Fail> {
-        let mut source = StdSource::build(b"abc".as_slice())?;
-        let mut buf = [0; 2];
-        assert_eq!(rt; source.read(&mut buf), Ok(2));
-        assert_eq!(rt; source.read(&mut buf), Ok(1));
-        assert_eq!(rt; buf.as_slice(), b"cb".as_slice());
-        assert_eq!(rt; source.read(&mut buf), Ok(0));
-        Ok(())
-    }
-
-    #[test]
-    fn are_made_over_the_standard_streams(rt: HostRuntime) -> Result<(), Fail> {
-        let _source = StdSource::build(rt.stdin())?;
-        let mut output = StdSink::output(rt.stdout())?;
-        let mut errors = StdSink::errors(rt.stderr())?;
-        assert_eq!(rt; output.write(b""), Ok(()));
-        assert_eq!(rt; errors.write(b""), Ok(()));
-        Ok(())
     }
 }

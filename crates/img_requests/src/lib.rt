@@ -13,6 +13,3 @@ pub use answers::{Enter, Left, Piece};
 pub use image::Image;
 pub use journal::{Entry, Mark};
 pub use present::{Present, RequestKind, Stage};
-
-#[cfg(test)]
-mod tests;
