@@ -9,3 +9,8 @@ mod rw_state;
 pub use aio_model::{Hold, NoMemory, RwAnswer};
 pub use queue::CoQueue;
 pub use rw_state::{Moved, RwState};
+
+#[cfg(test)]
+mod plain;
+#[cfg(test)]
+mod tests;

@@ -69,10 +69,10 @@ impl CoQueue {
     {
         let mut taken = 0;
         let mut first = self.waiters.first();
-        while let Some(who) = first {
-            out[taken as usize] = who;
+        while let Some(waiter) = first {
+            out[taken as usize] = waiter;
             taken += 1;
-            self.waiters.unlink(who);
+            self.waiters.unlink(waiter);
             first = self.waiters.first();
         }
         taken

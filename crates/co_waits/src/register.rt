@@ -4,7 +4,7 @@ ghost use Rattle.co_waits.specs.Registers.{is_written, readers_in, is_vacant, is
 ghost use Rattle.aio_model.specs.declared.holds.Hold.TheVariants.{Free};
 ghost use Rattle.aio_model.specs.Readers.{Readers, Writer, waiting, hold_of};
 ghost use Rattle.aio_model.specs.Holds.{Has, IsOrderly};
-ghost use Rattle.aio_model.specs.RwTable.{with_ticket, released, wake_one};
+ghost use Rattle.aio_model.specs.RwTable.{with_ticket, released, stepped_back, wake_one};
 
 use aio_chain::Links;
 use aio_model::{Hold, NoMemory, Wish};
@@ -147,11 +147,22 @@ impl Register {
     pub(crate) fn release(&mut self, who: u32)
         requires held { Has (hold_of self.old who) }
         ensures released { self.new ≡ released who self.old }
+        ensures free { hold_of self.new who ≡ Free }
     {
         match self.writer {
             Some(_) => self.writer = None,
             None => self.readers.unlink(who),
         }
+    }
+
+    /// Takes a reader's hold back, and gives a ticket out for it to write.
+    pub(crate) fn step_back(&mut self, who: u32)
+        requires below { who < self.old.room }
+        requires held { Has (hold_of self.old who) }
+        ensures stepped { self.new ≡ stepped_back who self.old }
+    {
+        self.release(who);
+        self.queue(who, Wish::Write);
     }
 
     /// Grants the first ticket, if it can be.

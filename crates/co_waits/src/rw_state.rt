@@ -130,8 +130,7 @@ impl RwState {
                 woken: None,
             }
         } else {
-            self.register.release(who);
-            self.register.queue(who, Wish::Write);
+            self.register.step_back(who);
             let woken = self.register.wake_one();
             Moved {
                 answer: RwAnswer::Queued,

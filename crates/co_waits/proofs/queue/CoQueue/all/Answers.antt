@@ -10,8 +10,8 @@ loop-first-init c =
 
 pub loop-first-smaller : goal.loop-first-smaller
 loop-first-smaller c =
-    takes_fewer c.args.self.now c.loop-first.self-inside.waiters c.unlink.new.self c.loop-first.first c.in-Some.who c.loop-first.taken c.args.out.now c.loop-first.out c.loop-first.invariant c.in-Some.is c.unlink.ensures.items
+    takes_fewer c.args.self.now c.loop-first.self-inside.waiters c.unlink.new.self c.loop-first.first c.in-Some.waiter c.loop-first.taken c.args.out.now c.loop-first.out c.loop-first.invariant c.in-Some.is c.unlink.ensures.items
 
 pub loop-first-preserved : goal.loop-first-preserved
 loop-first-preserved c =
-    takes_more c.args.self.now c.loop-first.self-inside.waiters c.unlink.new.self c.loop-first.first c.first-first-in-Some.result c.in-Some.who c.loop-first.taken c.args.out.now c.loop-first.out c.loop-first.invariant c.in-Some.is c.unlink.ensures.items c.unlink.ensures.room c.first-first-in-Some.ensures.first c.first-first-in-Some.ensures.linked
+    takes_more c.args.self.now c.loop-first.self-inside.waiters c.unlink.new.self c.loop-first.first c.first-first-in-Some.result c.in-Some.waiter c.loop-first.taken c.args.out.now c.loop-first.out c.loop-first.invariant c.in-Some.is c.unlink.ensures.items c.unlink.ensures.room c.first-first-in-Some.ensures.first c.first-first-in-Some.ensures.linked

@@ -3,15 +3,9 @@ use Rattle.aio_model.specs.declared.holds.Hold.TheVariants.{Writes}
 use Rattle.aio_model.specs.Readers.{Readers, ReadersWriter, hold_of}
 use Rattle.aio_model.specs.Holds.{Has, after_wake, IsSettled}
 use Rattle.aio_model.specs.RwTable.{released, without_holder, with_reader, downgraded, wake_one}
-use Rattle.aio_model.proofs.Holding.{the_writer, released-own, downgraded_settles, downgraded-others}
+use Rattle.aio_model.proofs.Holding.{the_writer, downgraded_settles, downgraded-others}
 use Rattle.co_waits.specs.Registers.{readers_in}
 use Rattle.co_waits.proofs.rw_state.RwState.downgrade.Goals as goal
-
-pub read-requires-clause-free : goal.read-requires-clause-free
-read-requires-clause-free c =
-    let state = c.self.inside.register in
-    let has : Has (hold_of state c.args.who) = subst Has (sym (rw (← c.self.view_is) at c.requires.writes)) tt in
-    ap (λ (s : ReadersWriter). hold_of s c.args.who) c.release.ensures.released ∙ released-own state c.self.invariant.orderly c.args.who has
 
 pub invariant_of-self : goal.invariant_of-self
 invariant_of-self c =
