@@ -22,3 +22,8 @@ pub mod Entering
 pub mod HandlerLists
 mod HandlerRows
 mod TimerRows
+pub mod Granted
+pub mod Orderly
+pub mod Holding
+pub mod Settling
+mod RwRows

@@ -24,3 +24,6 @@ pub mod HandlerCalls
 pub mod HandlerStates
 pub mod TimerCalls
 pub mod TimerStates
+pub mod Readers
+pub mod Holds
+pub mod RwTable

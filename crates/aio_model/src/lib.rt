@@ -8,6 +8,7 @@ mod commits;
 mod flags;
 mod handler_calls;
 mod handler_states;
+mod holds;
 mod kinds;
 mod laws;
 mod loop_replies;
@@ -26,6 +27,7 @@ pub use commits::{Commit, Why};
 pub use flags::Flags;
 pub use handler_calls::{Handler, HandlerCall};
 pub use handler_states::{HandlerState, handler_state};
+pub use holds::{Hold, RwAnswer, Wish};
 pub use kinds::Kind;
 pub use laws::{
     a_deleted_one_never_runs, a_legal_history_cut_anywhere_is_legal,
