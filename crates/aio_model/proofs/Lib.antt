@@ -22,3 +22,4 @@ pub mod Entering
 pub mod HandlerLists
 mod HandlerRows
 mod TimerRows
+pub mod Coroutines
