@@ -14,7 +14,8 @@ use Rattle.co_schedule.specs.Rule.{IsOwed, Owes, Knows, Stands}
 use Rattle.co_schedule.specs.Slots.{Kept}
 use Rattle.co_schedule.specs.Standing.{done, HeadIsLoaded, NextIsStored}
 use Rattle.co_schedule.specs.Plays.{head_loaded, next_stored}
-use Rattle.co_schedule.proofs.Histories.{is_free, place_below, scheduled_alone}
+use Rattle.aio_model.proofs.Coroutines.{is_free}
+use Rattle.co_schedule.proofs.Histories.{place_below, scheduled_alone}
 use Rattle.co_schedule.proofs.Reading.{read_here, read_else}
 use Rattle.co_schedule.proofs.Keeping.{each-unreverse, walks_kept, knows_kept, owed_apart, load_stands, slots_kept}
 

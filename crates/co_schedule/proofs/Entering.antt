@@ -17,7 +17,8 @@ use Rattle.co_schedule.specs.Rule.{IsOwed, IsHeld, Walks, Knows, Stands}
 use Rattle.co_schedule.specs.Slots.{is_at_hand, IsVacant, HasState, Holds, SlotsStand, Kept}
 use Rattle.co_schedule.specs.Standing.{done, Opens, Enters}
 use Rattle.co_schedule.specs.Plays.{opened, entered}
-use Rattle.co_schedule.proofs.Histories.{is_free, place_here, place_else, place_below, first_is_pushed}
+use Rattle.aio_model.proofs.Coroutines.{is_free}
+use Rattle.co_schedule.proofs.Histories.{place_here, place_else, place_below, first_is_pushed}
 use Rattle.co_schedule.proofs.Reading.{read_here, read_else}
 use Rattle.co_schedule.proofs.Keeping.{each_all, walks_kept, owes_kept, knows_kept, no_other_home, load_stands, slots_change}
 use Rattle.co_schedule.proofs.Taking.{walked_all}

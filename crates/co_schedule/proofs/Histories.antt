@@ -10,14 +10,10 @@ use Rattle.aio_chain.specs.LinkList.{contains, IsEachOnce}
 use Rattle.aio_chain.proofs.Chains.{Each}
 use Rattle.aio_chain.proofs.Contained.{length-le_room}
 use Rattle.aio_model.specs.declared.causes.Cause.{Cause}
-use Rattle.aio_model.specs.CoroutineHistory.{Entry, Schedule, Push, Enter, History, Place, Free, Scheduled, Pushed, pushed, place_of, queue_of, MayFollow, IsLegal, pushed_of, entered_of, IsInOrder}
+use Rattle.aio_model.specs.CoroutineHistory.{Entry, Schedule, Push, Enter, History, Place, Free, Scheduled, Pushed, pushed, place_of, queue_of, MayFollow, IsLegal}
+use Rattle.aio_model.proofs.Coroutines.{is_free}
 
 -- Places.
-
-abbrev pub is_free : Place → Bool
-is_free Free = true
-is_free (Scheduled s g) = false
-is_free (Pushed s g) = false
 
 abbrev pub is_pushed : Place → Bool
 is_pushed Free = false
@@ -176,17 +172,3 @@ queue_few n h legal =
         let here : times_of x (x ∷ xs) ≡ 1 + times_of x xs = rw same refl in
         let one = most x in
         (not_in x xs (omega arith), each_once xs (λ c. let more = most c in omega arith))
-
--- The law of order.
-pub in_order : IsInOrder
-in_order n [] legal = refl
-in_order n (Schedule c cause given s ∷ P) legal = in_order n P legal.1
-in_order n (Push c s ∷ P) legal =
-    ap (λ (l : List ℕ). l ++ c ∷ []) (in_order n P legal.1) ∙ append_assoc (entered_of P) (queue_of P) (c ∷ [])
-in_order n (Enter c ∷ P) legal =
-    in_order n P legal.1 ∙ ap (λ (l : List ℕ). entered_of P ++ l) (queue_head P c legal.0) ∙ sym (append_assoc (entered_of P) (c ∷ []) (drop 1 (queue_of P)))
-
--- what is older than any entry of a legal history is legal
-pub legal_cut : (n : ℕ) (newer older : History) → IsLegal n (newer ++ older) → IsLegal n older
-legal_cut n [] older h = h
-legal_cut n (e ∷ newer) older h = legal_cut n newer older h.1

@@ -4,25 +4,20 @@ use mathlib.Core.Option.{some, none}
 use lib.ListN.{get_elem?}
 use Rattle.atomic_table.specs.Table.{Me, Step, keeps, step, Allows}
 use Rattle.atomic_table.proofs.Lists.{set_again}
-use Rattle.table_seats.specs.Seats.{Told, IsPart, AreParts}
-use Rattle.table_seats.specs.Dividing.{longer_of}
-use Rattle.table_seats.proofs.Joining.{told_parts}
-use Rattle.aio_model.specs.CoroutineHistory.{Entry, IsLegal}
+use Rattle.table_seats.specs.Seats.{Told, longer_of, AreParts}
+use Rattle.table_seats.specs.Calls.{IsJoined}
+use Rattle.table_seats.proofs.Joining.{joined_of}
+use Rattle.aio_model.specs.CoroutineHistory.{Entry, seat_of, IsLegal}
 use Rattle.co_schedule.specs.Words.{head_at}
 use Rattle.co_schedule.specs.Known.{Known}
 use Rattle.co_schedule.specs.Rule.{Stands}
 use Rattle.co_schedule.specs.Slots.{SlotsStand, Kept}
-use Rattle.co_schedule.proofs.Histories.{legal_cut}
+use Rattle.aio_model.proofs.Coroutines.{legal_cut}
 use Rattle.co_schedule.proofs.Keeping.{loaded_words}
-
-pub record IsJoined (n : ℕ) (told : Told Entry) : Type 0 where
-  pub stayed : IsPart told.staying (longer_of told.staying told.joining)
-  pub joined : IsPart told.joining (longer_of told.staying told.joining)
-  pub legal : IsLegal n (longer_of told.staying told.joining)
 
 abbrev pub learned : {S : Type 0} → Step S → Me S Known → ℕ → Me S Known → Type 0
 learned step before found after =
-    (after ≡ before) × ((told : Told Entry) → before.0.told ≡ Some told → IsJoined before.0.coroutines told)
+    (after ≡ before) × ((told : Told Entry) → before.0.told ≡ Some told → IsJoined seat_of (IsLegal before.0.coroutines) told (longer_of told.staying told.joining))
 
 module _ {S : Type 0} (given_in : S → Bool) (IsOf : S → Type 0) where
   pub learn_allowed : (n slots id : ℕ) (me : Me S Known) → 0 < me.0.count → Allows (Kept given_in IsOf n) slots id me head_at (λ k. k) (learned (step slots head_at 0 0 none) me)
@@ -34,5 +29,4 @@ module _ {S : Type 0} (given_in : S → Bool) (IsOf : S → Type 0) where
       let sized : v.coroutines ≡ n = (stand.knows id v at).coroutines_are numbered in
       let loaded : Stands n h (set s.words head_at (slice_index s.words head_at)) s.views = subst (λ ws. Stands n h ws s.views) (sym (loaded_words s.words head_at)) stand in
       (v, keeps, tt, (h, subst (λ vs. Stands n h (set s.words head_at (slice_index s.words head_at)) vs) (sym same) loaded, subst (λ vs. SlotsStand given_in IsOf n h s.homes vs) (sym same) kept.2), (refl, λ told eq.
-        let parts = told_parts h told (subst (AreParts h) eq (stand.seats.each id v at).told_of) in
-        record { stayed = parts.0; joined = parts.1; legal = subst (λ k. IsLegal k (longer_of told.staying told.joining)) (sym sized) (legal_cut n parts.2.0 (longer_of told.staying told.joining) (subst (IsLegal n) parts.2.1 stand.legal)) }))
+        subst (λ k. IsJoined seat_of (IsLegal k) told (longer_of told.staying told.joining)) (sym sized) (joined_of seat_of (IsLegal n) h told (legal_cut n) stand.legal (subst (AreParts seat_of h) eq (stand.seats.each id v at).told_of))))

@@ -19,7 +19,8 @@ use Rattle.co_schedule.specs.Rule.{IsOwed, Knows, Stands}
 use Rattle.co_schedule.specs.Slots.{is_at_hand, IsVacant, Holds, SlotsStand, Kept}
 use Rattle.co_schedule.specs.Standing.{done, Makes, Schedules, Looks}
 use Rattle.co_schedule.specs.Plays.{marked}
-use Rattle.co_schedule.proofs.Histories.{is_free, place_here, place_else}
+use Rattle.aio_model.proofs.Coroutines.{is_free}
+use Rattle.co_schedule.proofs.Histories.{place_here, place_else}
 use Rattle.co_schedule.proofs.Reading.{read_here, read_else}
 use Rattle.co_schedule.proofs.Keeping.{each_all, walks_kept, knows_kept, load_stands, slots_change, slots_kept}
 

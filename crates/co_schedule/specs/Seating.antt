@@ -1,7 +1,7 @@
 -- How what a seat knows is cut in two and put together.
 use Rattle.std.specs.Prelude.{◌+◌, ◌-◌, ℕ, if◌then◌else◌, None, Some, []}
 use Rattle.table_seats.specs.Seats.{owns, home, numbers_in}
-use Rattle.table_seats.specs.Dividing.{front_part, back_part, joined_part, longer_of}
+use Rattle.table_seats.specs.Dividing.{front_part, back_part, joined_part}
 use Rattle.aio_model.specs.CoroutineHistory.{seat_of}
 use Rattle.co_schedule.specs.Known.{AtRest, empty_stage, Known, part_of, numbers_of}
 
