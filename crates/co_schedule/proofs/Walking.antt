@@ -1,10 +1,8 @@
 -- The walk over what was taken, beside the vector that it fills.
-use Rattle.std.proofs.Common.{◌≡◌, ℕ, ◌+◌, ◌<◌, ◌≤◌, Option, None, List, [], ◌∷◌, ◌++◌, length, length-append, reverse, refl, sym, ap, ◌∙◌, subst, arith}
-use Rattle.std.proofs.lemmas.List.{reverse-append}
+use Rattle.std.proofs.Common.{◌≡◌, ℕ, ◌+◌, ◌<◌, ◌≤◌, None, List, [], ◌∷◌, ◌++◌, length, refl, sym, ap, ◌∙◌, subst, arith}
 use Rattle.aio_model.specs.CoroutineHistory.{queue_of}
 use Rattle.co_schedule.specs.Known.{Known}
 use Rattle.co_schedule.specs.Standing.{Takes, Follows, Walked, TakesAll}
-use Rattle.co_schedule.proofs.Taking.{length-reverse}
 
 -- the walk has come so far from where the list was taken
 pub record IsWalking (start now : Known) (items : List ℕ) (word : ℕ) : Type 0 where
@@ -15,7 +13,7 @@ pub record IsWalking (start now : Known) (items : List ℕ) (word : ℕ) : Type 
   pub walked : Walked swapped now cos
   pub same : now ≡ record swapped { did = now.did; stage = record swapped.stage { word = now.stage.word; run = now.stage.run } }
   pub at : now.stage.word ≡ word
-  pub items_are : reverse items ≡ now.stage.run
+  pub items_are : items ≡ now.stage.run
   pub below : word ≤ start.coroutines
   pub more : 0 < word → length now.stage.run < length now.stage.taken
   pub ends : word ≡ 0 → now.stage.taken ≡ now.stage.run
@@ -36,7 +34,7 @@ begins_walking start now found takes =
       ends = λ over. takes.ends over ∙ sym (ap (λ (k : Known). k.stage.run) takes.rest);
     }
 
-pub walking_on : (start now next : Known) (items : List ℕ) (word c found : ℕ) → IsWalking start now items word → c + 1 ≡ word → Follows c found now next → IsWalking start next (items ++ c ∷ []) found
+pub walking_on : (start now next : Known) (items : List ℕ) (word c found : ℕ) → IsWalking start now items word → c + 1 ≡ word → Follows c found now next → IsWalking start next (c ∷ items) found
 walking_on start now next items word c found h index follows =
     let same : next ≡ record now { did = next.did; stage = record now.stage { word = next.stage.word; run = next.stage.run } } = sides follows in
     let sized : now.coroutines ≡ start.coroutines = ap (λ (k : Known). k.coroutines) h.same ∙ ap (λ (k : Known). k.coroutines) h.takes.rest in
@@ -48,7 +46,7 @@ walking_on start now next items word c found h index follows =
       walked = (now, found, h.walked, follows);
       same = same ∙ ap (λ (k : Known). record k { did = next.did; stage = record k.stage { word = next.stage.word; run = next.stage.run } }) h.same;
       at = ap (λ (k : Known). k.stage.word) follows.rest;
-      items_are = reverse-append items (c ∷ []) ∙ ap (λ (l : List ℕ). c ∷ l) h.items_are ∙ sym (ap (λ (k : Known). k.stage.run) follows.rest);
+      items_are = ap (λ (l : List ℕ). c ∷ l) h.items_are ∙ sym (ap (λ (k : Known). k.stage.run) follows.rest);
       below = subst (λ k. found ≤ k) sized follows.below;
       more = follows.more;
       ends = follows.ends;
@@ -78,6 +76,10 @@ has_room start now items word h full =
     let taken : now.stage.taken ≡ h.swapped.stage.taken = ap (λ (k : Known). k.stage.taken) h.same in
     let lens : length now.stage.taken ≡ length h.swapped.stage.taken = ap length taken in
     let few = h.takes.few in
-    let run : length (reverse items) ≡ length now.stage.run = ap length h.items_are in
-    let back = length-reverse items in
+    let run : length items ≡ length now.stage.run = ap length h.items_are in
     omega arith
+
+-- nothing came out meanwhile
+pub hand_free : (start now : Known) (items : List ℕ) (word : ℕ) → IsWalking start now items word → start.stage.hand ≡ None → now.stage.hand ≡ None
+hand_free start now items word h free =
+    ap (λ (k : Known). k.stage.hand) h.same ∙ ap (λ (k : Known). k.stage.hand) h.takes.rest ∙ free

@@ -1,19 +1,31 @@
-//! Calls, of several steps.
+//! Scheduling a coroutine into its home, from any thread, after aio_co_schedule of QEMU's util/async.c. The mark, whose compare admits
+//! one scheduler at a time, is that of QEMU's `scheduled`; it stands in the table of the home.
 ghost use Rattle.std.specs.Prelude.{◌≡◌, ◌≢◌, ◌<◌, ◌≤◌, ◌+◌, ℕ, ◌==◌, MatchBool, MatchResult, MatchOption, [], ◌∷◌, drop, None, Some, true, false, Option};
 ghost use Rattle.co_schedule.specs.Words.{mark_at};
 ghost use Rattle.co_schedule.specs.Known.{MarkCompare, AtRest, Marked, HeadLoaded, Linked};
-ghost use Rattle.co_schedule.specs.Standing.{Looks, Begins, PushesOnce, MissesOnce, PushesAtLast, SchedulesAtLast};
+ghost use Rattle.co_schedule.specs.Standing.{Looks, PushesOnce, MissesOnce, PushesAtLast};
 ghost use Rattle.co_schedule.specs.Parcels.{given_in, IsOf, IsStateOf, has_some};
+ghost use Rattle.co_schedule.specs.Calls.{IsSeatOf, HasScheduled};
 
-use aio_model::Cause;
-use co_state::Origin;
 use crate::parcel::Parcel;
 use crate::plays::Inner;
+use crate::seat::CoSeat;
 use crate::table::CoTable;
+use aio_model::Cause;
+use co_state::Origin;
 use std::sync::Wait;
 
+/// What a schedule answers that found a mark: the coroutine was scheduled and not entered since. Nothing was changed.
+#[derive(Debug, PartialEq, Eq, Drop)]
+pub struct Already<C> {
+    /// One more than the number of the seat that scheduled it.
+    pub mark: u64,
+    /// What the caller had given.
+    pub state: Option<C>,
+}
+
 /// What comes out of a slot.
-fn state_of<C>(parcel: Option<Parcel<C>>) -> Option<C>
+pub(crate) fn state_of<C>(parcel: Option<Parcel<C>>) -> Option<C>
     ensures { MatchOption parcel (result ≡ None) (λ p. result ≡ p.state) }
 {
     match parcel {
@@ -32,24 +44,6 @@ fn is_given<C>(state: &Option<C>) -> bool
 }
 
 impl<C: Origin + Drop> CoTable<C> {
-    /// Enters the first coroutine of the run: its state comes out, and then its mark is cleared.
-    pub(crate) fn begin_first(&self, inner: &mut Inner<C>, co: u32) -> Option<C>
-        requires table { inner.old.table_id ≡ self.now.table }
-        requires numbers { (inner.old.me.0.known.first ≡ 64) × (inner.old.me.0.known.count ≡ 1) }
-        requires below { co < self.now.coroutines }
-        requires run { (inner.old.me.0.known.stage.run ≡ co ∷ drop 1 inner.old.me.0.known.stage.run) × (inner.old.me.0.known.stage.word ≡ 0) × (inner.old.me.0.known.stage.hand ≡ None) }
-        requires origin { inner.old.me.0.origin ≡ self.now.origin }
-        requires slots { inner.old.me.1 ≡ [] }
-        ensures seat { (inner.new.table_id ≡ inner.old.table_id) × (inner.new.id ≡ inner.old.id) × (inner.new.me.1 ≡ []) }
-        ensures of { IsStateOf C.is_of self.now.origin result }
-        ensures begun { Begins co (has_some result) (drop 1 inner.old.me.0.known.stage.run) inner.old.me.0.known inner.new.me.0.known }
-    {
-        self.load_mark(inner, co);
-        let parcel = self.table.shared.exchange(inner, co as usize, None);
-        self.clear_mark(inner, co);
-        state_of(parcel)
-    }
-
     /// One more try to push.
     pub(crate) fn try_to_push(&self, inner: &mut Inner<C>, co: u32, given: bool) -> bool
         requires table { inner.old.table_id ≡ self.now.table }
@@ -84,24 +78,56 @@ impl<C: Origin + Drop> CoTable<C> {
     }
 
     /// Schedules the coroutine, where it has no mark, with its state, if it has one.
-    pub(crate) fn schedule_inner<R: Wait>(&self, rt: &R, inner: &mut Inner<C>, co: u32, own: u64, cause: Cause, state: Option<C>) -> Result<(), (u64, Option<C>)>
+    fn schedule_inner<R: Wait>(
+        &self,
+        rt: &R,
+        inner: &mut Inner<C>,
+        co: u32,
+        own: u64,
+        cause: Cause,
+        state: Option<C>,
+    ) -> Result<(), Already<C>>
         requires table { inner.old.table_id ≡ self.now.table }
         requires numbers { (0 < inner.old.me.0.known.count) × (own ≡ inner.old.me.0.known.first + 1) }
         requires below { co < self.now.coroutines }
         requires rest { inner.old.me.0.known.phase ≡ AtRest }
         requires slots { inner.old.me.1 ≡ [] }
         requires state { IsStateOf C.is_of self.now.origin state }
-        ensures seat { (inner.new.table_id ≡ inner.old.table_id) × (inner.new.id ≡ inner.old.id) × (inner.new.me.1 ≡ []) }
-        ensures scheduled { MatchResult result (λ _. SchedulesAtLast co cause (has_some state) inner.old.me.0.known inner.new.me.0.known) (λ already. (already.0 ≢ 0) × (already.1 ≡ state) × Looks MarkCompare (mark_at co) already.0 inner.old.me.0.known inner.new.me.0.known) }
+        ensures seat { (inner.new.table_id ≡ inner.old.table_id) × (inner.new.id ≡ inner.old.id) × (inner.new.me.0.origin ≡ inner.old.me.0.origin) × (inner.new.me.1 ≡ []) }
+        ensures scheduled { MatchResult result (λ _. HasScheduled co cause (has_some state) inner.old.me.0.known inner.new.me.0.known) (λ already. (already.mark ≢ 0) × (already.state ≡ state) × Looks MarkCompare (mark_at co) already.mark inner.old.me.0.known inner.new.me.0.known) }
     {
         let given = is_given(&state);
         let parcel = Some(Parcel { cause, state });
         let found = self.compare_mark(inner, co, own, &parcel);
         if found != 0 {
-            return Err((found, state_of(parcel)));
+            return Err(Already {
+                mark: found,
+                state: state_of(parcel),
+            });
         }
         let _empty = self.table.shared.exchange(inner, co as usize, parcel);
         self.push(rt, inner, co, given);
         Ok(())
+    }
+
+    /// Schedules a coroutine into the home of this table, which enters it after all that were pushed before. A state that is given
+    /// goes with it. Where the coroutine has a mark, since it was scheduled and not entered yet, the state comes back and nothing
+    /// was changed. Any thread, with a seat of its own; it may try again as long as other threads push. It takes no memory.
+    pub fn schedule<R: Wait>(
+        &self,
+        rt: &R,
+        seat: &mut CoSeat<C>,
+        co: u32,
+        cause: Cause,
+        state: Option<C>,
+    ) -> Result<(), Already<C>>
+        requires seat { IsSeatOf self.now seat.old }
+        requires below { co < self.now.coroutines }
+        requires state { IsStateOf C.is_of self.now.origin state }
+        ensures seat { IsSeatOf self.now seat.new }
+        ensures scheduled { MatchResult result (λ _. HasScheduled co cause (has_some state) seat.old.known seat.new.known) (λ already. (already.mark ≢ 0) × (already.state ≡ state) × Looks MarkCompare (mark_at co) already.mark seat.old.known seat.new.known) }
+    {
+        let own = u64::from(seat.first) + 1;
+        self.schedule_inner(rt, &mut seat.inner, co, own, cause, state)
     }
 }
