@@ -10,14 +10,11 @@ use Rattle.table_seats.proofs.Joining.{joined_of}
 use Rattle.aio_model.specs.CoroutineHistory.{Entry, seat_of, IsLegal}
 use Rattle.co_schedule.specs.Words.{head_at}
 use Rattle.co_schedule.specs.Known.{Known}
+use Rattle.co_schedule.specs.Plays.{learned}
 use Rattle.co_schedule.specs.Rule.{Stands}
 use Rattle.co_schedule.specs.Slots.{SlotsStand, Kept}
 use Rattle.aio_model.proofs.Coroutines.{legal_cut}
 use Rattle.co_schedule.proofs.Keeping.{loaded_words}
-
-abbrev pub learned : {S : Type 0} → Step S → Me S Known → ℕ → Me S Known → Type 0
-learned step before found after =
-    (after ≡ before) × ((told : Told Entry) → before.0.told ≡ Some told → IsJoined seat_of (IsLegal before.0.coroutines) told (longer_of told.staying told.joining))
 
 module _ {S : Type 0} (given_in : S → Bool) (IsOf : S → Type 0) where
   pub learn_allowed : (n slots id : ℕ) (me : Me S Known) → 0 < me.0.count → Allows (Kept given_in IsOf n) slots id me head_at (λ k. k) (learned (step slots head_at 0 0 none) me)

@@ -8,3 +8,4 @@ pub mod Parcels
 pub mod Calls
 pub mod Held
 pub mod Seating
+pub mod Posting

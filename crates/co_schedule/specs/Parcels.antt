@@ -23,3 +23,8 @@ cause_in (Some parcel) = parcel.cause
 abbrev pub IsOf : {C O : Type 0} → (C → O → Type 0) → O → Option (Parcel C) → Type 0
 IsOf is_of origin None = Unit {0}
 IsOf is_of origin (Some parcel) = IsStateOf is_of origin parcel.state
+
+-- the same, where the origin is known
+abbrev pub IsOfSome : {C O : Type 0} → (C → O → Type 0) → Option O → Option (Parcel C) → Type 0
+IsOfSome is_of None parcel = Unit {0}
+IsOfSome is_of (Some origin) parcel = IsOf is_of origin parcel

@@ -3,8 +3,11 @@ use Rattle.std.specs.Prelude.{◌≡◌, ℕ, ◌+◌, ◌==◌, Bool, false, So
 use mathlib.Core.Option.{some}
 use Rattle.atomic_table.specs.Table.{Me, Step, rest}
 use Rattle.aio_model.specs.declared.causes.Cause.{Cause}
-use Rattle.co_schedule.specs.Words.{mark_at}
-use Rattle.co_schedule.specs.Known.{MarkCompare, Marked, HeadLoaded, Linked, Known}
+use Rattle.aio_model.specs.CoroutineHistory.{Entry, seat_of, place_of, IsLegal}
+use Rattle.table_seats.specs.Seats.{Told, longer_of}
+use Rattle.table_seats.specs.Calls.{IsJoined}
+use Rattle.co_schedule.specs.Words.{mark_at, mark_of}
+use Rattle.co_schedule.specs.Known.{MarkCompare, MarkLoad, Marked, HeadLoaded, Linked, Known}
 use Rattle.co_schedule.specs.Standing.{Schedules, Looks, HeadIsLoaded, NextIsStored, Pushes, Misses, Takes, Follows, Opens, Enters}
 
 module _ {S : Type 0} where
@@ -31,6 +34,16 @@ module _ {S : Type 0} where
   abbrev pub entered : Step S → Me S Known → ℕ → Me S Known → Type 0
   entered step before found after =
       (after.1 ≡ rest before.1) × ((c : ℕ) (more : List ℕ) → before.0.stage.hand ≡ Some c → before.0.stage.run ≡ c ∷ more → Enters c more before.0 after.0)
+
+  -- what two joined seats had seen
+  abbrev pub learned : Step S → Me S Known → ℕ → Me S Known → Type 0
+  learned step before found after =
+      (after ≡ before) × ((told : Told Entry) → before.0.told ≡ Some told → IsJoined seat_of (IsLegal before.0.coroutines) told (longer_of told.staying told.joining))
+
+  -- who owns all has seen all, so a mark tells where its coroutine stands in what was seen
+  abbrev pub mark_seen : Step S → Me S Known → ℕ → Me S Known → Type 0
+  mark_seen step before found after =
+      (after.1 ≡ before.1) × ((c : ℕ) → step.word ≡ mark_at c → Looks MarkLoad (mark_at c) found before.0 after.0 × (found ≡ mark_of (place_of c before.0.seen)))
 
 module _ {S : Type 0} (cause_in : S → Cause) (given_in : S → Bool) where
   -- a compare that succeeds takes the slot, in which there is no state

@@ -24,3 +24,16 @@ impl<C: Origin> Model for CoHome<C> {
 
     ghost invariant = { λ h. (h.inner.me.1 ≡ []) × (h.inner.me.0.known.first ≡ 64) × (h.inner.me.0.known.count ≡ 1) × (h.inner.me.0.known.phase ≡ AtRest) × (h.inner.me.0.known.stage.word ≡ 0) × (h.inner.me.0.known.stage.hand ≡ None) × (h.inner.me.0.known.stage.run ≡ h.inner.me.0.known.stage.taken) × (are_within h.inner.me.0.known.coroutines h.inner.me.0.known.stage.taken ≡ true) };
 }
+
+impl<C: Origin> CoHome<C> {
+    pub(crate) fn of(inner: Inner<C>) -> CoHome<C>
+        requires slots { inner.me.1 ≡ [] }
+        requires number { (inner.me.0.known.first ≡ 64) × (inner.me.0.known.count ≡ 1) }
+        requires rest { inner.me.0.known.phase ≡ AtRest }
+        requires over { (inner.me.0.known.stage.word ≡ 0) × (inner.me.0.known.stage.hand ≡ None) × (inner.me.0.known.stage.run ≡ inner.me.0.known.stage.taken) }
+        requires within { are_within inner.me.0.known.coroutines inner.me.0.known.stage.taken ≡ true }
+        ensures { (result.table ≡ inner.table_id) × (result.known ≡ inner.me.0.known) × (result.origin ≡ inner.me.0.origin) }
+    {
+        CoHome { inner }
+    }
+}

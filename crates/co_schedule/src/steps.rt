@@ -94,7 +94,7 @@ impl<C: Origin + Drop> CoTable<C> {
         requires numbers { (inner.old.me.0.known.first ≡ 64) × (inner.old.me.0.known.count ≡ 1) }
         requires below { co < self.now.coroutines }
         requires run { (inner.old.me.0.known.stage.run ≡ co ∷ drop 1 inner.old.me.0.known.stage.run) × (inner.old.me.0.known.stage.word ≡ 0) × (inner.old.me.0.known.stage.hand ≡ None) }
-        requires origin { inner.old.me.0.origin ≡ self.now.origin }
+        requires origin { inner.old.me.0.origin ≡ Some self.now.origin }
         ensures seat { (inner.new.table_id ≡ inner.old.table_id) × (inner.new.id ≡ inner.old.id) × (inner.new.me.0.origin ≡ inner.old.me.0.origin) }
         ensures told { (x : Option (Parcel C)) × IsOf C.is_of self.now.origin x × (inner.new.me.1 ≡ (co, x) ∷ inner.old.me.1) × Opens co result (given_in x) inner.old.me.0.known inner.new.me.0.known }
     {

@@ -9,6 +9,7 @@ use std::marker::Model;
 
 /// The table of the coroutines that are scheduled into one home. Contracts see which table it is, how many coroutines it has,
 /// and their origin.
+#[derive(Drop)]
 pub struct CoTable<C: Origin> {
     pub(crate) table: Table<Option<Parcel<C>>, View<C::Source>, About<C>, CoRule<C>, Global>,
     pub(crate) coroutines: u32,

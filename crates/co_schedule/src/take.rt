@@ -51,7 +51,7 @@ impl<C: Origin + Drop> CoTable<C> {
         requires run { (inner.old.me.0.known.stage.run ≡ co ∷ drop 1 inner.old.me.0.known.stage.run) × (inner.old.me.0.known.stage.word ≡ 0) × (inner.old.me.0.known.stage.hand ≡ None) }
         requires taken { inner.old.me.0.known.stage.run ≡ inner.old.me.0.known.stage.taken }
         requires within { are_within inner.old.me.0.known.coroutines inner.old.me.0.known.stage.taken ≡ true }
-        requires origin { inner.old.me.0.origin ≡ self.now.origin }
+        requires origin { inner.old.me.0.origin ≡ Some self.now.origin }
         requires slots { inner.old.me.1 ≡ [] }
         ensures seat { (inner.new.table_id ≡ inner.old.table_id) × (inner.new.id ≡ inner.old.id) × (inner.new.me.0.origin ≡ inner.old.me.0.origin) × (inner.new.me.1 ≡ []) }
         ensures of { IsStateOf C.is_of self.now.origin result }

@@ -7,10 +7,11 @@ pub struct View<O> {
 }
 
 impl<O> Model for View<O> {
+    ghost use Rattle.std.specs.Prelude.{Some};
     ghost use Rattle.co_schedule.specs.Held.{Held};
     ghost use Rattle.co_schedule.specs.Known.{Known, first_known};
 
     ghost Value = { Held O };
 
-    ghost view = { λ v. record { known = first_known 0; origin = v.origin.value } };
+    ghost view = { λ v. record { known = first_known 0; origin = Some v.origin.value } };
 }
