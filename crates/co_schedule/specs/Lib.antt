@@ -9,3 +9,4 @@ pub mod Calls
 pub mod Held
 pub mod Seating
 pub mod Posting
+pub mod Closing

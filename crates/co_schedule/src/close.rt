@@ -7,6 +7,7 @@ ghost use Rattle.co_schedule.specs.Known.{MarkLoad};
 ghost use Rattle.co_schedule.specs.Standing.{Looks};
 ghost use Rattle.co_schedule.specs.Seating.{joined_known, told_by};
 ghost use Rattle.co_schedule.specs.Calls.{IsSeatOf, AreFree, Ends, Leaves};
+ghost use Rattle.co_schedule.specs.Closing.{ClosesAs};
 
 use crate::built::CoBuilt;
 use crate::ends::{CoClosed, CoEnd};
@@ -67,5 +68,32 @@ impl<C: Origin + Drop> CoTable<C> {
         } = seat;
         self.join_inner(&mut inner, other);
         inner
+    }
+
+    fn end(self, home: CoHome<C>, seat: CoSeat<C>) -> Result<CoEnd<C>, (u32, CoBuilt<C>)>
+        requires home { IsSeatOf self home }
+        requires seat { IsSeatOf self seat }
+        requires numbers { (seat.known.first ≡ 0) × (seat.known.count ≡ 64) }
+        ensures { MatchResult result (λ end. Ends self home.known seat.known end) (λ left. Leaves left.0 self home.known seat.known left.1.table left.1.home left.1.seat) }
+    {
+        let mut inner = self.gather(home, seat);
+        match self.first_marked(&mut inner) {
+            Some(co) => Err((co, self.open(inner))),
+            None => Ok(CoEnd::of(inner)),
+        }
+    }
+
+    /// Ends the table, or answers the least coroutine that was scheduled and not entered since, with the table as it is. The seat owns
+    /// all numbers but the home's. It takes no memory.
+    pub fn close(self, home: CoHome<C>, seat: CoSeat<C>) -> CoClosed<C>
+        requires home { IsSeatOf self home }
+        requires seat { IsSeatOf self seat }
+        requires numbers { (seat.known.first ≡ 0) × (seat.known.count ≡ 64) }
+        ensures { ClosesAs self home.known seat.known result }
+    {
+        match self.end(home, seat) {
+            Ok(end) => CoClosed::Ended(end),
+            Err((co, built)) => CoClosed::Left(co, built),
+        }
     }
 }
