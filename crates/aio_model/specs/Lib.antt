@@ -27,3 +27,5 @@ pub mod TimerStates
 pub mod Readers
 pub mod Holds
 pub mod RwTable
+pub mod CoroutineHistory
+pub mod CoroutineLaws

@@ -4,7 +4,9 @@
 
 mod bottom_halves;
 mod bytes;
+mod causes;
 mod commits;
+mod coroutine_laws;
 mod flags;
 mod handler_calls;
 mod handler_states;
@@ -23,7 +25,12 @@ mod timer_calls;
 mod timer_states;
 
 pub use bytes::Bytes;
+pub use causes::Cause;
 pub use commits::{Commit, Why};
+pub use coroutine_laws::{
+    an_enter_between_two_schedules, an_older_part_of_a_legal_one_is_legal,
+    the_nth_entered_is_the_nth_pushed,
+};
 pub use flags::Flags;
 pub use handler_calls::{Handler, HandlerCall};
 pub use handler_states::{HandlerState, handler_state};

@@ -1,0 +1,61 @@
+-- A new table meets the rule, over a history with no entry.
+use Rattle.std.proofs.Common.{◌≡◌, ◌≢◌, Bool, false, ℕ, zero, suc, ◌+◌, ◌<◌, ◌≤◌, Option, None, Some, List, [], ◌∷◌, length, map, replicate, slice_index, refl, sym, subst, arith}
+use mathlib.Core.Option.{some, some-injective, some-ne-none}
+use lib.ListN.{get_elem?}
+use Rattle.atomic_table.specs.Table.{opening}
+use Rattle.table_seats.specs.Seats.{EachView, AreApart}
+use Rattle.aio_model.specs.CoroutineHistory.{seat_of}
+use Rattle.co_schedule.specs.Words.{head_at, mark_at, word_count}
+use Rattle.co_schedule.specs.Known.{Known, part_of, first_known}
+use Rattle.co_schedule.specs.Rule.{Knows, Stands}
+use Rattle.co_schedule.specs.Slots.{Kept}
+use Rattle.co_schedule.specs.Held.{Held, IsOfTable, AllOf}
+
+each_alone : {V : Type 0} (P : V → Type 0) (v : V) → P v → EachView P (v ∷ [])
+each_alone P v h zero u e = subst P (some-injective v u e) h
+each_alone P v h (suc n) u e = absurd (some-ne-none u (sym e))
+
+apart_alone : (v : Known) → AreApart seat_of part_of (v ∷ [])
+apart_alone v zero zero u x e f ne n own = absurd (ne refl)
+apart_alone v zero (suc j) u x e f ne n own = absurd (some-ne-none x (sym f))
+apart_alone v (suc i) j u x e f ne n own = absurd (some-ne-none u (sym e))
+
+abbrev pub zeros : ℕ → List ℕ
+zeros k = replicate k 0
+
+all_zero : (k i : ℕ) → slice_index (zeros k) i ≡ 0
+all_zero zero i = refl
+all_zero (suc k) zero = refl
+all_zero (suc k) (suc i) = all_zero k i
+
+length-zeros : (k : ℕ) → length (zeros k) ≡ k
+length-zeros zero = refl
+length-zeros (suc k) = let rest = length-zeros k in omega (arith, rest)
+
+at_home : {A : Type 0} (a : A) (k i : ℕ) → i < k → get_elem? (map some (replicate k a)) i ≡ some (some a)
+at_home a zero i low = absurd (omega arith)
+at_home a (suc k) zero low = refl
+at_home a (suc k) (suc i) low = at_home a k i (omega arith)
+
+pub opening_stands : (n : ℕ) → Stands n [] (zeros (word_count n)) (first_known n ∷ [])
+opening_stands n =
+    let v = first_known n in
+    record {
+      long = length-zeros (word_count n);
+      legal = tt;
+      seats = record {
+        each = each_alone _ v (record { seen_of = record { rest = []; longer = refl; none_missed = refl; mine_is = refl }; below = omega arith; told_of = tt });
+        apart = apart_alone v;
+        all_owned = refl;
+      };
+      marks = λ c low. all_zero (word_count n) (mark_at c);
+      taken = [];
+      stack = [];
+      queue = refl;
+      chain = all_zero (word_count n) head_at;
+      knows = each_alone _ v (record { coroutines_are = λ _. refl; active = λ q. absurd cc; owes = tt; walks = λ own. record { is = refl; rest = []; chain = refl; whole = refl; held = tt } });
+    }
+
+pub opening_kept : {P O : Type 0} (given_in : Option P → Bool) (IsOf : Option P → Type 0) (n : ℕ) (origin : O) → given_in None ≡ false → AllOf (Kept given_in IsOf n) origin (opening (zeros (word_count n)) (replicate n None) (record { known = first_known n; origin = Some origin }))
+opening_kept given_in IsOf n origin none_given =
+    (([], opening_stands n, record { vacant = λ c low free. (None, at_home None n c low, none_given); full = λ id u at own c low s given is. absurd cc }), each_alone _ _ (λ _. refl))

@@ -1,0 +1,12 @@
+pub mod Words
+pub mod Known
+pub mod Rule
+pub mod Standing
+pub mod Plays
+pub mod Slots
+pub mod Parcels
+pub mod Calls
+pub mod Held
+pub mod Seating
+pub mod Posting
+pub mod Closing

@@ -1,0 +1,17 @@
+use co_state::Origin;
+use chosen::Chosen;
+
+/// What a table is told when it is made.
+pub struct About<C: Origin> {
+    pub coroutines: u32,
+    pub origin: Chosen<C::Source>,
+}
+
+impl<C: Origin> Drop for About<C> {
+    fn drop(self) {
+        let Self {
+            coroutines: _,
+            origin: _,
+        } = self;
+    }
+}

@@ -1,0 +1,5 @@
+pub mod Entries
+pub mod Seats
+pub mod Splitting
+pub mod Joining
+pub mod Standing
