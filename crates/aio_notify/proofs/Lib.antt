@@ -1,2 +1,4 @@
 mod Looks
 mod Tested
+pub mod Ends
+pub mod Wholes
