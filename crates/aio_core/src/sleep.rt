@@ -1,5 +1,5 @@
 //! The steps by which home says that it is about to sleep, and that it is awake, after aio_poll of QEMU's util/aio-posix.c.
-ghost use Rattle.std.specs.Prelude.{◌≡◌, ℕ, [], length, true, ◌==◌};
+ghost use Rattle.std.specs.Prelude.{◌≡◌, ◌≤◌, ℕ, [], length, true, ◌==◌};
 ghost use Rattle.aio_core.specs.Known.{Scanning, Armed, NotifierLoad, empty_stage, is_running};
 ghost use Rattle.aio_core.specs.Words.{notifier_at};
 ghost use Rattle.aio_core.specs.Standing.{Looks};
@@ -111,7 +111,7 @@ impl<J: Job> LoopTable<J> {
     pub fn load_notifier(&self, home: &mut Home<J>) -> bool
         requires seat { IsSeatOf self.now home.old.seat }
         ensures seat { IsSeatOf self.now home.new.seat }
-        ensures step { (found : ℕ) × (result ≡ (found == 1)) × Looks NotifierLoad notifier_at found home.old.seat.known home.new.seat.known }
+        ensures step { (found : ℕ) × (found ≤ 1) × (result ≡ (found == 1)) × Looks NotifierLoad notifier_at found home.old.seat.known home.new.seat.known }
     {
         self.read_notifier(&mut home.seat) == 1
     }

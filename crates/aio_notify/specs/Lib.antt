@@ -4,3 +4,4 @@ pub mod Commits
 pub mod Setting
 pub mod Settling
 pub mod Settled
+pub mod Waiting

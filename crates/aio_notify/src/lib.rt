@@ -7,6 +7,7 @@
 mod events;
 mod loop_end;
 mod notification;
+mod parking;
 mod settling;
 mod sleeping;
 #[cfg(test)]
