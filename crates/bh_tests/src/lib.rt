@@ -7,6 +7,8 @@ mod enqueues;
 #[cfg(test)]
 mod one_shots;
 #[cfg(test)]
+mod placing_callbacks;
+#[cfg(test)]
 mod placings;
 #[cfg(test)]
 mod plain_loop;

@@ -4,6 +4,7 @@
 
 mod calls;
 mod part;
+mod placings;
 mod plain;
 mod shared;
 mod sleeps;
@@ -18,14 +19,16 @@ fn main(rt: HostRuntime) -> io::Result<()> {
         shared::one_handle(&rt, alloc)?;
         shared::many_handles(&rt, alloc)?;
         shared::one_shot(&rt, alloc)?;
-        return threads::two_threads(&rt, alloc);
+        threads::two_threads(&rt, alloc)?;
+        return Ok(());
     };
     match Part::of(word.as_str()) {
         Some(Part::Nothing) => Ok(()),
         Some(Part::OneHandle) => shared::one_handle(&rt, alloc),
         Some(Part::OneShot) => shared::one_shot(&rt, alloc),
         Some(Part::ManyHandles) => shared::many_handles(&rt, alloc),
-        Some(Part::TwoThreads) => threads::two_threads(&rt, alloc),
+        Some(Part::TwoThreads) => threads::two_threads_and_misses(&rt, alloc),
+        Some(Part::Placings) => placings::two_threads(&rt, alloc),
         Some(Part::PlainOne) => plain::one_handle(&rt, alloc),
         Some(Part::PlainMany) => plain::many_handles(&rt, alloc),
         Some(Part::Commits) => sleeps::over_an_empty_list(&rt, alloc),

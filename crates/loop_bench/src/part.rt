@@ -6,6 +6,8 @@ pub enum Part {
     OneShot,
     ManyHandles,
     TwoThreads,
+    /// Two threads place one-shots while the home polls.
+    Placings,
     /// The rounds of one handle on the plain loop of one thread.
     PlainOne,
     PlainMany,
@@ -24,6 +26,7 @@ impl Part {
             "once" => Some(Part::OneShot),
             "many" => Some(Part::ManyHandles),
             "threads" => Some(Part::TwoThreads),
+            "placings" => Some(Part::Placings),
             "plain-one" => Some(Part::PlainOne),
             "plain-many" => Some(Part::PlainMany),
             "commits" => Some(Part::Commits),

@@ -1,13 +1,16 @@
-//! Two threads schedule while the home polls.
+//! Two threads schedule while the home polls, until each has said by a handle of its own that it is done.
 ghost use Rattle.std.specs.Prelude.{◌≡◌, ◌<◌};
 ghost use Rattle.std.specs.Thread.{IsSync};
+ghost use Rattle.aio_model.specs.InFlight.{Announced as announced};
+ghost use Rattle.aio_core.specs.Calls.{IsSeatOf};
 ghost use Rattle.aio_core.specs.Known.{empty_stage};
 ghost use Rattle.aio_bh.specs.Ready.{IsReady};
 ghost use Rattle.aio_bh.specs.OneShots.{ServesHome};
 
-use crate::calls::{Calls, HANDLES};
-use aio_bh::{BottomHalves, LotBuilt, LotPool};
-use aio_core::{Built, Home, LoopTable, Seat};
+use crate::calls::HANDLES;
+use aio_bh::{BottomHalves, Call, LotBuilt, LotPool, Put, Runner, Turn};
+use aio_core::{Announced, Built, Home, LoopTable, Seat};
+use aio_model::Flags;
 use std::alloc::Global;
 use std::io;
 use std::sync::Wait;
@@ -16,81 +19,186 @@ use std::thread::{Threads, join};
 /// How often each of the two threads schedules a handle.
 const SCHEDULES: u32 = 1_000_000;
 
-/// How often home polls beside them.
-const POLLS: u32 = 50_000;
+/// The handles that the two threads schedule over and over stand before those by which they say that they are done.
+const SHARED: u32 = 62;
 
-/// Schedules one handle after another, and tells how many were not pending.
-fn schedule_all<R: Wait>(rt: &R, table: &LoopTable<u64>, seat: Seat<u64>, salt: u32) -> u64
-    requires ready { IsReady table.now seat }
-    requires handles { table.now.sizes.handles ≡ 64 }
-    requires salt { salt < 64 }
-{
-    let mut seat = seat;
-    let mut announced = 0u64;
-    for turn in 0..SCHEDULES {
-        let found = table.schedule(rt, &mut seat, (turn * 7 + salt) % HANDLES);
-        if !found.pending {
-            announced = announced.wrapping_add(1);
-        }
-    }
-    announced
+/// How many callbacks were called, and how many threads have said so that they are done.
+#[derive(Drop)]
+struct Called {
+    count: u64,
+    ended: u64,
 }
 
-/// How many the two threads announced.
+impl Runner<u64> for Called {
+    ghost use Rattle.std.specs.Prelude.{true};
+
+    ghost can_run = { λ _ _. true ≡ true };
+
+    ghost does = { λ _ _ _. true ≡ true };
+
+    fn run(
+        &mut self,
+        _table: &LoopTable<u64>,
+        _seat: &mut Seat<u64>,
+        call: &mut Call<u64>,
+    ) -> Turn {
+        self.count = self.count.wrapping_add(1);
+        if call.bh >= SHARED {
+            self.ended = self.ended.wrapping_add(1);
+        }
+        Turn::Done
+    }
+}
+
+/// What a thread's schedules came to.
+#[derive(Clone, Copy)]
+pub struct Pushes {
+    /// How many handles were not pending, and so were pushed.
+    pub announced: u64,
+    /// How many tries to push found that another had pushed, or that home had taken the list.
+    pub missed: u64,
+}
+
+impl Pushes {
+    fn none() -> Pushes {
+        Pushes {
+            announced: 0,
+            missed: 0,
+        }
+    }
+
+    fn note(&mut self, found: Flags) {
+        if !found.pending {
+            self.announced = self.announced.wrapping_add(1);
+        }
+    }
+
+    fn and(self, other: Pushes) -> Pushes {
+        Pushes {
+            announced: self.announced.wrapping_add(other.announced),
+            missed: self.missed.wrapping_add(other.missed),
+        }
+    }
+}
+
+/// Pushes what one try has missed, and tells how many tries missed.
+fn push_in_the_end<R: Wait>(
+    rt: &R,
+    table: &LoopTable<u64>,
+    seat: &mut Seat<u64>,
+    owed: Announced,
+) -> u64
+    requires seat { IsSeatOf table.now seat.old }
+    requires phase { seat.old.known.phase ≡ announced owed }
+    ensures ready { IsReady table.now seat.new }
+{
+    let mut owed = owed;
+    let mut missed = 1u64;
+    for _ in rt.forever() {
+        match table.push_owed(seat, owed) {
+            Ok(()) => return missed,
+            Err(again) => {
+                owed = again;
+                missed = missed.wrapping_add(1);
+            }
+        }
+    }
+    unreachable!()
+}
+
+/// Schedules a handle.
+fn schedule_one<R: Wait>(
+    rt: &R,
+    table: &LoopTable<u64>,
+    seat: &mut Seat<u64>,
+    bh: u32,
+    pushes: &mut Pushes,
+)
+    requires ready { IsReady table.now seat.old }
+    requires handle { bh < table.now.sizes.handles }
+    ensures ready { IsReady table.now seat.new }
+{
+    match table.try_schedule(seat, bh) {
+        Put::Done(found) => pushes.note(found),
+        Put::Owed(found, owed) => {
+            pushes.note(found);
+            let missed = push_in_the_end(rt, table, seat, owed);
+            pushes.missed = pushes.missed.wrapping_add(missed);
+        }
+    }
+}
+
+/// Schedules one handle after another, and then the one by which it says that it is done.
+fn schedule_all<R: Wait>(rt: &R, table: &LoopTable<u64>, seat: Seat<u64>, done: u32) -> Pushes
+    requires ready { IsReady table.now seat }
+    requires handles { table.now.sizes.handles ≡ 64 }
+    requires done { done < 64 }
+{
+    let mut seat = seat;
+    let mut pushes = Pushes::none();
+    for turn in 0..SCHEDULES {
+        schedule_one(
+            rt,
+            table,
+            &mut seat,
+            (turn * 7 + done) % SHARED,
+            &mut pushes,
+        );
+    }
+    schedule_one(rt, table, &mut seat, done, &mut pushes);
+    pushes
+}
+
+/// Two seats at once.
 fn both_schedule<R: Threads + Wait + Sync>(
     rt: &R,
     table: &LoopTable<u64>,
     first: Seat<u64>,
     second: Seat<u64>,
-) -> u64
+) -> Pushes
     requires first { IsReady table.now first }
     requires second { IsReady table.now second }
     requires handles { table.now.sizes.handles ≡ 64 }
 {
     let (low, high) = join(
         rt,
-        || -> u64
+        || -> Pushes
             requires { IsReady table.now first × (table.now.sizes.handles ≡ 64) }
-        { schedule_all(rt, table, first, 3) },
-        || -> u64
+        { schedule_all(rt, table, first, 62) },
+        || -> Pushes
             requires { IsReady table.now second × (table.now.sizes.handles ≡ 64) }
-        { schedule_all(rt, table, second, 17) },
+        { schedule_all(rt, table, second, 63) },
     );
-    low.wrapping_add(high)
+    low.and(high)
 }
 
-/// Polls over and over.
-fn poll_all<R: Wait>(
-    rt: &R,
-    table: &LoopTable<u64>,
-    lots: LotBuilt,
-    home: Home<u64>,
-) -> (LotBuilt, Home<u64>, Calls)
+/// Polls until both threads are done, and tells how many calls were made.
+fn poll_all<R: Wait>(rt: &R, table: &LoopTable<u64>, lots: LotBuilt, home: Home<u64>) -> u64
     requires lots { ServesHome table.now.sizes lots.pool lots.home }
     requires seat { IsReady table.now home.seat }
     requires empty { home.seat.known.stage ≡ empty_stage }
-    ensures lots { ServesHome table.now.sizes result.0.pool result.0.home }
-    ensures seat { IsReady table.now result.1.seat }
-    ensures empty { result.1.seat.known.stage ≡ empty_stage }
 {
     let mut lots = lots;
     let mut home = home;
-    let mut calls = Calls { count: 0 };
-    for _ in 0..POLLS {
-        table.poll(rt, &lots.pool, &mut lots.home, &mut home, &mut calls);
+    let mut called = Called { count: 0, ended: 0 };
+    for _ in 0..u64::MAX {
+        if called.ended >= 2 {
+            break;
+        }
+        table.poll(rt, &lots.pool, &mut lots.home, &mut home, &mut called);
     }
-    (lots, home, calls)
+    called.count
 }
 
-/// How many the two threads announced, and how many calls were made, while they scheduled and by one poll more.
-fn announced_and_called<R: Threads + Wait + Sync>(
+/// What the two threads' schedules came to, and how many calls were made.
+fn pushed_and_called<R: Threads + Wait + Sync>(
     rt: &R,
     table: &LoopTable<u64>,
     lots: LotBuilt,
     home: Home<u64>,
     first: Seat<u64>,
     second: Seat<u64>,
-) -> (u64, u64)
+) -> (Pushes, u64)
     requires lots { ServesHome table.now.sizes lots.pool lots.home }
     requires home { IsReady table.now home.seat }
     requires empty { home.seat.known.stage ≡ empty_stage }
@@ -98,22 +206,19 @@ fn announced_and_called<R: Threads + Wait + Sync>(
     requires second { IsReady table.now second }
     requires handles { table.now.sizes.handles ≡ 64 }
 {
-    let (announced, polled) = join(
+    join(
         rt,
-        || -> u64
+        || -> Pushes
             requires { IsReady table.now first × IsReady table.now second × (table.now.sizes.handles ≡ 64) }
         { both_schedule(rt, table, first, second) },
-        || -> (LotBuilt, Home<u64>, Calls)
+        || -> u64
             requires { ServesHome table.now.sizes lots.pool lots.home × IsReady table.now home.seat × (home.seat.known.stage ≡ empty_stage) }
-            ensures { ServesHome table.entry.now.sizes result.0.pool result.0.home × IsReady table.entry.now result.1.seat × (result.1.seat.known.stage ≡ empty_stage) }
         { poll_all(rt, table, lots, home) },
-    );
-    let (mut lots, mut home, mut calls) = polled;
-    table.poll(rt, &lots.pool, &mut lots.home, &mut home, &mut calls);
-    (announced, calls.count)
+    )
 }
 
-pub fn two_threads<R: Threads + Wait + Print + Sync>(rt: &R, alloc: Global) -> io::Result<()> {
+/// Tells how many calls were too few or too many, and answers what the schedules came to.
+pub fn two_threads<R: Threads + Wait + Print + Sync>(rt: &R, alloc: Global) -> io::Result<Pushes> {
     let Ok(lots) = LotPool::build(rt, alloc, HANDLES, 0) else {
         return Err(io::Error::from(io::ErrorKind::OutOfMemory));
     };
@@ -126,9 +231,22 @@ pub fn two_threads<R: Threads + Wait + Print + Sync>(rt: &R, alloc: Global) -> i
         mut seat,
     } = built;
     let Some(other) = table.split(&mut seat) else {
-        return println!(rt; "the seat is not split");
+        return Err(io::Error::from(io::ErrorKind::Other));
     };
-    let (announced, called) = announced_and_called(rt, &table, lots, home, seat, other);
-    let off = announced.abs_diff(called);
-    println!(rt; "two threads: {SCHEDULES} schedules each, {off} calls too few or too many")
+    let (pushes, called) = pushed_and_called(rt, &table, lots, home, seat, other);
+    let off = pushes.announced.abs_diff(called);
+    println!(rt; "two threads: {SCHEDULES} schedules each, {off} calls too few or too many")?;
+    Ok(pushes)
+}
+
+/// The same, and how the threads met: this differs from run to run.
+pub fn two_threads_and_misses<R: Threads + Wait + Print + Sync>(
+    rt: &R,
+    alloc: Global,
+) -> io::Result<()> {
+    let pushes = two_threads(rt, alloc)?;
+    println!(rt;
+        "two threads: {} pushes, {} tries missed",
+        pushes.announced, pushes.missed
+    )
 }

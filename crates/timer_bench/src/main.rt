@@ -1,10 +1,11 @@
 //! Rounds of a disarm and an arm among armed timers, to be measured from outside: it prints counts alone. With a word it does
-//! one part, else all of them.
+//! one part, or looks at the events that handlers watch; else all parts of timers.
 #![tactic(auto)]
 
 mod armed;
 mod part;
 mod rounds;
+mod watched;
 
 use crate::part::{Expiries, Part};
 use crate::rounds::rounds;
@@ -23,6 +24,7 @@ fn main(rt: HostRuntime) -> io::Result<()> {
     match Part::of(word.as_str()) {
         Some(Part::Nothing) => Ok(()),
         Some(Part::Rounds(expiries, size)) => rounds(&rt, alloc, expiries, size),
+        Some(Part::Looks) => watched::looks(&rt, alloc),
         None => println!(rt; "no such part"),
     }
 }

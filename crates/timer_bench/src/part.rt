@@ -22,6 +22,8 @@ pub enum Part {
     Nothing,
     /// Rounds among so many timers.
     Rounds(Expiries, u32),
+    /// Looks at the watched events of sets of handlers.
+    Looks,
 }
 
 impl Part {
@@ -37,6 +39,7 @@ impl Part {
             "random-64" => Some(Part::Rounds(Expiries::Random, 64)),
             "random-512" => Some(Part::Rounds(Expiries::Random, 512)),
             "random-4096" => Some(Part::Rounds(Expiries::Random, 4096)),
+            "watch" => Some(Part::Looks),
             _ => None,
         }
     }

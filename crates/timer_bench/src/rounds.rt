@@ -8,7 +8,7 @@ use std::io;
 const ROUNDS: u32 = 400_000;
 
 /// Pseudo-random numbers.
-fn shuffled(seed: u32) -> u32 {
+pub fn shuffled(seed: u32) -> u32 {
     seed.wrapping_mul(1664525).wrapping_add(1013904223)
 }
 

@@ -1,0 +1,13 @@
+-- The phase of a seat that is to do this next, where its flight is that of the phase which it has.
+use Rattle.aio_model.specs.InFlight.{Phase, AtRest, Announced, Linked, ToStore, ToLoad, ToSet, flight_of}
+use Rattle.order_tests.specs.declared.debt.Debt.{Debt}
+use Rattle.order_tests.specs.declared.debt.Debt.TheVariants.{Announce, Aim, Link, StoreNotified, LoadNotifyMe, SetNotifier, Nothing}
+
+abbrev pub phase_at : Debt → Phase → Phase
+phase_at Announce phase = AtRest
+phase_at (Aim owed) phase = Announced owed
+phase_at (Link aimed) phase = Linked aimed.0 aimed.1
+phase_at StoreNotified phase = ToStore (flight_of phase)
+phase_at LoadNotifyMe phase = ToLoad (flight_of phase)
+phase_at SetNotifier phase = ToSet (flight_of phase)
+phase_at (Nothing woke) phase = AtRest
