@@ -8,6 +8,7 @@ pub mod Entries
 pub mod Parts
 pub mod Turning
 pub mod OneTake
+pub mod Lasting
 pub mod Steps
 pub mod GivingBack
 pub mod Lent

@@ -54,22 +54,22 @@ EntersSome-then does r s t a b c first then = record {
 -- One part, and then another.
 pub Goes-then : {R : Type 0} (P Q T : Place → Place → Type 0) (does : R → Entered → R → Type 0) (old mid new : Far R) → ((a b c : Place) → P a b → Q b c → T a c) → Goes P does old mid → Goes Q does mid new → Goes T does old new
 Goes-then P Q T does old mid new joins first then = record {
-  at = λ log counts.
-      let a = first.at log counts in
-      let b = then.at a.log_after a.counts in
+  at = λ log.
+      let a = first.at log in
+      let b = then.at a.log_after in
       record {
         log_after = b.log_after;
         goes = joins _ _ _ a.goes b.goes;
         enters = EntersSome-then does old.runner mid.runner new.runner log a.log_after b.log_after a.enters b.enters;
-        counts = b.counts;
+        counts = λ before. b.counts (a.counts before);
       };
   goes_on = GoesOn-then old.known mid.known new.known first.goes_on then.goes_on;
 }
 
 pub Goes-as : {R : Type 0} (P T : Place → Place → Type 0) (does : R → Entered → R → Type 0) (old new : Far R) → ((a b : Place) → P a b → T a b) → Goes P does old new → Goes T does old new
 Goes-as P T does old new as_other first = record {
-  at = λ log counts.
-      let a = first.at log counts in
+  at = λ log.
+      let a = first.at log in
       record { log_after = a.log_after; goes = as_other _ _ a.goes; enters = a.enters; counts = a.counts };
   goes_on = first.goes_on;
 }
@@ -103,7 +103,7 @@ GoesOn-back made a b first back = record {
 
 pub Goes-enter : {R : Type 0} (does : R → Entered → R → Type 0) (bh : ℕ) (job : Option ℕ) (first : Bool) (nests : ℕ) (answer : Answer) (a b : Known) (r s : R) (polled : Polled) → a.first ≡ 64 → RunsOnce does (lent_of bh job first nests) answer r a s b → Goes (Enters (lent_of bh job first nests) answer) does (far a r polled) (far b s (noted first answer nests polled))
 Goes-enter does bh job first nests answer a b r s polled is_home once = record {
-  at = λ log counts.
+  at = λ log.
       let entered : Entered = record { lent = lent_of bh job first nests; answer = answer; made = once.made } in
       record {
         log_after = entered ∷ log;
@@ -117,7 +117,7 @@ Goes-enter does bh job first nests answer a b r s polled is_home once = record {
           progress = refl;
         };
         enters = record { more = entered ∷ []; longer = refl; runs = (r, refl, once.did) };
-        counts = Counts-noted first answer nests polled entered log refl refl refl counts;
+        counts = Counts-noted first answer nests polled entered log refl refl refl;
       };
   goes_on = GoesOn-back once.made a b is_home once.back;
 }
@@ -155,9 +155,9 @@ GoesOn-next i ran job a b p q next = record {
 
 pub Goes-turn : {R : Type 0} (sizes : Sizes) (frame : Place → Place → Type 0) (nests i : ℕ) (ran : Bool) (job : Option ℕ) (does : R → Entered → R → Type 0) (a b c : Known) (r s : R) (p q t : Polled) → a.sizes ≡ sizes → TakesNext i ran job a b p q → Goes (Follows sizes frame nests i job ran) does (far b r q) (far c s t) → Goes (Turn sizes frame nests) does (far a r p) (far c s t)
 Goes-turn sizes frame nests i ran job does a b c r s p q t of next followed = record {
-  at = λ log counts.
-      let begun : Counts q log = record { ran = ap (λ (x : Polled). x.ran) next.progress ∙ counts.ran; cut_nests = ap (λ (x : Polled). x.cut_nests) next.progress ∙ counts.cut_nests } in
-      let went = followed.at log begun in
+  at = λ log.
+      let begun : Counts p log → Counts q log = λ counts. record { ran = ap (λ (x : Polled). x.ran) next.progress ∙ counts.ran; cut_nests = ap (λ (x : Polled). x.cut_nests) next.progress ∙ counts.cut_nests } in
+      let went = followed.at log in
       let dequeued = place_of (far b r q) log in
       let ended = went.goes.0 in
       let job_is = subst (λ (z : Sizes). cond (is_lot z i) (job_of i b.seen) None ≡ job) of next.job_is in
@@ -173,7 +173,7 @@ Goes-turn sizes frame nests i ran job does a b c r s p q t of next followed = re
           free = went.goes.2;
         };
         enters = went.enters;
-        counts = went.counts;
+        counts = λ before. went.counts (begun before);
       };
   goes_on = GoesOn-then a b c (GoesOn-next i ran job a b p q next) followed.goes_on;
 }

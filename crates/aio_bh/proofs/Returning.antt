@@ -6,13 +6,13 @@ use Rattle.aio_model.specs.LoopFrame.{are_of_callback}
 use Rattle.aio_core.specs.Known.{Known}
 use Rattle.aio_core.specs.Standing.{Frees}
 use Rattle.aio_core.specs.Calls.{HasTaken}
-use Rattle.lot_pool.specs.Pools.{PoolState, PassState, GivesAll, kept_lots}
+use Rattle.lot_pool.specs.Pools.{PoolState, PassState, GivesAll}
 use Rattle.lot_pool.specs.Pools.{GivesBack as GivesLotBack}
 use Rattle.lot_pool.proofs.Passes.{gives_then}
 use Rattle.aio_bh.specs.declared.polled.Polled.{Polled}
 use Rattle.aio_bh.specs.Running.{GivesBack}
 use Rattle.aio_bh.specs.SoFar.{FindsNone, TakesNext}
-use Rattle.aio_bh.specs.OneShots.{frees_of, FreesNone, GivesFreed, ReturnsLots}
+use Rattle.aio_bh.specs.OneShots.{frees_of, FreesNone, GivesFreed}
 
 pub frees_of-append : (newer older : History) → frees_of (newer ++ older) ≡ frees_of newer ++ frees_of older
 frees_of-append [] older = refl
@@ -51,6 +51,9 @@ pub next_frees_none : (i : ℕ) (ran : Bool) (job : Option ℕ) (a b : Known) (p
 next_frees_none i ran job a b p q next =
     record { made = Dequeue i ran ∷ []; mine = next.mine; none = refl }
 
+pub take_frees_none : (a b : Known) → HasTaken a b → FreesNone a b
+take_frees_none a b taken = record { made = Take ∷ []; mine = taken.takes.makes.mine; none = refl }
+
 -- What a part of a poll does with the pass.
 
 pub gives_nothing : (pool : PoolState) (a b : Known) (p : PassState) → FreesNone a b → GivesFreed pool a b p p
@@ -79,20 +82,3 @@ gives_freed-then pool a b c p q r first then = record {
 pub gives_behind : (pool : PoolState) (a b c : Known) (p q : PassState) → FreesNone a b → GivesFreed pool b c p q → GivesFreed pool a c p q
 gives_behind pool a b c p q none then =
     gives_freed-then pool a b c p p q (gives_nothing pool a b p none) then
-
--- The whole poll.
-
-pub returns_kept : (pool : PoolState) (a b : Known) (p q : PassState) → GivesAll pool (kept_lots pool p) p q → HasTaken a b → ReturnsLots pool a b p q
-returns_kept pool a b p q gives taken =
-    record { made = Take ∷ []; mine = taken.takes.makes.mine; gives = gives }
-
-pub returns_more : (pool : PoolState) (a b c : Known) (p q r : PassState) → ReturnsLots pool a b p q → GivesFreed pool b c q r → ReturnsLots pool a c p r
-returns_more pool a b c p q r first then =
-    let kept = kept_lots pool p in
-    let older = frees_of first.made ++ kept in
-    let lots : frees_of (then.made ++ first.made) ++ kept ≡ frees_of then.made ++ older = ap (λ l. l ++ kept) (frees_of-append then.made first.made) ∙ append_assoc (frees_of then.made) (frees_of first.made) kept in
-    record {
-      made = then.made ++ first.made;
-      mine = made_then a b c first.made then.made first.mine then.mine;
-      gives = subst (λ l. GivesAll pool l p r) (sym lots) (gives_then pool older (frees_of then.made) p q r first.gives then.gives);
-    }

@@ -1,5 +1,5 @@
 -- What a poll does for each handle, and where the entries of its callbacks stand.
-use Rattle.std.proofs.Common.{◌≡◌, ℕ, zero, suc, ◌<◌, Bool, true, false, cond, eqb, Option, MatchBool, List, [], ◌∷◌, ◌++◌, refl, sym, ap, ◌∙◌, subst, append_assoc, append-nil, arith, inl, inr, ◌⊎◌}
+use Rattle.std.proofs.Common.{◌≡◌, ℕ, zero, suc, ◌<◌, Bool, true, false, cond, ◌||◌, eqb, Option, None, MatchBool, List, [], ◌∷◌, ◌++◌, refl, sym, ap, ◌∙◌, subst, append_assoc, append-nil, arith, inl, inr, ◌⊎◌}
 use Rattle.std.proofs.lemmas.Bool.{false≢true, eq-eqb}
 use Rattle.aio_model.specs.declared.flags.Flags.{Flags}
 use Rattle.aio_model.specs.LoopHistory.{Sizes, ToCall, Entry, New, Enqueue, Put, Cancel, Take, Dequeue, Free, SetEvent, ClearEvent, History}
@@ -8,7 +8,7 @@ use Rattle.aio_model.specs.LoopLists.{out_of}
 use Rattle.aio_model.specs.LoopLegal.{IsLegal}
 use Rattle.aio_model.specs.LoopLaws.{times_of, some_entry}
 use Rattle.aio_model.specs.LoopSeats.{home, entries_by, entries_of}
-use Rattle.aio_model.specs.LoopFrame.{Entered, Place, Makes, Body, Turn, Turns, Frame, are_of_callback, start_of}
+use Rattle.aio_model.specs.LoopFrame.{Lent, Answer, Nests, Entered, Place, Makes, Enters, Body, Turn, Turns, nests_above, Frame, are_of_callback, lent_of, start_of}
 use Rattle.aio_model.specs.LoopCalls.{dequeue_times, call_times, entry_times, stops, AwaitsCall}
 use Rattle.aio_model.proofs.Indices.{times_of-append}
 use Rattle.aio_model.proofs.Rounds.{legal_cut}
@@ -18,7 +18,7 @@ use Rattle.aio_core.specs.Known.{Known}
 use Rattle.aio_bh.specs.declared.polled.Polled.{Polled}
 use Rattle.aio_bh.specs.Enqueuing.{Stands, enqueue_entries}
 use Rattle.aio_bh.specs.Polling.{dequeued_in, Polls}
-use Rattle.aio_bh.specs.Serving.{WasMade, StandsWithin, Serves}
+use Rattle.aio_bh.specs.Serving.{gets_nest, some_nests, WasMade, StandsWithin, Serves}
 use Rattle.aio_bh.proofs.OneTake.{no_take, no_take-append, no_take-callback, out_since}
 use Rattle.aio_bh.proofs.Lent.{enqueue_of_callback}
 
@@ -48,6 +48,19 @@ dequeued_times k (SetEvent e s ∷ xs) = dequeued_times k xs
 dequeued_times k (ClearEvent e w ∷ xs) = dequeued_times k xs
 
 -- From place to place without a take, with what callbacks made.
+
+-- the log is longer
+record LogGrows (a b : Place) : Type 0 where
+  more : List Entered
+  log : b.log ≡ more ++ a.log
+
+or_parts : (a b : Bool) → (a || b) ≡ false → (a ≡ false) × (b ≡ false)
+or_parts true b h = absurd (false≢true (sym h))
+or_parts false b h = (refl, h)
+
+or_from : (a b : Bool) → a ≡ false → b ≡ false → (a || b) ≡ false
+or_from true b x y = absurd (false≢true (sym x))
+or_from false b x y = y
 
 record Onward (a b : Place) : Type 0 where
   later : History
@@ -94,38 +107,95 @@ Onward-then a b c first then = record {
       ];
 }
 
-Onward-body : (sizes : Sizes) (index : ℕ) (job : Option ℕ) (ran : Bool) (a b : Place) → MatchBool ran (Body (Frame sizes 0) index job true 0 a b) (b ≡ a) → Onward a b
-Onward-body sizes index job true a b body =
-    let enters = body.1 in
-    record {
-      later = enters.between;
-      none = no_take-callback enters.between (ap are_of_callback enters.just_these ∙ enters.of_callback);
-      seen = enters.seen;
-      made = λ entries was.
-          elim (subst (WasMade entries) enters.log was) as (λ _. WasMade entries a.log ⊎ StandsWithin entries enters.between) [
-            | inl here ↦ inr (record { newer = []; between = enters.between; older = []; is = sym (append-nil enters.between); just_these = enters.just_these ∙ here })
-            | inr sooner ↦ inl sooner
-          ];
-    }
-Onward-body sizes index job false a b same = Onward-same a b same
+-- no entry got a nested poll
+some_nests-parts : (newer older : List Entered) → some_nests (newer ++ older) ≡ false → (some_nests newer ≡ false) × (some_nests older ≡ false)
+some_nests-parts [] older none = (refl, none)
+some_nests-parts (e ∷ newer) older none =
+    let both = or_parts (gets_nest e.answer e.lent.nests_left) (some_nests (newer ++ older)) none in
+    let rest = some_nests-parts newer older both.1 in
+    (or_from (gets_nest e.answer e.lent.nests_left) (some_nests newer) both.0 rest.0, rest.1)
 
-Onward-free : (index : ℕ) (lot : Bool) (a b : Place) → MatchBool lot (Makes (Free index) a b) (b ≡ a) → Onward a b
-Onward-free index true a b free =
-    Onward-none (Free index ∷ free.others) a b (no_take-callback free.others (ap are_of_callback free.not_home)) free.seen free.log
-Onward-free index false a b same = Onward-same a b same
+-- Where no entry of a part got a nested poll, it goes on without a take.
 
-Onward-turn : (sizes : Sizes) (a b : Place) → Turn sizes (Frame sizes 0) 0 a b → Onward a b
-Onward-turn sizes a b turn =
-    let d = turn.dequeue in
-    let first = Onward-none (Dequeue turn.index turn.ran ∷ d.others) a turn.dequeued (no_take-callback d.others (ap are_of_callback d.not_home)) d.seen d.log in
-    Onward-then a turn.dequeued b first (Onward-then turn.dequeued turn.ended b (Onward-body sizes turn.index _ turn.ran turn.dequeued turn.ended turn.body) (Onward-free turn.index (is_lot sizes turn.index) turn.ended b turn.free))
+record Going (a b : Place) : Type 0 where
+  more : List Entered
+  log : b.log ≡ more ++ a.log
+  onward : some_nests more ≡ false → Onward a b
 
-Onward-turns : (sizes : Sizes) (count : ℕ) (a b : Place) → Turns sizes (Frame sizes 0) 0 count a b → Onward a b
-Onward-turns sizes zero a b same = Onward-same a b same
-Onward-turns sizes (suc count) a b turns =
-    Onward-then a turns.0 b (Onward-turn sizes a turns.0 turns.1) (Onward-turns sizes count turns.0 b turns.2)
+Going-quiet : (a b : Place) → b.log ≡ a.log → Onward a b → Going a b
+Going-quiet a b log onward = record { more = []; log = log; onward = λ _. onward }
 
--- a poll, from its one take on
+Going-then : (a b c : Place) → Going a b → Going b c → Going a c
+Going-then a b c first then = record {
+  more = then.more ++ first.more;
+  log = then.log ∙ ap (λ l. then.more ++ l) first.log ∙ sym (append_assoc then.more first.more a.log);
+  onward = λ none.
+      let parts = some_nests-parts then.more first.more none in
+      Onward-then a b c (first.onward parts.1) (then.onward parts.0);
+}
+
+Going-enters : (lent : Lent) (answer : Answer) (a b : Place) → Enters lent answer a b → Going a b
+Going-enters lent answer a b enters = record {
+  more = record { lent = lent; answer = answer; made = enters.made } ∷ [];
+  log = enters.log;
+  onward = λ _. record {
+    later = enters.between;
+    none = no_take-callback enters.between (ap are_of_callback enters.just_these ∙ enters.of_callback);
+    seen = enters.seen;
+    made = λ entries was.
+        elim (subst (WasMade entries) enters.log was) as (λ _. WasMade entries a.log ⊎ StandsWithin entries enters.between) [
+          | inl here ↦ inr (record { newer = []; between = enters.between; older = []; is = sym (append-nil enters.between); just_these = enters.just_these ∙ here })
+          | inr sooner ↦ inl sooner
+        ];
+  };
+}
+
+module _ (frame : Place → Place → Type 0) (frames : (a b : Place) → frame a b → LogGrows a b) where
+  -- what nests is out of the question, but the log grows
+  Going-body : (bh : ℕ) (job : Option ℕ) (first : Bool) (nests : ℕ) (a b : Place) → Body frame bh job first nests a b → Going a b
+  Going-body bh job first zero a b body = Going-enters (lent_of bh job first zero) body.0 a b body.1
+  Going-body bh job first (suc nests) a b body =
+      elim body as (λ _. Going a b) [
+        | inl enters ↦ Going-enters (lent_of bh job first (suc nests)) _ a b enters
+        | inr more ↦
+            let asked : List Entered = record { lent = lent_of bh job first (suc nests); answer = Nests; made = more.2.made } ∷ [] in
+            let framed = frames more.0 more.1 more.3 in
+            let rest = Going-body bh None false nests more.1 b more.4 in
+            record {
+              more = rest.more ++ (framed.more ++ asked);
+              log = rest.log ∙ ap (λ l. rest.more ++ l) (framed.log ∙ ap (λ l. framed.more ++ l) more.2.log ∙ sym (append_assoc framed.more asked a.log)) ∙ sym (append_assoc rest.more (framed.more ++ asked) a.log);
+              onward = λ none. absurd (false≢true (sym (some_nests-parts framed.more asked (some_nests-parts rest.more (framed.more ++ asked) none).1).1));
+            }
+      ]
+
+  Going-calls : (bh : ℕ) (job : Option ℕ) (ran : Bool) (nests : ℕ) (a b : Place) → MatchBool ran (Body frame bh job true nests a b) (b ≡ a) → Going a b
+  Going-calls bh job true nests a b body = Going-body bh job true nests a b body
+  Going-calls bh job false nests a b same = Going-quiet a b (ap (λ (p : Place). p.log) same) (Onward-same a b same)
+
+  Going-free : (index : ℕ) (lot : Bool) (a b : Place) → MatchBool lot (Makes (Free index) a b) (b ≡ a) → Going a b
+  Going-free index true a b free =
+      Going-quiet a b free.log (Onward-none (Free index ∷ free.others) a b (no_take-callback free.others (ap are_of_callback free.not_home)) free.seen free.log)
+  Going-free index false a b same = Going-quiet a b (ap (λ (p : Place). p.log) same) (Onward-same a b same)
+
+  Going-turn : (sizes : Sizes) (nests : ℕ) (a b : Place) → Turn sizes frame nests a b → Going a b
+  Going-turn sizes nests a b turn =
+      let d = turn.dequeue in
+      let first = Going-quiet a turn.dequeued d.log (Onward-none (Dequeue turn.index turn.ran ∷ d.others) a turn.dequeued (no_take-callback d.others (ap are_of_callback d.not_home)) d.seen d.log) in
+      Going-then a turn.dequeued b first (Going-then turn.dequeued turn.ended b (Going-calls turn.index _ turn.ran nests turn.dequeued turn.ended turn.body) (Going-free turn.index (is_lot sizes turn.index) turn.ended b turn.free))
+
+  Going-turns : (sizes : Sizes) (nests count : ℕ) (a b : Place) → Turns sizes frame nests count a b → Going a b
+  Going-turns sizes nests zero a b same = Going-quiet a b (ap (λ (p : Place). p.log) same) (Onward-same a b same)
+  Going-turns sizes nests (suc count) a b turns =
+      Going-then a turns.0 b (Going-turn sizes nests a turns.0 turns.1) (Going-turns sizes nests count turns.0 b turns.2)
+
+LogGrows-frame : (sizes : Sizes) (depth : ℕ) (a b : Place) → Frame sizes depth a b → LogGrows a b
+unfolding Frame
+LogGrows-frame sizes zero a b frame = absurd frame
+LogGrows-frame sizes (suc deeper) a b frame =
+    let turns = Going-turns (Frame sizes deeper) (LogGrows-frame sizes deeper) sizes (nests_above deeper) frame.count frame.taken b frame.turns in
+    record { more = turns.more; log = turns.log ∙ ap (λ l. turns.more ++ l) frame.take.log }
+
+-- a poll without nested ones, from its one take on
 record FromTake (a b : Place) : Type 0 where
   others : History
   not_home : entries_of home others ≡ []
@@ -134,11 +204,12 @@ record FromTake (a b : Place) : Type 0 where
   seen : b.seen ≡ later ++ (Take ∷ (others ++ a.seen))
   made : (entries : History) → WasMade entries b.log → WasMade entries a.log ⊎ StandsWithin entries later
 
-from_take : (sizes : Sizes) (a b : Place) → Frame sizes 1 a b → FromTake a b
+from_take : (sizes : Sizes) (deeper : ℕ) (a b : Place) → Frame sizes (suc deeper) a b → some_nests b.log ≡ false → FromTake a b
 unfolding Frame
-from_take sizes a b frame =
+from_take sizes deeper a b frame alone =
     let take = frame.take in
-    let on = Onward-turns sizes frame.count frame.taken b frame.turns in
+    let turns = Going-turns (Frame sizes deeper) (LogGrows-frame sizes deeper) sizes (nests_above deeper) frame.count frame.taken b frame.turns in
+    let on = turns.onward (some_nests-parts turns.more frame.taken.log (subst (λ l. some_nests l ≡ false) turns.log alone)).0 in
     record {
       others = take.others;
       not_home = take.not_home;
@@ -158,9 +229,9 @@ none_since sizes k seat was since older handle legal none idle =
     let split : out_of H ≡ dequeued_in since ++ out_of (since ++ H) = out_since sizes H since none legal in
     omega (arith, out, ap (times_of k) split, times_of-append k (dequeued_in since) (out_of (since ++ H)), dequeued_times k since)
 
-pub served : {R : Type 0} (does : R → Entered → R → Type 0) (polled : Polled) (r s : R) (a b : Known) (polls : Polls does polled r a s b) → Serves a.sizes a.seen polls.end.log b.seen
-served does polled r s a b polls =
-    let from = from_take a.sizes (start_of a.seen) polls.end polls.frame in
+pub served : {R : Type 0} (does : R → Entered → R → Type 0) (polled : Polled) (r s : R) (a b : Known) (polls : Polls does polled r a s b) → some_nests polls.end.log ≡ false → Serves a.sizes a.seen polls.end.log b.seen
+served does polled r s a b polls alone =
+    let from = from_take a.sizes 7 (start_of a.seen) polls.end polls.frame alone in
     let P : History = from.others ++ a.seen in
     let seen : b.seen ≡ from.later ++ (Take ∷ P) = polls.seen ∙ from.seen in
     let legal : IsLegal a.sizes (from.later ++ (Take ∷ P)) = subst (IsLegal a.sizes) seen polls.goes_on.legal in
@@ -169,7 +240,7 @@ served does polled r s a b polls =
     let nothing : out_of (from.later ++ (Take ∷ P)) ≡ [] = ap out_of (sym seen) ∙ polls.none_out in
     let each : (k : ℕ) → dequeue_times k from.later ≡ times_of k (out_of (Take ∷ P)) = λ k. omega (arith, ap (times_of k) split, times_of-append k (dequeued_in from.later) (out_of (from.later ++ (Take ∷ P))), dequeued_times k from.later, ap (times_of k) nothing) in
     let entered : (k : ℕ) → entry_times k polls.end.log ≡ call_times k from.later = λ k.
-    omega (arith, (Along-frame k a.sizes 1 (start_of a.seen) polls.end polls.frame).same, ap (call_times k) from.seen, call_times-append k from.later (Take ∷ P), call_times-append k from.others a.seen, calls_most k from.others, none_dequeued k from.others (ap are_of_callback from.not_home)) in
+    omega (arith, (Along-frame k a.sizes 8 (start_of a.seen) polls.end polls.frame).same, ap (call_times k) from.seen, call_times-append k from.later (Take ∷ P), call_times-append k from.others a.seen, calls_most k from.others, none_dequeued k from.others (ap are_of_callback from.not_home)) in
     record {
       others = from.others;
       not_home = from.not_home;

@@ -1,50 +1,142 @@
--- The loop of a poll: turns are added, and at its end stands the whole frame.
-use Rattle.std.proofs.Common.{◌≡◌, ℕ, false, None, [], refl, sym, ap, ◌∙◌, subst, append-nil}
+-- The loop of a frame: turns are added, and at its end stands the whole frame; at the end of the outermost, the whole poll.
+use Rattle.std.proofs.Common.{◌≡◌, ℕ, zero, suc, ◌+◌, ◌-◌, ◌<◌, ◌≤◌, ◌⊎◌, None, [], ◌∷◌, List, ◌++◌, length, refl, sym, ap, ◌∙◌, subst, append-nil, arith, inl, inr, Bool, true, false, Option}
 use Rattle.aio_model.specs.LoopHistory.{Sizes}
 use Rattle.aio_model.specs.LoopLists.{out_of}
-use Rattle.aio_model.specs.LoopFrame.{Place, Entered, Turn, Frame, nests_above, start_of, Runs}
+use Rattle.aio_model.specs.LoopLegal.{IsLegal}
+use Rattle.aio_model.specs.LoopFrame.{Answer, Ended, Nests, Place, Entered, Enters, Body, Turn, Frame, nests_above, start_of, Runs, lent_of, is_cut}
 use Rattle.aio_core.specs.Known.{Known, Stage, empty_stage}
+use Rattle.lot_pool.specs.Pools.{PoolState, PassState, GivesAll, kept_lots}
+use Rattle.lot_pool.proofs.Passes.{gives_then}
 use Rattle.aio_bh.specs.declared.polled.Polled.{Polled}
 use Rattle.aio_bh.specs.Polling.{Polls}
-use Rattle.aio_bh.specs.SoFar.{far, place_of, Goes, TakesAndSome, FindsNone}
-use Rattle.aio_bh.proofs.OneTake.{takes_once}
-use Rattle.aio_bh.proofs.Parts.{Goes-then, some-more, frame-from-some}
+use Rattle.aio_bh.specs.OneShots.{frees_of, GivesFreed, ReturnsLots}
+use Rattle.aio_bh.specs.SoFar.{Far, far, place_of, Goes, Calls, TakesAndSome, FindsNone, BehindNest}
+use Rattle.aio_bh.proofs.Lasting.{dequeues_taken}
+use Rattle.aio_bh.proofs.Turning.{GoesOn-same}
+use Rattle.aio_bh.proofs.Parts.{Body-cut, Body-ended, EntersSome-same, Goes-as, Goes-then, some-more, frame-from-some}
+
+-- How many nested polls are left.
+
+
+some_depth : (deeper nests : ℕ) → 0 < nests → nests ≤ nests_above deeper → 0 < deeper
+some_depth zero nests some few = absurd (omega (arith, some, few))
+some_depth (suc deeper) nests some few = omega arith
+
+pub nests_below : (deeper nests : ℕ) → 0 < nests → nests ≤ nests_above deeper → (0 < deeper) × (nests - 1 ≤ nests_above deeper) × (nests ≤ 4)
+nests_below zero nests some few = absurd (omega (arith, some, few))
+nests_below (suc deeper) nests some few = (omega arith, omega (arith, few), few)
+
+pub one_less : (n : ℕ) → 0 < n → n ≡ suc (n - 1)
+one_less n some = omega (arith, some)
+
+-- The body of a callback.
+
+module _ {R : Type 0} (does : R → Entered → R → Type 0) (frame : Place → Place → Type 0) (bh : ℕ) (job : Option ℕ) (first : Bool) where
+  -- it has ended, or is cut
+  pub Goes-last : (nests : ℕ) (answer : Answer) (old new : Far R) → (answer ≡ Ended) ⊎ (nests ≡ 0) → Goes (Enters (lent_of bh job first nests) answer) does old new → Goes (Body frame bh job first nests) does old new
+  Goes-last nests answer old new last entry =
+      elim last as (λ _. Goes (Body frame bh job first nests) does old new) [
+        | inl ended ↦
+            Goes-as (Enters (lent_of bh job first nests) Ended) (Body frame bh job first nests) does old new (Body-ended frame bh job first nests)
+            (subst (λ x. Goes (Enters (lent_of bh job first nests) x) does old new) ended entry)
+        | inr none ↦
+            subst (λ n. Goes (Body frame bh job first n) does old new) (sym none)
+            (Goes-as (Enters (lent_of bh job first 0) answer) (Body frame bh job first 0) does old new (Body-cut frame bh job first answer)
+            (subst (λ n. Goes (Enters (lent_of bh job first n) answer) does old new) none entry))
+      ]
+
+  -- it nests, and goes on
+  pub Goes-on : (nests left : ℕ) (answer : Answer) (old asked new : Far R) → nests ≡ suc left → answer ≡ Nests → Goes (Enters (lent_of bh job first nests) answer) does old asked → Goes (BehindNest frame bh left) does asked new → Goes (Body frame bh job first nests) does old new
+  Goes-on nests left answer old asked new one nested entry later =
+      subst (λ n. Goes (Body frame bh job first n) does old new) (sym one)
+      (Goes-then (Enters (lent_of bh job first (suc left)) Nests) (BehindNest frame bh left) (Body frame bh job first (suc left)) does old asked new
+      (λ a b c enters behind. inr (b, behind.0, enters, behind.1, behind.2))
+      (subst (λ n. Goes (Enters (lent_of bh job first n) Nests) does old asked) one (subst (λ x. Goes (Enters (lent_of bh job first nests) x) does old asked) nested entry)) later)
+
+-- the same body by other names
+pub Goes-renamed : {R : Type 0} (does : R → Entered → R → Type 0) (frame : Place → Place → Type 0) (bh bh' nests nests' : ℕ) (job job' : Option ℕ) (first first' : Bool) (old new : Far R) → bh' ≡ bh → job' ≡ job → first' ≡ first → nests' ≡ nests → Goes (Body frame bh' job' first' nests') does old new → Goes (Body frame bh job first nests) does old new
+Goes-renamed does frame bh bh' nests nests' job job' first first' old new same_bh same_job same_first same_nests goes =
+    subst (λ n. Goes (Body frame bh job first n) does old new) same_nests
+    (subst (λ f. Goes (Body frame bh job f nests') does old new) same_first
+    (subst (λ j. Goes (Body frame bh j first' nests') does old new) same_job
+    (subst (λ i. Goes (Body frame i job' first' nests') does old new) same_bh goes)))
+
+-- what was dequeued is called, or not
+pub Goes-called : {R : Type 0} (does : R → Entered → R → Type 0) (frame : Place → Place → Type 0) (nests bh : ℕ) (job : Option ℕ) (due : Bool) (old new : Far R) → due ≡ true → Goes (Body frame bh job true nests) does old new → Goes (Calls frame nests bh job due) does old new
+Goes-called does frame nests bh job due old new is goes =
+    subst (λ b. Goes (Calls frame nests bh job b) does old new) (sym is) goes
+
+pub Goes-passed : {R : Type 0} (does : R → Entered → R → Type 0) (frame : Place → Place → Type 0) (nests bh : ℕ) (job : Option ℕ) (due : Bool) (sizes : Sizes) (a : Known) (r : R) (p : Polled) → due ≡ false → a.sizes ≡ sizes → IsLegal sizes a.seen → Goes (Calls frame nests bh job due) does (far a r p) (far a r p)
+Goes-passed does frame nests bh job due sizes a r p is of legal =
+    subst (λ b. Goes (Calls frame nests bh job b) does (far a r p) (far a r p)) (sym is)
+    (record { at = λ log. record { log_after = log; goes = refl; enters = EntersSome-same does r log; counts = λ before. before }; goes_on = GoesOn-same a (subst (λ s. IsLegal s a.seen) (sym of) legal) })
+
+-- a nested frame, and then the rest of the body
+pub Goes-behind : {R : Type 0} (sizes : Sizes) (deeper : ℕ) (bh nests : ℕ) (does : R → Entered → R → Type 0) (old back new : Far R) → 0 < deeper → Goes (Frame sizes (suc (deeper - 1))) does old back → Goes (Body (Frame sizes deeper) bh None false nests) does back new → Goes (BehindNest (Frame sizes deeper) bh nests) does old new
+Goes-behind sizes deeper bh nests does old back new some nested behind =
+    Goes-then (Frame sizes deeper) (Body (Frame sizes deeper) bh None false nests) (BehindNest (Frame sizes deeper) bh nests) does old back new (λ a b c framed rest. (b, framed, rest))
+    (subst (λ d. Goes (Frame sizes d) does old back) (sym (one_less deeper some)) nested) behind
+
+-- The turns of a frame.
 
 pub Goes-more : {R : Type 0} (sizes : Sizes) (deeper : ℕ) (does : R → Entered → R → Type 0) (a b c : Known) (r s t : R) (p q u : Polled) → Goes (TakesAndSome sizes (Frame sizes deeper) (nests_above deeper)) does (far a r p) (far b s q) → Goes (Turn sizes (Frame sizes deeper) (nests_above deeper)) does (far b s q) (far c t u) → Goes (TakesAndSome sizes (Frame sizes deeper) (nests_above deeper)) does (far a r p) (far c t u)
 Goes-more sizes deeper does a b c r s t p q u some turn =
     Goes-then _ _ _ does (far a r p) (far b s q) (far c t u) (some-more sizes (Frame sizes deeper) (nests_above deeper)) some turn
 
+-- the last look found nothing out
+pub Goes-frame : {R : Type 0} (sizes : Sizes) (deeper : ℕ) (does : R → Entered → R → Type 0) (a b c : Known) (r s t : R) (p q u : Polled) → Goes (TakesAndSome sizes (Frame sizes deeper) (nests_above deeper)) does (far a r p) (far b s q) → FindsNone b c q u → t ≡ s → Goes (Frame sizes (suc deeper)) does (far a r p) (far c t u)
+Goes-frame sizes deeper does a b c r s t p q u some none same =
+    let some_at : Far _ → Type 0 = λ x. Goes (TakesAndSome sizes (Frame sizes deeper) (nests_above deeper)) does (far a r p) x in
+    let at_end = subst (λ k. some_at (far k t u)) (sym none.same) (subst (λ x. some_at (far b x u)) (sym same) (subst (λ y. some_at (far b s y)) (sym none.same_polled) some)) in
+    record {
+      at = λ log.
+          let went = at_end.at log in
+          record {
+            log_after = went.log_after;
+            goes = frame-from-some sizes deeper (place_of (far a r p) log) (place_of (far c t u) went.log_after) went.goes none.none;
+            enters = went.enters;
+            counts = went.counts;
+          };
+      goes_on = at_end.goes_on;
+    }
+
+-- The whole poll.
+
 abbrev pub nothing : Polled
 nothing = record { progress = false; ran = 0; cut_nests = 0 }
+
+no_slices_left : (slices : List ℕ) → length slices ≡ 0 → slices ≡ []
+no_slices_left [] none = refl
+no_slices_left (i ∷ slices) none = absurd (omega (arith, none))
 
 stage_empty : (stage : Stage) → stage.slices ≡ [] → stage.hand ≡ None → stage.job ≡ None → stage ≡ empty_stage
 stage_empty stage none free jobless =
     λ i. record { slices = none i; hand = free i; job = jobless i }
 
-Polls-of : {R : Type 0} (does : R → Entered → R → Type 0) (a b : Known) (r s : R) (polled : Polled) → Goes (TakesAndSome a.sizes (Frame a.sizes 0) (nests_above 0)) does (far a r nothing) (far b s polled) → out_of b.seen ≡ [] → b.stage ≡ empty_stage → Polls does polled r a s b
-Polls-of does a b r s polled goes none stage =
-    let went = goes.at [] (record { ran = refl; cut_nests = refl }) in
+pub Polls-of : {R : Type 0} (sizes : Sizes) (does : R → Entered → R → Type 0) (a b : Known) (r s : R) (start polled : Polled) → a.sizes ≡ sizes → start ≡ nothing → Goes (Frame sizes 8) does (far a r start) (far b s polled) → out_of b.seen ≡ [] → length b.stage.slices ≡ 0 → b.stage.hand ≡ None → b.stage.job ≡ None → Polls does polled r a s b
+Polls-of {R} sizes does a b r s start polled of starts goes none left hand job =
+    let now : Goes (Frame a.sizes 8) does (far a r nothing) (far b s polled) = subst (λ z. Goes (Frame z 8) does (far a r nothing) (far b s polled)) (sym of) (subst (λ p. Goes (Frame sizes 8) does (far a r p) (far b s polled)) starts goes) in
+    let went = now.at [] in
     let end : Place = place_of (far b s polled) went.log_after in
+    let counts = went.counts (record { ran = refl; cut_nests = refl }) in
     record {
       end = end;
-      frame = frame-from-some a.sizes 0 (start_of a.seen) end went.goes none;
+      frame = went.goes;
       seen = refl;
       runs = subst (λ l. Runs does r l s) (sym (went.enters.longer ∙ append-nil went.enters.more)) went.enters.runs;
-      ran = went.counts.ran;
+      ran = counts.ran;
       progress = refl;
-      cut_nests = went.counts.cut_nests;
-      takes_once = takes_once a.sizes (start_of a.seen) end goes.goes_on.legal went.goes none;
+      cut_nests = counts.cut_nests;
+      dequeues = dequeues_taken a.sizes 7 (start_of a.seen) end goes.goes_on.legal went.goes none;
       none_out = none;
-      goes_on = goes.goes_on;
-      stage = stage;
+      goes_on = now.goes_on;
+      stage = stage_empty b.stage (no_slices_left b.stage.slices left) hand job;
     }
 
--- the last look found nothing out
-pub Polls-end : {R : Type 0} (sizes : Sizes) (does : R → Entered → R → Type 0) (a b c : Known) (r s t : R) (q u : Polled) → a.sizes ≡ sizes → Goes (TakesAndSome sizes (Frame sizes 0) (nests_above 0)) does (far a r nothing) (far b s q) → (b.stage.hand ≡ None) × (b.stage.job ≡ None) → FindsNone b c q u → t ≡ s → Polls does u r a t c
-Polls-end sizes does a b c r s t q u of goes free none same =
-    let P : Sizes → Type 0 = λ z. Goes (TakesAndSome z (Frame z 0) (nests_above 0)) does (far a r nothing) (far b s q) in
-    let now = subst P (sym of) goes in
-    let at_end = subst (λ k. Goes (TakesAndSome a.sizes (Frame a.sizes 0) (nests_above 0)) does (far a r nothing) (far k t u)) (sym none.same)
-    (subst (λ x. Goes (TakesAndSome a.sizes (Frame a.sizes 0) (nests_above 0)) does (far a r nothing) (far b x u)) (sym same)
-    (subst (λ p. Goes (TakesAndSome a.sizes (Frame a.sizes 0) (nests_above 0)) does (far a r nothing) (far b s p)) (sym none.same_polled) now)) in
-    Polls-of does a c r t u at_end none.none (stage_empty c.stage none.slices (ap (λ (k : Known). k.stage.hand) none.same ∙ free.0) (ap (λ (k : Known). k.stage.job) none.same ∙ free.1))
+-- the lots that the pass kept were given back, and then those that were freed
+pub returns_then : (pool : PoolState) (a b : Known) (p q r : PassState) → GivesAll pool (kept_lots pool p) p q → GivesFreed pool a b q r → ReturnsLots pool a b p r
+returns_then pool a b p q r kept freed = record {
+  made = freed.made;
+  mine = freed.mine;
+  gives = gives_then pool (kept_lots pool p) (frees_of freed.made) p q r kept freed.gives;
+}

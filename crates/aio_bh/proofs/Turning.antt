@@ -1,5 +1,5 @@
 -- What the calls of the home's seat tell a poll: its take, its next dequeue, and an entry into a callback.
-use Rattle.std.proofs.Common.{◌≡◌, ℕ, ◌+◌, ◌<◌, Bool, true, false, not, ◌&&◌, ◌||◌, cond, ltb, Option, None, Some, is_some, option_map, MatchBool, [], ◌∷◌, ◌++◌, refl, sym, ap, ◌∙◌, subst}
+use Rattle.std.proofs.Common.{◌≡◌, ℕ, ◌+◌, ◌-◌, ◌<◌, ◌≤◌, Bool, true, false, not, ◌&&◌, ◌||◌, cond, ltb, Option, None, Some, is_some, option_map, MatchBool, List, length, length-append, eqb, arith, [], ◌∷◌, ◌++◌, refl, sym, ap, ◌∙◌, subst}
 use Rattle.std.proofs.lemmas.Bool.{false≢true, lt-ltb, ltb-true}
 use Rattle.aio_model.specs.declared.flags.Flags.{Flags}
 use Rattle.aio_model.specs.LoopHistory.{Sizes, Take, Dequeue, Free, History}
@@ -13,14 +13,14 @@ use Rattle.aio_model.proofs.AnnouncedOnce.{out_of-dequeue}
 use Rattle.aio_model.proofs.LotLives.{may_free-between}
 use Rattle.aio_core.specs.Known.{Known, empty_stage, numbers_of}
 use Rattle.aio_core.specs.Words.{index_count}
-use Rattle.aio_core.specs.Standing.{is_empty, Frees}
+use Rattle.aio_core.specs.Standing.{is_empty, with_slice, without_first, Frees}
 use Rattle.aio_core.specs.Calls.{TableState, SeatState, IsSeatOf, HasTaken, DequeuesNext, number_in}
 use Rattle.aio_core.proofs.OneShots.{may_free-next}
 use Rattle.aio_bh.specs.declared.polled.Polled.{Polled}
 use Rattle.aio_bh.specs.HomeSteps.{home_steps, steps_for}
 use Rattle.aio_bh.specs.Running.{GivesBack}
 use Rattle.aio_bh.specs.Polling.{GoesOn}
-use Rattle.aio_bh.specs.SoFar.{far, place_of, Goes, IsBetween, MayEnd, TakesNext, Ends, TakesAndSome}
+use Rattle.aio_bh.specs.SoFar.{far, place_of, Goes, CanTake, IsBetween, MayEnd, TakesNext, Ends, TakesAndSome}
 use Rattle.aio_bh.proofs.Entries.{none_of_home, out_beside, out_kept}
 use Rattle.aio_bh.proofs.HomeSteps.{none_added, more_added, two_steps}
 use Rattle.aio_bh.proofs.Parts.{changes, EntersSome-same, some-none}
@@ -45,27 +45,71 @@ Goes-take sizes frame nests does a b r p first count taken =
     let makes = taken.takes.makes in
     let none = none_of_home (numbers_of a) makes.others first count makes.not_own in
     record {
-      at = λ log counts.
+      at = λ log.
           record {
             log_after = log;
             goes = some-none sizes frame nests (place_of (far a r p) log) (place_of (far b r p) log) (record { others = makes.others; not_home = none; seen = makes.seen; log = refl; progress = refl });
             enters = EntersSome-same does r log;
-            counts = counts;
+            counts = λ before. before;
           };
       goes_on = GoesOn-take a b first count taken;
     }
 
-pub between-take : (table : TableState) (a b : SeatState) → IsSeatOf table b → a.known.phase ≡ AtRest → a.known.stage ≡ empty_stage → HasTaken a.known b.known → IsBetween table b
-between-take table a b of rest empty taken =
+one_slice_more : (slices : List ℕ) (found : ℕ) → length (with_slice slices found) ≤ length slices + 1
+one_slice_more slices found = by (eqb found 0)
+  where
+    by : (none : Bool) → length (cond none slices (slices ++ (found ∷ []))) ≤ length slices + 1
+    by true = omega arith
+    by false = omega (arith, length-append slices (found ∷ []))
+
+pub between-take : (table : TableState) (deeper : ℕ) (a b : SeatState) → IsSeatOf table b → CanTake table deeper a → HasTaken a.known b.known → IsBetween table deeper b
+between-take table deeper a b of can taken =
     let takes = taken.takes in
     record {
       of_table = of;
-      rest = ap (λ (k : Known). k.phase) takes.rest ∙ rest;
+      rest = ap (λ (k : Known). k.phase) takes.rest ∙ can.rest;
       legal = subst (λ s. IsLegal s b.known.seen) (sym (ap (λ (k : Known). k.sizes) takes.rest) ∙ of.sizes) takes.makes.legal;
-      hand = ap (λ (k : Known). k.stage.hand) takes.rest ∙ ap (λ s. s.hand) empty;
-      job = ap (λ (k : Known). k.stage.job) takes.rest ∙ ap (λ s. s.job) empty;
-      left = takes.left (ap (λ s. s.hand) empty);
+      hand = ap (λ (k : Known). k.stage.hand) takes.rest ∙ can.hand;
+      job = ap (λ (k : Known). k.stage.job) takes.rest ∙ can.job;
+      left = takes.left can.hand;
+      few = omega (arith, can.few, one_slice_more a.known.stage.slices taken.found, ap (λ (k : Known). length k.stage.slices) takes.rest);
     }
+
+-- a poll that stands in no other
+pub can_take-empty : (table : TableState) (a : SeatState) → IsSeatOf table a → a.known.phase ≡ AtRest → a.known.stage ≡ empty_stage → CanTake table 7 a
+can_take-empty table a of rest empty = record {
+  of_table = of;
+  rest = rest;
+  hand = ap (λ s. s.hand) empty;
+  job = ap (λ s. s.job) empty;
+  few = omega (arith, ap (λ s. length s.slices) empty);
+}
+
+-- one that a callback nests
+pub can_take-nested : (table : TableState) (deeper : ℕ) (a : SeatState) → 0 < deeper → IsBetween table deeper a → CanTake table (deeper - 1) a
+can_take-nested table deeper a some between = record {
+  of_table = between.of_table;
+  rest = between.rest;
+  hand = between.hand;
+  job = between.job;
+  few = omega (arith, between.few, some);
+}
+
+-- once nothing is out no slice is left, so that the frame around goes on
+pub no_slices : (slices out : List ℕ) → is_empty slices ≡ is_empty out → out ≡ [] → length slices ≡ 0
+no_slices [] out same none = refl
+no_slices (i ∷ slices) out same none = absurd (false≢true (same ∙ ap is_empty none))
+
+pub between-drained : (table : TableState) (deeper around : ℕ) (a : SeatState) → around ≤ 8 → IsBetween table deeper a → out_of a.known.seen ≡ [] → IsBetween table around a
+between-drained table deeper around a most between none = record {
+  of_table = between.of_table;
+  rest = between.rest;
+  legal = between.legal;
+  hand = between.hand;
+  job = between.job;
+  left = between.left;
+  few = omega (arith, most, no_slices a.known.stage.slices (out_of a.known.seen) between.left none);
+}
 
 -- The next dequeue.
 
@@ -97,6 +141,13 @@ next_may_end i was None a c next lot =
     absurd (false≢true (sym (lot_has_job a.sizes i None next.below next.of_lot) ∙ lot))
 next_may_end i was (Some n) a c next lot = may_free-next i n was a c next
 
+fewer_slices : (found : ℕ) (more : List ℕ) → length (without_first found more) ≤ length more + 1
+fewer_slices found more = by (eqb found 0)
+  where
+    by : (none : Bool) → length (cond none more (found ∷ more)) ≤ length more + 1
+    by true = omega arith
+    by false = omega arith
+
 TakesNext-of : (i : ℕ) (was : Flags) (job : Option ℕ) (a c : Known) (p q : Polled) → a.first ≡ 64 → a.count ≡ 1 → DequeuesNext i was job a c → q ≡ record p { progress = p.progress || (are_due was && not was.idle) } → TakesNext i (are_due was) job a c p q
 TakesNext-of i was job a c p q first count next noted =
     let b : Known = next.lifted in
@@ -121,6 +172,7 @@ TakesNext-of i was job a c p q first count next noted =
       may_end = next_may_end i was job a c next;
       was_out = sym (out_beside a.seen makes.others none) ∙ out_of-dequeue (makes.others ++ a.seen) i (are_due was) here.0.0 ∙ ap (λ h. i ∷ out_of h) (sym seen);
       rest = changes b c _ _ next.dequeues.rest ∙ ap (λ (k : Known). record k { seen = c.seen; mine = c.mine; did = c.did; stage = c.stage; told = c.told }) up;
+      fewer = omega (arith, ap length next.first, fewer_slices next.found next.more, ap (λ (k : Known). length k.stage.slices) up, ap (λ (k : Known). length k.stage.slices) next.dequeues.rest);
       steps = two_steps (home_steps c.did) (home_steps b.did) (home_steps a.did) (ap (λ (k : Known). home_steps k.did) next.dequeues.rest) (ap (λ (k : Known). home_steps k.did) up);
       progress = noted ∙ ap (λ b. record p { progress = p.progress || (are_due was && not b) }) (ap (λ (f : Flags). f.idle) next.dequeues.were ∙ ap (λ h. is_idle i h) before);
     }
@@ -140,8 +192,8 @@ back_same_out made a b first back =
     let own : entries_of home back.between ≡ made = ap (λ n. entries_of n back.between) (sym first) ∙ back.just_these in
     ap out_of back.seen ∙ out_kept a.seen back.between (ap are_of_callback own ∙ back.of_callback)
 
-pub between-back : (table : TableState) (made : History) (a b : SeatState) → IsSeatOf table b → IsBetween table a → a.known.first ≡ 64 → GivesBack made a.known b.known → IsBetween table b
-between-back table made a b of between first back =
+pub between-back : (table : TableState) (deeper : ℕ) (made : History) (a b : SeatState) → IsSeatOf table b → IsBetween table deeper a → a.known.first ≡ 64 → GivesBack made a.known b.known → IsBetween table deeper b
+between-back table deeper made a b of between first back =
     record {
       of_table = of;
       rest = ap (λ (k : Known). k.phase) back.rest ∙ between.rest;
@@ -149,13 +201,8 @@ between-back table made a b of between first back =
       hand = ap (λ (k : Known). k.stage.hand) back.rest ∙ between.hand;
       job = ap (λ (k : Known). k.stage.job) back.rest ∙ between.job;
       left = ap (λ (k : Known). is_empty k.stage.slices) back.rest ∙ between.left ∙ ap is_empty (sym (back_same_out made a.known b.known first back));
+      few = omega (arith, between.few, ap (λ (k : Known). length k.stage.slices) back.rest);
     }
-
-pub back_may_end : (sizes : Sizes) (i : ℕ) (made : History) (a b : Known) → a.sizes ≡ sizes → a.first ≡ 64 → GivesBack made a b → MayEnd sizes i a.seen → MayEnd sizes i b.seen
-back_may_end sizes i made a b of first back may lot =
-    let own : entries_of home back.between ≡ made = ap (λ n. entries_of n back.between) (sym first) ∙ back.just_these in
-    let legal : IsLegal sizes (back.between ++ a.seen) = subst (IsLegal sizes) back.seen (subst (λ s. IsLegal s b.seen) of back.legal) in
-    subst (MayFollow sizes (Free i)) (sym back.seen) (may_free-between sizes i back.between a.seen legal (ap are_of_callback own ∙ back.of_callback) (may lot))
 
 -- The end of a turn: a lot is freed, and of a handle nothing is done.
 
@@ -171,8 +218,8 @@ pub finished_same_out : (lot : Bool) (i : ℕ) (a b : Known) → a.first ≡ 64 
 finished_same_out true i a b first count frees = freed_same_out i a b first count frees
 finished_same_out false i a b first count same = ap (λ (k : Known). out_of k.seen) same
 
-pub between-finished : (table : TableState) (lot : Bool) (i : ℕ) (a b : SeatState) → IsSeatOf table b → IsBetween table a → a.known.first ≡ 64 → a.known.count ≡ 1 → Finishes lot i a.known b.known → IsBetween table b
-between-finished table true i a b of between first count frees =
+pub between-finished : (table : TableState) (deeper : ℕ) (lot : Bool) (i : ℕ) (a b : SeatState) → IsSeatOf table b → IsBetween table deeper a → a.known.first ≡ 64 → a.known.count ≡ 1 → Finishes lot i a.known b.known → IsBetween table deeper b
+between-finished table deeper true i a b of between first count frees =
     let rest = frees.rest in
     record {
       of_table = of;
@@ -181,14 +228,16 @@ between-finished table true i a b of between first count frees =
       hand = ap (λ (k : Known). k.stage.hand) rest ∙ between.hand;
       job = ap (λ (k : Known). k.stage.job) rest ∙ between.job;
       left = ap (λ (k : Known). is_empty k.stage.slices) rest ∙ between.left ∙ ap is_empty (sym (freed_same_out i a.known b.known first count frees));
+      few = omega (arith, between.few, ap (λ (k : Known). length k.stage.slices) rest);
     }
-between-finished table false i a b of between first count same = record {
+between-finished table deeper false i a b of between first count same = record {
   of_table = of;
   rest = ap (λ (k : Known). k.phase) same ∙ between.rest;
   legal = subst (λ (k : Known). IsLegal table.sizes k.seen) (sym same) between.legal;
   hand = ap (λ (k : Known). k.stage.hand) same ∙ between.hand;
   job = ap (λ (k : Known). k.stage.job) same ∙ between.job;
   left = ap (λ (k : Known). is_empty k.stage.slices) same ∙ between.left ∙ ap (λ (k : Known). is_empty (out_of k.seen)) (sym same);
+  few = omega (arith, between.few, ap (λ (k : Known). length k.stage.slices) same);
 }
 
 GoesOn-freed : (i : ℕ) (a b : Known) → a.first ≡ 64 → a.count ≡ 1 → Frees i a b → GoesOn a b
@@ -212,17 +261,17 @@ Goes-finished true i does a b r p first count legal frees =
     let makes = frees.makes in
     let none = none_of_home (numbers_of a) makes.others first count makes.not_own in
     record {
-      at = λ log counts. record {
+      at = λ log. record {
         log_after = log;
         goes = record { others = makes.others; not_home = none; seen = makes.seen; log = refl; progress = refl };
         enters = EntersSome-same does r log;
-        counts = counts;
+        counts = λ before. before;
       };
       goes_on = GoesOn-freed i a b first count frees;
     }
 Goes-finished false i does a b r p first count legal same =
     subst (λ k. Goes (λ x y. y ≡ x) does (far a r p) (far k r p)) (sym same)
-    (record { at = λ log counts. record { log_after = log; goes = refl; enters = EntersSome-same does r log; counts = counts }; goes_on = GoesOn-same a legal })
+    (record { at = λ log. record { log_after = log; goes = refl; enters = EntersSome-same does r log; counts = λ before. before }; goes_on = GoesOn-same a legal })
 
 pub Goes-ends : {R : Type 0} (sizes : Sizes) (i : ℕ) (does : R → Entered → R → Type 0) (a b : Known) (r : R) (p : Polled) → a.first ≡ 64 → a.count ≡ 1 → a.sizes ≡ sizes → IsLegal sizes a.seen → Finishes (is_lot sizes i) i a b → Goes (Ends sizes i) does (far a r p) (far b r p)
 Goes-ends sizes i does a b r p first count of legal finishes =

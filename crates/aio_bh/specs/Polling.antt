@@ -2,7 +2,7 @@
 use Rattle.std.specs.Prelude.{◌≡◌, ℕ, min, ◌^◌, ◌-◌, ◌+◌, List, [], ◌∷◌, ◌++◌}
 use Rattle.aio_model.specs.LoopHistory.{Take, Dequeue, History}
 use Rattle.aio_model.specs.LoopLegal.{IsLegal}
-use Rattle.aio_model.specs.LoopLists.{out_of}
+use Rattle.aio_model.specs.LoopLists.{stack_of, out_of}
 use Rattle.aio_model.specs.LoopSeats.{home, entries_of}
 use Rattle.aio_model.specs.LoopFrame.{Entered, Place, Frame, start_of, Runs, ran_of, cut_nests_of}
 use Rattle.aio_core.specs.Known.{Known, empty_stage}
@@ -29,18 +29,24 @@ dequeued_in [] = []
 dequeued_in (Dequeue i ran ∷ older) = dequeued_in older ++ i ∷ []
 dequeued_in (_ ∷ older) = dequeued_in older
 
--- The list was taken once, after some of others, and what was out then was dequeued since, each once and in order, and nothing else: what
--- was scheduled since is for a later poll.
-pub record TakesOnce (before after : History) : Type 0 where
+-- the stacks that were taken since, one after another
+abbrev pub stacks_since : History → History → List ℕ
+stacks_since [] older = []
+stacks_since (Take ∷ newer) older = stacks_since newer older ++ stack_of (newer ++ older)
+stacks_since (_ ∷ newer) older = stacks_since newer older
+
+-- The list was taken first, after some of others. What was out then, and then what each later take found, was dequeued since, each once
+-- and in this order, and nothing else: what was pushed behind the last take is for a later poll.
+pub record DequeuesTaken (before after : History) : Type 0 where
   pub others : History
   pub not_home : entries_of home others ≡ []
   pub later : History
   pub seen : after ≡ later ++ (Take ∷ (others ++ before))
-  pub each_once : dequeued_in later ≡ out_of (Take ∷ (others ++ before))
+  pub each_once : dequeued_in later ≡ out_of (Take ∷ (others ++ before)) ++ stacks_since later (Take ∷ (others ++ before))
 
 -- How many polls may stand in one another, the outermost among them.
 abbrev pub depths : ℕ
-depths = 1
+depths = 8
 
 -- A poll: from the place where it began its frame leads to an end, where nothing is out; the runner did the entries of that frame and
 -- no others, and what was counted is theirs.
@@ -52,7 +58,7 @@ pub record Polls {R : Type 0} (does : R → Entered → R → Type 0) (polled : 
   pub ran : polled.ran ≡ counted (ran_of end.log)
   pub progress : polled.progress ≡ end.progress
   pub cut_nests : polled.cut_nests ≡ counted (cut_nests_of end.log)
-  pub takes_once : TakesOnce before.seen after.seen
+  pub dequeues : DequeuesTaken before.seen after.seen
   pub none_out : out_of after.seen ≡ []
   pub goes_on : GoesOn before after
   pub stage : after.stage ≡ empty_stage

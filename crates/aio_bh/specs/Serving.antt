@@ -1,12 +1,23 @@
 -- What a poll does for each handle, and for what callbacks made.
-use Rattle.std.specs.Prelude.{◌≡◌, ℕ, ◌<◌, ◌≤◌, false, List, [], ◌∷◌, ◌++◌, ◌⊎◌}
+use Rattle.std.specs.Prelude.{◌≡◌, ℕ, ◌<◌, ◌≤◌, suc, Bool, true, false, ◌||◌, List, [], ◌∷◌, ◌++◌, ◌⊎◌}
 use Rattle.aio_model.specs.declared.flags.Flags.{Flags}
 use Rattle.aio_model.specs.LoopHistory.{Sizes, ToCall, Enqueue, Take, History}
 use Rattle.aio_model.specs.LoopLists.{was_put}
 use Rattle.aio_model.specs.LoopLaws.{some_entry}
 use Rattle.aio_model.specs.LoopSeats.{home, entries_of}
-use Rattle.aio_model.specs.LoopFrame.{Entered}
+use Rattle.aio_model.specs.LoopFrame.{Answer, Nests, Entered}
 use Rattle.aio_model.specs.LoopCalls.{entry_times, dequeue_times, stops, AwaitsCall}
+
+-- it asked for a nested poll, and had one left
+abbrev pub gets_nest : Answer → ℕ → Bool
+gets_nest Nests (suc nests) = true
+gets_nest _ _ = false
+
+-- some entry into the runner got a nested poll
+abbrev pub some_nests : List Entered → Bool
+some_nests [] = false
+some_nests (entered ∷ older) =
+    gets_nest entered.answer entered.lent.nests_left || some_nests older
 
 -- some entry into the runner made just these entries
 abbrev pub WasMade : History → List Entered → Type 0
@@ -21,7 +32,7 @@ pub record StandsWithin (made history : History) : Type 0 where
   pub is : history ≡ newer ++ (between ++ older)
   pub just_these : entries_of home between ≡ made
 
--- The list was taken after some of others. Each handle was called once at most; once, where at the take it awaited its call and nobody
+-- A poll in which no callback nests. The list was taken after some of others. Each handle was called once at most; once, where at the take it awaited its call and nobody
 -- canceled or deleted it since; and not at all, where it wasn't pushed. What was enqueued since, where it wasn't pending, is not
 -- dequeued before the next poll. What callbacks made stands behind the take.
 pub record Serves (sizes : Sizes) (before : History) (log : List Entered) (after : History) : Type 0 where

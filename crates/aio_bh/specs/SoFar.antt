@@ -1,5 +1,5 @@
 -- How far a poll has come, and what its parts add.
-use Rattle.std.specs.Prelude.{◌≡◌, ℕ, ◌<◌, min, ◌+◌, ◌^◌, ◌-◌, Bool, true, not, ◌&&◌, ◌||◌, if◌then◌else◌, MatchBool, Option, None, List, [], ◌∷◌, ◌++◌}
+use Rattle.std.specs.Prelude.{◌≡◌, ℕ, ◌<◌, ◌≤◌, length, min, ◌+◌, ◌^◌, ◌-◌, Bool, true, false, not, ◌&&◌, ◌||◌, if◌then◌else◌, MatchBool, Option, None, List, [], ◌∷◌, ◌++◌}
 use Rattle.aio_model.specs.LoopHistory.{Sizes, Take, Dequeue, Free, History}
 use Rattle.aio_model.specs.LoopFlags.{is_idle, is_lot}
 use Rattle.aio_model.specs.LoopLists.{out_of, job_of}
@@ -43,21 +43,31 @@ pub record Went {R : Type 0} (relation : Place → Place → Type 0) (does : R �
   pub log_after : List Entered
   pub goes : relation (place_of old log) (place_of new log_after)
   pub enters : EntersSome does old.runner log new.runner log_after
-  pub counts : Counts new.polled log_after
+  pub counts : Counts old.polled log → Counts new.polled log_after
 
 -- whatever entries there were before
 pub record Goes {R : Type 0} (relation : Place → Place → Type 0) (does : R → Entered → R → Type 0) (old new : Far R) : Type 0 where
-  pub at : (log : List Entered) → Counts old.polled log → Went relation does old new log
+  pub at : (log : List Entered) → Went relation does old new log
   pub goes_on : GoesOn old.known new.known
 
--- Between two turns the home is at rest with nothing at hand, and what it has taken is left exactly where something is out.
-pub record IsBetween (table : TableState) (seat : SeatState) : Type 0 where
+-- Before a frame with so many depths below its own the home is at rest with nothing at hand, and has room for a slice a frame.
+pub record CanTake (table : TableState) (deeper : ℕ) (seat : SeatState) : Type 0 where
+  pub of_table : IsSeatOf table seat
+  pub rest : seat.known.phase ≡ AtRest
+  pub hand : seat.known.stage.hand ≡ None
+  pub job : seat.known.stage.job ≡ None
+  pub few : length seat.known.stage.slices + deeper ≤ 7
+
+-- Between two turns of such a frame the home is at rest with nothing at hand, what it has taken is left exactly where something is out,
+-- and no more slices are left than frames have taken one.
+pub record IsBetween (table : TableState) (deeper : ℕ) (seat : SeatState) : Type 0 where
   pub of_table : IsSeatOf table seat
   pub rest : seat.known.phase ≡ AtRest
   pub legal : IsLegal table.sizes seat.known.seen
   pub hand : seat.known.stage.hand ≡ None
   pub job : seat.known.stage.job ≡ None
   pub left : is_empty seat.known.stage.slices ≡ is_empty (out_of seat.known.seen)
+  pub few : length seat.known.stage.slices + deeper ≤ 8
 
 -- nothing was out
 pub record FindsNone (before after : Known) (polled polled_after : Polled) : Type 0 where
@@ -84,6 +94,7 @@ pub record TakesNext (i : ℕ) (ran : Bool) (job : Option ℕ) (before after : K
   pub may_end : MayEnd before.sizes i after.seen
   pub was_out : out_of before.seen ≡ i ∷ out_of after.seen
   pub rest : after ≡ record before { seen = after.seen; mine = after.mine; did = after.did; stage = after.stage; told = after.told }
+  pub fewer : length after.stage.slices ≤ length before.stage.slices
   pub steps : home_steps after.did ≡ home_steps before.did + 2
   pub progress : polled_after ≡ record polled { progress = polled.progress || (ran && not (is_idle i (others ++ before.seen))) }
 
@@ -91,6 +102,11 @@ pub record TakesNext (i : ℕ) (ran : Bool) (job : Option ℕ) (before after : K
 abbrev pub Calls : (Place → Place → Type 0) → ℕ → ℕ → Option ℕ → Bool → Place → Place → Type 0
 Calls frame nests index job ran before after =
     MatchBool ran (Body frame index job true nests before after) (after ≡ before)
+
+-- what follows where a callback nests: a frame, and then the rest of its body, with so many nests left
+abbrev pub BehindNest : (Place → Place → Type 0) → ℕ → ℕ → Place → Place → Type 0
+BehindNest frame index nests before after =
+    (back : Place) × frame before back × Body frame index None false nests back after
 
 -- a lot is freed
 abbrev pub Ends : Sizes → ℕ → Place → Place → Type 0

@@ -1,4 +1,4 @@
-ghost use Rattle.std.specs.Prelude.{◌≡◌, true};
+ghost use Rattle.std.specs.Prelude.{◌≡◌, true, false, None};
 
 /// What a callback is lent for one entry. Only a poll makes one, and lends it, so that nobody has one outside a callback.
 #[derive(Drop)]
@@ -16,6 +16,7 @@ pub struct Call<J> {
 
 impl<J> Call<J> {
     /// The first entry into a callback, with the job of a one-shot.
+    #[inline(always)]
     pub(crate) fn first_entry(bh: u32, job: Option<J>, nests_left: u32) -> Call<J>
         ensures { (result.bh ≡ bh) × (result.job ≡ job) × (result.first ≡ true) × (result.nests_left ≡ nests_left) }
     {
@@ -23,6 +24,19 @@ impl<J> Call<J> {
             bh,
             job,
             first: true,
+            nests_left,
+            by_poll: (),
+        }
+    }
+
+    /// A further entry, behind a nested poll.
+    pub(crate) fn further_entry(bh: u32, nests_left: u32) -> Call<J>
+        ensures { (result.bh ≡ bh) × (result.job ≡ None) × (result.first ≡ false) × (result.nests_left ≡ nests_left) }
+    {
+        Call {
+            bh,
+            job: None,
+            first: false,
             nests_left,
             by_poll: (),
         }

@@ -15,6 +15,7 @@ use aio_notify::Notify;
 use std::sync::Wait;
 
 /// One more try to push an index that the seat has announced. Err gives the debt back, where another head was found.
+#[inline(always)]
 fn try_to_push<J: Job>(
     table: &LoopTable<J>,
     seat: &mut Seat<J>,
@@ -31,6 +32,7 @@ fn try_to_push<J: Job>(
 }
 
 /// One more try to push an index that the seat has announced, with the notify where it pushed.
+#[inline(always)]
 pub fn push_and_notify<J: Job>(
     table: &LoopTable<J>,
     seat: &mut Seat<J>,
@@ -72,7 +74,7 @@ pub fn push_in_the_end<J: Job, R: Wait>(
 }
 
 /// An enqueue of this kind that tries once to push.
-#[inline]
+#[inline(always)]
 pub fn try_schedule_as<J: Job>(table: &LoopTable<J>, seat: &mut Seat<J>, bh: u32, kind: Kind) -> Put
     requires seat { IsSeatOf table.now seat.old }
     requires rest { seat.old.known.phase ≡ AtRest }

@@ -3,6 +3,7 @@
 
 mod call;
 mod enqueue;
+mod frames;
 mod once;
 mod polled;
 mod polls;

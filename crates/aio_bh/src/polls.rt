@@ -1,247 +1,27 @@
 //! A poll, after aio_bh_poll of QEMU's util/async.c: the home thread takes the list whole, and dequeues until nothing that it took
 //! is left. What a callback schedules goes into the list behind its back, for the next poll. A lot is free again once its callback
 //! has ended.
-ghost use Rattle.std.specs.Prelude.{◌≡◌, ◌+◌, ◌-◌, ◌^◌, ◌<◌, min, not, ◌&&◌, ◌||◌, true, false, None, Some, option_map, length, MatchBool, MatchOption, MatchResult, if◌then◌else◌};
+ghost use Rattle.std.specs.Prelude.{◌≡◌, ◌<◌, MatchResult};
 ghost use Rattle.aio_model.specs.LoopHistory.{ToCall, ToCallIdle, ToDelete};
 ghost use Rattle.aio_model.specs.InFlight.{AtRest, Announced as announced};
-ghost use Rattle.aio_model.specs.LoopFlags.{are_due, is_lot};
-ghost use Rattle.aio_model.specs.LoopLists.{out_of};
-ghost use Rattle.aio_model.specs.LoopLegal.{IsLegal};
-ghost use Rattle.aio_model.specs.LoopFrame.{Frame, Body, lent_of};
-ghost use Rattle.aio_model.specs.LoopFrame.{Turn as OneTurn};
 ghost use Rattle.aio_core.specs.Known.{empty_stage};
-ghost use Rattle.aio_core.specs.Words.{index_count};
-ghost use Rattle.aio_core.specs.Standing.{Frees};
 ghost use Rattle.aio_core.specs.Calls.{IsSeatOf};
 ghost use Rattle.aio_bh.specs.Enqueuing.{PushesAndNotifies, MissesOnce, Schedules, enqueue_entries, Stands};
 ghost use Rattle.aio_bh.specs.Puts.{TriedToPut};
-ghost use Rattle.aio_bh.specs.Running.{answer_by, RunsOnce};
 ghost use Rattle.aio_bh.specs.Polling.{Polls};
-ghost use Rattle.aio_bh.specs.OneShots.{IsPoolFor, FindsNoRoom, PlacesOnce, FreesNone, GivesFreed, ReturnsLots};
+ghost use Rattle.aio_bh.specs.OneShots.{IsPoolFor, FindsNoRoom, PlacesOnce, ReturnsLots};
 ghost use Rattle.lot_pool.specs.Pools.{IsPassOf, IsHomeOf};
-ghost use Rattle.aio_bh.specs.SoFar.{far, Goes, Calls, Follows, IsBetween, FindsNone, MayEnd, TakesNext, noted};
 
-use crate::call::Call;
 use crate::enqueue::{push_and_notify, schedule_as, try_schedule_as};
+use crate::frames::{OUTERMOST, frame};
 use crate::once::{NoRoom, once_in};
 use crate::polled::Polled;
 use crate::put::Put;
 use crate::runner::Runner;
-use crate::turn::Turn;
-use aio_core::{Announced, Dequeued, Home, Job, LoopTable, Seat};
+use aio_core::{Announced, Home, Job, LoopTable, Seat};
 use aio_model::{Flags, Kind};
 use lot_pool::{LotPass, LotPool};
 use std::sync::Wait;
-
-/// How many nested polls a callback may ask for: none, as polls don't nest yet.
-const NESTS: u32 = 0;
-
-/// Enters a callback for the first time. What it leaves of what it is lent is dropped.
-fn enter<J: Job + Drop, R: Runner<J>>(
-    table: &LoopTable<J>,
-    seat: &mut Seat<J>,
-    runner: &mut R,
-    bh: u32,
-    job: Option<J>,
-) -> Turn
-    requires can_run { R.can_run runner.old table.now.sizes }
-    requires seat { IsSeatOf table.now seat.old }
-    requires home { (seat.old.known.first ≡ 64) × (seat.old.known.count ≡ 1) }
-    requires rest { seat.old.known.phase ≡ AtRest }
-    requires legal { IsLegal table.now.sizes seat.old.known.seen }
-    requires index { bh < index_count table.now.sizes }
-    requires handle { job ≡ None → bh < table.now.sizes.handles }
-    ensures can_run { R.can_run runner.new table.now.sizes }
-    ensures seat { IsSeatOf table.now seat.new }
-    ensures runs { RunsOnce R.does (lent_of bh (option_map J.number_of job) true 0) (answer_by result) runner.old seat.old.known runner.new seat.new.known }
-{
-    let mut call = Call::first_entry(bh, job, NESTS);
-    runner.run(table, seat, &mut call)
-}
-
-/// Whether what had these flags is called.
-fn is_due(was: Flags) -> bool
-    ensures { result ≡ are_due was }
-{
-    was.scheduled && !was.deleted
-}
-
-impl Polled {
-    fn nothing() -> Polled
-        ensures { result ≡ record { progress = false; ran = 0; cut_nests = 0 } }
-    {
-        Polled {
-            progress: false,
-            ran: 0,
-            cut_nests: 0,
-        }
-    }
-
-    /// A dequeue of what had these flags. A call is progress, unless it is idle.
-    fn note_dequeue(&mut self, was: Flags)
-        ensures { self.new ≡ record self.old { progress = self.old.progress || (are_due was && not was.idle) } }
-    {
-        self.progress = self.progress || (is_due(was) && !was.idle);
-    }
-
-    /// A first entry into a callback that could nest no more.
-    fn note(&mut self, turn: Turn)
-        ensures { self.new ≡ noted true (answer_by turn) 0 self.old }
-    {
-        self.ran = self.ran.saturating_add(1);
-        if turn == Turn::Nest {
-            self.cut_nests = self.cut_nests.saturating_add(1);
-        }
-    }
-}
-
-/// Dequeues the first that is out. None where nothing is.
-fn next<J: Job + Drop>(
-    table: &LoopTable<J>,
-    home: &mut Home<J>,
-    polled: &mut Polled,
-) -> Option<Dequeued<J>>
-    requires between { IsBetween table.now home.old.seat }
-    ensures between { IsBetween table.now home.new.seat }
-    ensures next { MatchOption result (FindsNone home.old.seat.known home.new.seat.known polled.old polled.new) (λ next. TakesNext next.bh (are_due next.flags) (option_map J.number_of next.job) home.old.seat.known home.new.seat.known polled.old polled.new) }
-{
-    let next = table.dequeue_next(home)?;
-    polled.note_dequeue(next.flags);
-    Some(next)
-}
-
-/// Calls a callback.
-fn body<J: Job + Drop, R: Runner<J>>(
-    table: &LoopTable<J>,
-    home: &mut Home<J>,
-    runner: &mut R,
-    bh: u32,
-    job: Option<J>,
-    polled: &mut Polled,
-)
-    requires can_run { R.can_run runner.old table.now.sizes }
-    requires between { IsBetween table.now home.old.seat }
-    requires index { bh < index_count table.now.sizes }
-    requires handle { job ≡ None → bh < table.now.sizes.handles }
-    ensures can_run { R.can_run runner.new table.now.sizes }
-    ensures between { IsBetween table.now home.new.seat }
-    ensures same_out { out_of home.new.seat.known.seen ≡ out_of home.old.seat.known.seen }
-    ensures may_end { MayEnd table.now.sizes bh home.old.seat.known.seen → MayEnd table.now.sizes bh home.new.seat.known.seen }
-    ensures frees_none { FreesNone home.old.seat.known home.new.seat.known }
-    ensures goes { Goes (Body (Frame table.now.sizes 0) bh (option_map J.number_of job) true 0) R.does (far home.old.seat.known runner.old polled.old) (far home.new.seat.known runner.new polled.new) }
-{
-    let turn = enter(table, &mut home.seat, runner, bh, job);
-    polled.note(turn);
-}
-
-/// Calls what was dequeued, where it is due.
-fn call<J: Job + Drop, R: Runner<J>>(
-    table: &LoopTable<J>,
-    home: &mut Home<J>,
-    runner: &mut R,
-    next: Dequeued<J>,
-    polled: &mut Polled,
-)
-    requires can_run { R.can_run runner.old table.now.sizes }
-    requires between { IsBetween table.now home.old.seat }
-    requires index { next.bh < index_count table.now.sizes }
-    requires handle { next.job ≡ None → next.bh < table.now.sizes.handles }
-    ensures can_run { R.can_run runner.new table.now.sizes }
-    ensures between { IsBetween table.now home.new.seat }
-    ensures same_out { out_of home.new.seat.known.seen ≡ out_of home.old.seat.known.seen }
-    ensures may_end { MayEnd table.now.sizes next.bh home.old.seat.known.seen → MayEnd table.now.sizes next.bh home.new.seat.known.seen }
-    ensures frees_none { FreesNone home.old.seat.known home.new.seat.known }
-    ensures goes { Goes (Calls (Frame table.now.sizes 0) 0 next.bh (option_map J.number_of next.job) (are_due next.flags)) R.does (far home.old.seat.known runner.old polled.old) (far home.new.seat.known runner.new polled.new) }
-{
-    if is_due(next.flags) {
-        body(table, home, runner, next.bh, next.job, polled);
-    }
-}
-
-/// Ends a turn: the life of a lot is over, and the pool gets it back.
-fn finish<J: Job + Drop, W: Wait>(
-    rt: &W,
-    table: &LoopTable<J>,
-    pool: &LotPool,
-    pass: &mut LotPass,
-    home: &mut Home<J>,
-    bh: u32,
-)
-    requires seat { IsSeatOf table.now home.old.seat }
-    requires index { bh < index_count table.now.sizes }
-    requires may_end { MayEnd table.now.sizes bh home.old.seat.known.seen }
-    requires pool { IsPoolFor table.now.sizes pool.now }
-    requires pass { IsHomeOf pool.now pass.old }
-    ensures seat { IsSeatOf table.now home.new.seat }
-    ensures ends { MatchBool (is_lot table.now.sizes bh) (Frees bh home.old.seat.known home.new.seat.known) (home.new.seat.known ≡ home.old.seat.known) }
-    ensures pass { IsHomeOf pool.now pass.new }
-    ensures gives { GivesFreed pool.now home.old.seat.known home.new.seat.known pass.old pass.new }
-{
-    if bh < table.handles() {
-        return;
-    }
-    table.free(home, bh);
-    pool.give_back(rt, pass, bh);
-}
-
-/// What follows a dequeue in its turn.
-fn follow<J: Job + Drop, R: Runner<J>, W: Wait>(
-    rt: &W,
-    table: &LoopTable<J>,
-    pool: &LotPool,
-    pass: &mut LotPass,
-    home: &mut Home<J>,
-    runner: &mut R,
-    next: Dequeued<J>,
-    polled: &mut Polled,
-)
-    requires can_run { R.can_run runner.old table.now.sizes }
-    requires between { IsBetween table.now home.old.seat }
-    requires index { next.bh < index_count table.now.sizes }
-    requires handle { next.job ≡ None → next.bh < table.now.sizes.handles }
-    requires may_end { MayEnd table.now.sizes next.bh home.old.seat.known.seen }
-    requires pool { IsPoolFor table.now.sizes pool.now }
-    requires pass { IsHomeOf pool.now pass.old }
-    ensures can_run { R.can_run runner.new table.now.sizes }
-    ensures between { IsBetween table.now home.new.seat }
-    ensures same_out { out_of home.new.seat.known.seen ≡ out_of home.old.seat.known.seen }
-    ensures goes { Goes (Follows table.now.sizes (Frame table.now.sizes 0) 0 next.bh (option_map J.number_of next.job) (are_due next.flags)) R.does (far home.old.seat.known runner.old polled.old) (far home.new.seat.known runner.new polled.new) }
-    ensures pass { IsHomeOf pool.now pass.new }
-    ensures gives { GivesFreed pool.now home.old.seat.known home.new.seat.known pass.old pass.new }
-{
-    let bh = next.bh;
-    call(table, home, runner, next, polled);
-    finish(rt, table, pool, pass, home, bh);
-}
-
-/// One turn. False where nothing was out.
-fn turn<J: Job + Drop, R: Runner<J>, W: Wait>(
-    rt: &W,
-    table: &LoopTable<J>,
-    pool: &LotPool,
-    pass: &mut LotPass,
-    home: &mut Home<J>,
-    runner: &mut R,
-    polled: &mut Polled,
-) -> bool
-    requires can_run { R.can_run runner.old table.now.sizes }
-    requires between { IsBetween table.now home.old.seat }
-    requires pool { IsPoolFor table.now.sizes pool.now }
-    requires pass { IsHomeOf pool.now pass.old }
-    ensures can_run { R.can_run runner.new table.now.sizes }
-    ensures between { IsBetween table.now home.new.seat }
-    ensures goes { result ≡ true → Goes (OneTurn table.now.sizes (Frame table.now.sizes 0) 0) R.does (far home.old.seat.known runner.old polled.old) (far home.new.seat.known runner.new polled.new) }
-    ensures shorter { result ≡ true → length (out_of home.new.seat.known.seen) < length (out_of home.old.seat.known.seen) }
-    ensures none { result ≡ false → FindsNone home.old.seat.known home.new.seat.known polled.old polled.new × (runner.new ≡ runner.old) }
-    ensures pass { IsHomeOf pool.now pass.new }
-    ensures gives { GivesFreed pool.now home.old.seat.known home.new.seat.known pass.old pass.new }
-{
-    let Some(next) = next(table, home, polled) else {
-        return false;
-    };
-    follow(rt, table, pool, pass, home, runner, next, polled);
-    true
-}
 
 /// What the home thread does with bottom halves.
 pub trait BottomHalves<J: Job + Drop> {
@@ -315,8 +95,11 @@ pub trait BottomHalves<J: Job + Drop> {
         ensures placed { MatchResult result (λ _. PlacesOnce (J.number_of job) pass.old seat.old.known pass.new seat.new.known) (λ refused. (refused.job ≡ job) × FindsNoRoom pass.old seat.old.known pass.new seat.new.known) };
 
     /// Calls back all that is due of what was scheduled before, one after another, the last one first, and dequeues the
-    /// rest. What a callback schedules is for the next poll. The lots of one-shots go back to the pool, or stay with the pass
-    /// until the next poll where the pool was found full. The home thread, outside any poll, with the pool's home pass.
+    /// rest. A callback that answers `Nest` gets a poll of its own, which also goes on with what this one had left, and then it
+    /// is entered again: four times at most, and to eight polls in one another. What a callback schedules is for the next poll
+    /// that takes the list, a nested one among them. The lots of one-shots go back to the pool, or stay with the pass until
+    /// the next poll where the pool was found full. It takes no memory. The home thread, outside any poll, with the pool's home
+    /// pass.
     fn poll<R: Runner<J>, W: Wait>(
         &self,
         rt: &W,
@@ -384,8 +167,7 @@ impl<J: Job + Drop> BottomHalves<J> for LoopTable<J> {
     ) -> Polled {
         let mut polled = Polled::nothing();
         pool.give_kept(rt, pass);
-        self.take(home);
-        while turn(rt, self, pool, pass, home, runner, &mut polled) {}
+        frame(rt, self, pool, pass, home, runner, &mut polled, OUTERMOST);
         polled
     }
 }

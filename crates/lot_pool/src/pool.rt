@@ -175,18 +175,28 @@ impl LotPool {
         }
     }
 
+    /// Gives back the lots that the home's pass keeps. Rare: the pool was found full.
+    #[cold]
+    fn give_each_kept<R: Wait>(&self, rt: &R, home: &mut LotPass)
+        requires home { IsHomeOf self.now home.old }
+        ensures home { IsHomeOf self.now home.new }
+        ensures given { GivesAll self.now (kept_lots self.now home.old) home.old home.new }
+    {
+        for index in 0..self.lots {
+            self.give_if_kept(rt, home, index);
+        }
+    }
+
     /// Gives back each lot that the home's pass keeps, in rising order.
+    #[inline(always)]
     #[tactic(auto, using(crate::proofs::Passes::gives_none))]
     pub fn give_kept<R: Wait>(&self, rt: &R, home: &mut LotPass)
         requires home { IsHomeOf self.now home.old }
         ensures home { IsHomeOf self.now home.new }
         ensures given { GivesAll self.now (kept_lots self.now home.old) home.old home.new }
     {
-        if home.kept == 0 {
-            return;
-        }
-        for index in 0..self.lots {
-            self.give_if_kept(rt, home, index);
+        if home.kept != 0 {
+            self.give_each_kept(rt, home);
         }
     }
 }

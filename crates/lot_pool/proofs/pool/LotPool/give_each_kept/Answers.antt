@@ -1,7 +1,7 @@
 use Rattle.std.proofs.Common.{◌≡◌, MatchBool, ◌∙◌, subst, arith, ◌+◌}
 use Rattle.lot_pool.specs.Pools.{GivesBack}
 use Rattle.lot_pool.proofs.Passes.{gives_next, others_stay}
-use Rattle.lot_pool.proofs.pool.LotPool.give_kept.Goals as goal
+use Rattle.lot_pool.proofs.pool.LotPool.give_each_kept.Goals as goal
 
 pub loop-index-preserved : goal.loop-index-preserved
 loop-index-preserved g c =

@@ -1,6 +1,6 @@
 use Rattle.std.proofs.Common.{◌≡◌, ℕ, ◌≤◌, false, get_or}
 use Rattle.lot_pool.specs.Pools.{IsHomeOf, GivesAll, kept_among}
-use Rattle.lot_pool.proofs.pool.LotPool.give_kept.Given as goal
+use Rattle.lot_pool.proofs.pool.LotPool.give_each_kept.Given as goal
 
 abbrev pub invariant-loop-index : goal.invariant-loop-index
 invariant-loop-index g l = record {

@@ -1,5 +1,5 @@
 use Rattle.aio_bh.proofs.Turning.{takes_next}
-use Rattle.aio_bh.proofs.polls.next.Goals as goal
+use Rattle.aio_bh.proofs.frames.next.Goals as goal
 
 pub returns-clause-next : goal.returns-clause-next
 returns-clause-next g c =
