@@ -29,3 +29,6 @@ pub mod Holds
 pub mod RwTable
 pub mod CoroutineHistory
 pub mod CoroutineLaws
+pub mod LockHistory
+pub mod LockNotes
+pub mod LockSeats
