@@ -116,8 +116,8 @@ module _ (sizes : Sizes) where
         freed turn.index turn.ran (is_lot sizes turn.index) a turn.dequeued turn.ended b (Lasts-dequeue turn.index turn.ran d.others a turn.dequeued d.not_home d.seen)
         (Lasts-calls nests turn.index _ turn.ran turn.dequeued turn.ended turn.body) turn.free
         (λ i legal may.
-            let whole = subst (IsLegal sizes) d.seen legal in
-            other_than i turn.index turn.ran (d.others ++ a.seen) whole (may_free-between sizes i d.others a.seen whole.1 (ap are_of_callback d.not_home) may))
+        let whole = subst (IsLegal sizes) d.seen legal in
+        other_than i turn.index turn.ran (d.others ++ a.seen) whole (may_free-between sizes i d.others a.seen whole.1 (ap are_of_callback d.not_home) may))
 
     pub Lasts-turns : (nests count : ℕ) (a b : Place) → Turns sizes frame nests count a b → Lasts sizes a b
     Lasts-turns nests zero a b same = Lasts-same a b same

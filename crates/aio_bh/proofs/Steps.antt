@@ -17,7 +17,6 @@ use Rattle.aio_bh.proofs.Parts.{Body-cut, Body-ended, EntersSome-same, Goes-as, 
 
 -- How many nested polls are left.
 
-
 some_depth : (deeper nests : ℕ) → 0 < nests → nests ≤ nests_above deeper → 0 < deeper
 some_depth zero nests some few = absurd (omega (arith, some, few))
 some_depth (suc deeper) nests some few = omega arith

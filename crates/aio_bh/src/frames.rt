@@ -215,7 +215,9 @@ fn body<J: Job + Drop, R: Runner<J>, W: Wait>(
     let turn = enter(table, &mut home.seat, runner, call);
     polled.note(first, turn, nests);
     if gets_nest(turn, nests) {
-        nest(rt, table, pool, pass, home, runner, bh, nests, polled, deeper);
+        nest(
+            rt, table, pool, pass, home, runner, bh, nests, polled, deeper,
+        );
     }
 }
 

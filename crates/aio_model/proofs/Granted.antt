@@ -132,11 +132,11 @@ grants_reader : (room who : ℕ) (readers : List ℕ) (rest : List Ticket) → N
     → WakesFrom (record { room = room; holders = Readers readers; tickets = record { owner = who; wish = wish.Read } ∷ rest }) (record { woken = Some who; state = record { room = room; holders = Readers (readers ++ who ∷ []); tickets = rest } })
 grants_reader room who readers rest apart i = elim (cases_eq i who) [
   | inl same ↦ subst (λ k. hold_in k (Readers (readers ++ who ∷ [])) (waiting k rest) ≡ after_wake (Some who) k (hold_in k (Readers readers) (waiting k (record { owner = who; wish = wish.Read } ∷ rest)))) (sym same) (
-    let e : eqb who who ≡ true = eq-eqb who who refl in
-    let before : is_reader who readers ≡ false = not_reader who readers (record { owner = who; wish = wish.Read } ∷ rest) wish.Read apart (first_waits who wish.Read rest) in
-    let after = reader_added-same who readers in
-    rw (after, e, before) refl
-  )
+      let e : eqb who who ≡ true = eq-eqb who who refl in
+      let before : is_reader who readers ≡ false = not_reader who readers (record { owner = who; wish = wish.Read } ∷ rest) wish.Read apart (first_waits who wish.Read rest) in
+      let after = reader_added-same who readers in
+      rw (after, e, before) refl
+      )
   | inr ne ↦
       let e : eqb i who ≡ false = ne_eqb i who ne in
       let after = reader_added-other i who readers ne in

@@ -9,7 +9,7 @@ use Rattle.aio_model.specs.declared.holds.Wish.{Wish}
 use Rattle.aio_model.specs.declared.holds.Wish.TheVariants as wish
 use Rattle.aio_model.specs.Readers.{Holders, Readers, Writer, Ticket, ReadersWriter, is_reader, other_readers, waits_by, waiting, hold_in, hold_of}
 use Rattle.aio_model.specs.Holds.{Has, Waits, granted, after_wake, answered, AreOnce, IsOrderly, IsSettled}
-use Rattle.aio_model.specs.RwTable.{Woke, Exchanged, queued_again,  with_ticket, read_by, read_locked, written_by, write_locked, granted_to, wake_first, wake_one, without_holder, released, unlocked, with_reader, downgraded, stepped_back, upgraded_by, upgraded}
+use Rattle.aio_model.specs.RwTable.{Woke, Exchanged, queued_again, with_ticket, read_by, read_locked, written_by, write_locked, granted_to, wake_first, wake_one, without_holder, released, unlocked, with_reader, downgraded, stepped_back, upgraded_by, upgraded}
 use Rattle.aio_model.proofs.Granted.{waits-nonfree, waits_only, not_written, test_writes, reader_added-same, reader_added-other, reader_gone-same, reader_gone-other, ticket_added-same, ticket_added-other, granted_no_more, wakes}
 use Rattle.aio_model.proofs.Orderly.{free_parts, free_no_reader, admits_reader, admits_writer, queues, releases, wake_keeps, wake_settles}
 
@@ -331,6 +331,7 @@ wakes_room state = first_room state state.tickets
     granted_room who wish.Write state (Readers (r ∷ rs)) rest = refl
     granted_room who wish.Read state (Writer writer) rest = refl
     granted_room who wish.Write state (Writer writer) rest = refl
+
     first_room : (state : ReadersWriter) (tickets : List Ticket) → (wake_first state tickets).state.room ≡ state.room
     first_room state [] = refl
     first_room state (t ∷ ts) = granted_room t.owner t.wish state state.holders ts

@@ -93,9 +93,10 @@ free_still i who (Readers readers) waits e =
 -- a ticket more, of an owner that has none
 waits_once_more : (who : ℕ) (wish : Wish) (tickets : List Ticket) → waiting who tickets ≡ Free → WaitOnce tickets → WaitOnce (tickets ++ record { owner = who; wish = wish } ∷ [])
 waits_once_more who wish [] free once = (refl, tt)
-waits_once_more who wish (t ∷ ts) free once =
-    (ticket_added-other t.owner who wish ts (λ e. waits-nonfree t.wish (sym (waits_here t.owner t.wish ts) ∙ ap (λ k. waiting k (t ∷ ts)) e ∙ free)) ∙ once.0,
-    waits_once_more who wish ts (free_behind who t ts free) once.1)
+waits_once_more who wish (t ∷ ts) free once = (
+  ticket_added-other t.owner who wish ts (λ e. waits-nonfree t.wish (sym (waits_here t.owner t.wish ts) ∙ ap (λ k. waiting k (t ∷ ts)) e ∙ free)) ∙ once.0,
+  waits_once_more who wish ts (free_behind who t ts free) once.1,
+)
 
 module _ (room : ℕ) where
   abbrev stand : Holders → List Ticket → ReadersWriter

@@ -1,6 +1,7 @@
 //! A notice board that many read and one edits: a small user of `co_waits`, to read beside docs/CONTRACTS.md. What it
 //! promises is proved by the clauses of `RwState` alone.
 #![tactic(auto)]
+
 ghost use Rattle.std.specs.Prelude.{◌≡◌, ◌≢◌, ℕ, ◌<◌, Some, IfSome};
 ghost use Rattle.aio_model.specs.Holds.{Has};
 ghost use Rattle.aio_model.specs.Readers.{hold_of};

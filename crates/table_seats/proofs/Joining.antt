@@ -116,6 +116,7 @@ module _ {E : Type 0} (seat_of : E → ℕ) where
             by_staying = rw less (sym a.mine_is);
             by_joining = rw less (own_behind (numbers_in w) a.rest mid.0 w.seen v.seen w.mine (subst (λ l. own_entries seat_of (numbers_in w) l ≡ []) mid.1 b.none_missed) mid.2 b.mine_is);
           }
+
   -- the longer one's rest has no entry of the two
   joined_seen : (h : List E) (v w : Part E) → w.first ≡ v.first + v.count → IsSeat seat_of h v → IsSeat seat_of h w → (rest : List E) × (h ≡ rest ++ longer_of v.seen w.seen) × (own_entries seat_of (both_numbers (numbers_in v) (numbers_in w)) rest ≡ [])
   joined_seen h v w next is theirs = by (ltb (length v.seen) (length w.seen)) refl

@@ -10,7 +10,6 @@ use Rattle.aio_bh.proofs.Returning.{callback_frees_none, gives_behind, gives_fre
 use Rattle.aio_bh.proofs.Steps.{Goes-behind, Goes-called, Goes-frame, Goes-last, Goes-more, Goes-on, Goes-passed, Goes-renamed, nests_below, one_less}
 use Rattle.aio_bh.proofs.frames.+poll.Goals as goal
 
-
 pub body-nest-requires : goal.body-nest-requires
 body-nest-requires g t c κs within =
     let once = c.enter-turn.ensures.runs in
