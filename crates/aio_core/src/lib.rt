@@ -22,6 +22,7 @@ mod split;
 mod table;
 mod tokens;
 mod view;
+mod whole;
 mod words;
 
 pub use built::Built;
@@ -33,6 +34,7 @@ pub use scan::Scanned;
 pub use seat::Seat;
 pub use table::LoopTable;
 pub use tokens::{Aimed, Announced, InHand};
+pub use whole::Whole;
 
 #[cfg(test)]
 mod order_tests;

@@ -2,7 +2,7 @@
 ghost use Rattle.aio_core.specs.Known.{first_known};
 ghost use Rattle.aio_core.specs.Splitting.{seats_known, home_known, first_half, last_half};
 ghost use Rattle.aio_core.specs.Joining.{joined_known, spent_known};
-ghost use Rattle.aio_core.specs.Plays.{enqueued, head_loaded, next_stored, head_compared, canceled, taken, next_loaded, dequeued, learned, notified_stored, notify_me_loaded, notifier_set, scan_begun, scan_lifted, flags_scanned, armed, tested, disarmed, notifier_cleared, accepted, event_set, event_cleared, event_loaded};
+ghost use Rattle.aio_core.specs.Plays.{enqueued, head_loaded, next_stored, head_compared, canceled, taken, next_loaded, dequeued, learned, notified_stored, notify_me_loaded, notifier_set, scan_begun, scan_lifted, flags_scanned, armed, tested, disarmed, notifier_cleared, accepted, event_set, event_cleared, event_loaded, notifier_looked_at, flags_told, event_told};
 
 use crate::job::Job;
 use crate::sizes::Counts;
@@ -182,6 +182,24 @@ pub struct LoadEvent;
 
 impl<S> Play<S, View> for LoadEvent {
     ghost then = { event_loaded };
+}
+
+pub struct LookAtNotifier;
+
+impl<S> Play<S, View> for LookAtNotifier {
+    ghost then = { notifier_looked_at };
+}
+
+pub struct LookAtFlags;
+
+impl<S> Play<S, View> for LookAtFlags {
+    ghost then = { flags_told };
+}
+
+pub struct LookAtEvent;
+
+impl<S> Play<S, View> for LookAtEvent {
+    ghost then = { event_told };
 }
 
 /// A seat of the base crate.

@@ -1,6 +1,8 @@
 //! The steps by which home says that it is about to sleep, and that it is awake, after aio_poll of QEMU's util/aio-posix.c.
-ghost use Rattle.std.specs.Prelude.{◌≡◌, ℕ, [], length, true, ◌==◌};
-ghost use Rattle.aio_core.specs.Known.{Scanning, Armed, empty_stage, is_running};
+ghost use Rattle.std.specs.Prelude.{◌≡◌, ◌≤◌, ℕ, [], length, true, ◌==◌};
+ghost use Rattle.aio_core.specs.Known.{Scanning, Armed, NotifierLoad, empty_stage, is_running};
+ghost use Rattle.aio_core.specs.Words.{notifier_at};
+ghost use Rattle.aio_core.specs.Standing.{Looks};
 ghost use Rattle.aio_core.specs.SleepSteps.{Arms, Tests, Disarms, ClearsNotifier, Accepts, scan_in, watched_in, is_to_disarm};
 ghost use Rattle.aio_core.specs.Scans.{IsAhead};
 ghost use Rattle.aio_core.specs.Calls.{IsSeatOf};
@@ -11,6 +13,7 @@ use crate::plays::{Accept, Arm, ClearNotifier, Disarm, Test};
 use crate::seat::Seat;
 use crate::table::LoopTable;
 use crate::words::{NOTIFIED, NOTIFIER, NOTIFY_ME};
+use std::sync::Wait;
 
 impl<J: Job> LoopTable<J> {
     fn add_notify_me(&self, seat: &mut Seat<J>) -> u64
@@ -103,6 +106,25 @@ impl<J: Job> LoopTable<J> {
     {
         self.sub_notify_me(&mut home.seat);
     }
+
+    /// Whether the notifier is set, by one atomic load.
+    pub fn load_notifier(&self, home: &mut Home<J>) -> bool
+        requires seat { IsSeatOf self.now home.old.seat }
+        ensures seat { IsSeatOf self.now home.new.seat }
+        ensures step { (found : ℕ) × (found ≤ 1) × (result ≡ (found == 1)) × Looks NotifierLoad notifier_at found home.old.seat.known home.new.seat.known }
+    {
+        self.read_notifier(&mut home.seat) == 1
+    }
+
+    /// Sleeps where the notifier isn't set, until it is set and wakes home, and costs no processor time meanwhile. It may also
+    /// return for no reason, so home looks then. Only home sleeps on the notifier: who sets it wakes one thread.
+    pub fn park<R: Wait>(&self, rt: &R, home: &Home<J>)
+        requires seat { IsSeatOf self.now home.now.seat }
+    {
+        let _ = home;
+        self.table.shared.park(rt, NOTIFIER, 0);
+    }
+
     /// Clears the notifier, by one atomic swap. Home runs.
     pub fn clear_notifier(&self, home: &mut Home<J>)
         requires seat { IsSeatOf self.now home.old.seat }

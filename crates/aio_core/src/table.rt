@@ -1,5 +1,5 @@
 ghost use Rattle.std.specs.Prelude.{◌≡◌, ◌≤◌, ◌+◌};
-ghost use Rattle.aio_core.specs.Words.{word_count};
+ghost use Rattle.aio_core.specs.Words.{index_count, word_count};
 
 use crate::job::Job;
 use crate::plays::LoopRule;
@@ -47,6 +47,15 @@ impl<J: Job> LoopTable<J> {
     {
         self.counts.handles
     }
+
+    /// How many handles and lots it has together.
+    pub fn indices(&self) -> u32
+        ensures value { result ≡ index_count self.now.sizes }
+        ensures few { result ≤ 4096 }
+    {
+        self.counts.handles + self.counts.lots
+    }
+
     /// How many events it has.
     pub fn events(&self) -> u32
         ensures value { result ≡ self.now.sizes.events }

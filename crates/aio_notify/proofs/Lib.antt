@@ -1,2 +1,5 @@
 mod Looks
 mod Tested
+pub mod Ends
+pub mod Wholes
+pub mod Vain

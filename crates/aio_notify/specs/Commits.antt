@@ -6,7 +6,7 @@ use Rattle.aio_model.specs.declared.commits.Why.TheVariants.{Urgent, Deadline, E
 use Rattle.aio_core.specs.Known.{Known, Committed, is_running}
 use Rattle.aio_core.specs.SleepSteps.{Arms, Tests, Disarms, ClearsNotifier, Accepts, scan_in, watched_in}
 use Rattle.aio_core.specs.Scans.{Scans}
-use Rattle.aio_notify.specs.Watching.{watches, watched_below, LooksBelow, FindsSet}
+use Rattle.aio_notify.specs.Watching.{watched_below, LooksBelow, FindsSet}
 
 -- the deadline is at most now
 abbrev pub is_past : Option ℕ → ℕ → Bool

@@ -1,5 +1,5 @@
 -- Which events a home watches, and what it finds of them.
-use Rattle.std.specs.Prelude.{◌≡◌, ℕ, suc, zero, ◌<◌, ◌+◌, ◌/◌, ◌%◌, ◌^◌, ◌==◌, Bool, true, false, if◌then◌else◌, Option, None, Some, List, [], ◌∷◌, MatchBool}
+use Rattle.std.specs.Prelude.{◌≡◌, ℕ, suc, zero, ◌<◌, ◌+◌, ◌/◌, ◌%◌, ◌^◌, ◌==◌, Bool, true, false, if◌then◌else◌, List, [], ◌∷◌, MatchBool}
 use Rattle.aio_core.specs.Known.{Known}
 use Rattle.aio_core.specs.SleepSteps.{LoadsEvent, scan_in}
 use Rattle.aio_core.specs.Scans.{IsAhead}

@@ -5,12 +5,17 @@
 #![tactic(auto)]
 
 mod events;
+mod loop_end;
 mod notification;
+mod parking;
+mod settling;
 mod sleeping;
 #[cfg(test)]
 mod tests;
 mod watching;
 
 pub use events::LoopEvents;
+pub use loop_end::{LoopEnd, Settled, Unsettled};
 pub use notification::Notify;
+pub use settling::settle;
 pub use sleeping::Sleeping;

@@ -7,10 +7,15 @@ ghost use Rattle.aio_core.specs.Known.{is_running};
 ghost use Rattle.aio_core.specs.Scans.{IsAhead, SameButSleep};
 ghost use Rattle.aio_core.specs.Calls.{IsSeatOf};
 ghost use Rattle.aio_notify.specs.Commits.{is_past, least_of, sleep_bound, ArmsAndTests, Commits, IsAwakeBy, urgent_in, AcceptsAll};
+ghost use Rattle.aio_notify.specs.Settling.{is_committed, SameButDone};
+ghost use Rattle.aio_notify.specs.Waiting.{Waits};
 
+use crate::parking::{wait_for_notifier, wait_until};
 use crate::watching::first_set;
 use aio_core::{Home, Job, LoopTable};
 use aio_model::{Commit, Why};
+use aio_words::Clock;
+use std::sync::Wait;
 
 /// How long a home sleeps at most while an idle bottom half is due, in nanoseconds.
 const IDLE_SLEEP: u64 = 10_000_000;
@@ -42,6 +47,16 @@ pub trait Sleeping<J: Job> {
         ensures seat { IsSeatOf (table self.now) home.new.seat }
         ensures steps { AcceptsAll home.old.seat.known home.new.seat.known }
         ensures same { home.new.seat.known ≡ record home.old.seat.known { did = home.new.seat.known.did } };
+
+    /// Waits until the notifier is set, or so many nanoseconds have passed on the clock. Home is still committed, and is to disarm.
+    /// Without a bound it sleeps on the notifier and costs no processor time; with one it looks at the notifier at least every
+    /// 1,000,000 ns.
+    fn wait<R: Wait, C: Clock>(&self, rt: &R, home: &mut Home<J>, left: Option<u64>, clock: &mut C)
+        requires seat { IsSeatOf (table self.now) home.old.seat }
+        requires committed { is_committed home.old.seat.known.sleep ≡ true }
+        ensures seat { IsSeatOf (table self.now) home.new.seat }
+        ensures waits { Waits left (C.time clock.old) (C.time clock.new) home.old.seat.known home.new.seat.known }
+        ensures same { SameButDone home.old.seat.known home.new.seat.known };
 }
 
 fn has_passed(deadline: Option<u64>, now: u64) -> bool
@@ -125,5 +140,18 @@ impl<J: Job> Sleeping<J> for LoopTable<J> {
     fn accept(&self, home: &mut Home<J>) {
         self.clear_notifier(home);
         self.clear_notified(home);
+    }
+
+    fn wait<R: Wait, C: Clock>(
+        &self,
+        rt: &R,
+        home: &mut Home<J>,
+        left: Option<u64>,
+        clock: &mut C,
+    ) {
+        match left {
+            None => wait_for_notifier(rt, self, home),
+            Some(left) => wait_until(rt, self, home, left, clock),
+        }
     }
 }

@@ -1,4 +1,3 @@
-use Rattle.std.proofs.Common.{◌≡◌}
 use Rattle.aio_core.specs.Calls.{IsSeatOf}
 use Rattle.aio_notify.specs.Watching.{LooksOn}
 use Rattle.aio_notify.proofs.watching.first_set.Given as goal

@@ -1,4 +1,4 @@
-use Rattle.std.proofs.Common.{◌≡◌, ◌<◌, sym, ap, subst, arith}
+use Rattle.std.proofs.Common.{◌<◌, sym, ap, subst, arith}
 use Rattle.aio_core.specs.Known.{Known}
 use Rattle.aio_core.specs.SleepSteps.{ClearsEvent}
 use Rattle.aio_core.proofs.Eventing.{event_clear_allowed}

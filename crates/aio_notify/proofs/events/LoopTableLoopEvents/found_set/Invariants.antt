@@ -1,4 +1,4 @@
-use Rattle.std.proofs.Common.{◌≡◌, ◌<◌, ◌^◌}
+use Rattle.std.proofs.Common.{◌<◌, ◌^◌}
 use Rattle.aio_core.specs.Calls.{IsSeatOf}
 use Rattle.aio_notify.specs.Watching.{FindsBits}
 use Rattle.aio_notify.proofs.events.LoopTableLoopEvents.found_set.Given as goal
