@@ -50,13 +50,13 @@ impl Sides {
         sides
     }
 
-    pub fn have_ended(&self) -> bool {
-        self.one.has_ended() && self.other.has_ended()
+    /// Whether the notify of one has ended.
+    pub fn has_one_ended(&self) -> bool {
+        self.one.has_ended() || self.other.has_ended()
     }
 
-    /// Whether a handle was pushed and neither is its seat still to notify, nor was the notifier set.
-    pub fn is_one_lost(&self) -> bool {
-        let woken = self.one.has_woken() || self.other.has_woken();
-        !woken && (self.one.has_ended() || self.other.has_ended())
+    /// Whether the notify of one has set the notifier.
+    pub fn has_one_woken(&self) -> bool {
+        self.one.has_woken() || self.other.has_woken()
     }
 }

@@ -2,6 +2,7 @@
 //! unless the notifier is set or the handle's seat is still to notify.
 ghost use Rattle.std.specs.Prelude.{◌≡◌, ◌<◌, true, None};
 ghost use Rattle.aio_core.specs.Known.{is_running};
+ghost use Rattle.aio_core.specs.SleepSteps.{is_to_disarm};
 ghost use Rattle.aio_core.specs.Calls.{IsSeatOf};
 
 use crate::{Debt, Order, Side, Sides};
@@ -46,18 +47,27 @@ impl Ends {
 fn end_beside_sleep(
     rt: &impl Abort,
     table: &LoopTable<u64>,
+    home: &mut Home<u64>,
     sides: Sides,
     order: &mut Order,
 ) -> Sides
+    requires home { IsSeatOf table.now home.old.seat }
+    requires committed { is_to_disarm home.old.seat.known.sleep ≡ true }
+    requires free { home.old.seat.known.stage.hand ≡ None }
     requires one { IsSeatOf table.now sides.one.seat }
     requires other { IsSeatOf table.now sides.other.seat }
     requires handles { table.now.sizes.handles ≡ 2 }
+    ensures home { IsSeatOf table.now home.new.seat }
+    ensures committed { is_to_disarm home.new.seat.known.sleep ≡ true }
+    ensures free { home.new.seat.known.stage.hand ≡ None }
     ensures one { IsSeatOf table.now result.one.seat }
     ensures other { IsSeatOf table.now result.other.seat }
 {
     let mut sides = sides;
     for _ in 0..STEPS {
-        assert!(rt; !sides.is_one_lost());
+        let is_set = table.load_notifier(home);
+        assert_eq!(rt; is_set, sides.has_one_woken());
+        assert!(rt; is_set || !sides.has_one_ended());
         sides = sides.step(table, order);
     }
     sides
@@ -95,7 +105,7 @@ fn go_to_sleep(
         table.disarm(home);
         return (sides, End::Notified);
     }
-    let sides = end_beside_sleep(rt, table, sides, order);
+    let sides = end_beside_sleep(rt, table, home, sides, order);
     table.disarm(home);
     (sides, End::Committed)
 }
