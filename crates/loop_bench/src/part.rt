@@ -5,6 +5,8 @@ pub enum Part {
     OneHandle,
     OneShot,
     ManyHandles,
+    /// Rounds of one handle whose callback nests once.
+    Nested,
     TwoThreads,
     /// The rounds of one handle on the plain loop of one thread.
     PlainOne,
@@ -23,6 +25,7 @@ impl Part {
             "one" => Some(Part::OneHandle),
             "once" => Some(Part::OneShot),
             "many" => Some(Part::ManyHandles),
+            "nested" => Some(Part::Nested),
             "threads" => Some(Part::TwoThreads),
             "plain-one" => Some(Part::PlainOne),
             "plain-many" => Some(Part::PlainMany),
