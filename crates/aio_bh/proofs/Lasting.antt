@@ -6,12 +6,12 @@ use Rattle.aio_model.specs.LoopFlags.{is_lot, is_pending}
 use Rattle.aio_model.specs.LoopLists.{stack_of, out_of}
 use Rattle.aio_model.specs.LoopLegal.{MayFollow, IsLegal}
 use Rattle.aio_model.specs.LoopSeats.{home, entries_of}
-use Rattle.aio_model.specs.LoopFrame.{Lent, Answer, Place, Makes, Enters, Body, Turn, Turns, Frame, nests_above, are_of_callback, lent_of, start_of}
+use Rattle.aio_model.specs.LoopFrame.{Lent, Answer, Entered, Place, Makes, Enters, Body, Turn, Turns, Frame, nests_above, are_of_callback, lent_of, start_of}
 use Rattle.aio_model.proofs.AnnouncedOnce.{fits, head_is_pending, out_of-dequeue, out_of-take}
 use Rattle.aio_model.proofs.LotLives.{may_free-after, may_free-between}
 use Rattle.aio_model.proofs.Rounds.{legal_cut}
 use Rattle.aio_bh.specs.Polling.{dequeued_in, stacks_since, DequeuesTaken}
-use Rattle.aio_bh.specs.SoFar.{Calls}
+use Rattle.aio_bh.specs.SoFar.{Far, Goes, Calls, MayEnd, place_of}
 
 pub record Lasts (sizes : Sizes) (a b : Place) : Type 0 where
   pub later : History
@@ -129,6 +129,12 @@ module _ (sizes : Sizes) where
   Lasts-frame zero a b frame = absurd frame
   Lasts-frame (suc deeper) a b frame =
       Lasts-then a frame.taken b (Lasts-take a frame.taken frame.take) (Lasts-turns (Frame sizes deeper) (Lasts-frame deeper) (nests_above deeper) frame.count frame.taken b frame.turns)
+
+  -- the lot of a turn may still be freed once its callback has ended
+  pub may_end_behind : {R : Type 0} (deeper nests bh : ℕ) (job : Option ℕ) (due : Bool) (does : R → Entered → R → Type 0) (old new : Far R) → Goes (Calls (Frame sizes deeper) nests bh job due) does old new → IsLegal sizes new.known.seen → MayEnd sizes bh old.known.seen → MayEnd sizes bh new.known.seen
+  may_end_behind deeper nests bh job due does old new goes legal may lot =
+      let went = goes.at [] in
+      (Lasts-calls (Frame sizes deeper) (Lasts-frame deeper) nests bh job due (place_of old []) (place_of new went.log_after) went.goes).lots bh legal (may lot)
 
   -- What was out, and then what was taken since, is what was dequeued since and what is out still.
   module _ (h : History) where

@@ -8,7 +8,7 @@ use Rattle.aio_model.specs.LoopLists.{out_of}
 use Rattle.aio_model.specs.LoopLegal.{IsLegal}
 use Rattle.aio_model.specs.LoopLaws.{times_of, some_entry}
 use Rattle.aio_model.specs.LoopSeats.{home, entries_by, entries_of}
-use Rattle.aio_model.specs.LoopFrame.{Lent, Answer, Nests, Entered, Place, Makes, Enters, Body, Turn, Turns, nests_above, Frame, are_of_callback, lent_of, start_of}
+use Rattle.aio_model.specs.LoopFrame.{Lent, Answer, Ended, Nests, Entered, Runs, Place, Makes, Enters, Body, Turn, Turns, nests_above, Frame, are_of_callback, lent_of, start_of}
 use Rattle.aio_model.specs.LoopCalls.{dequeue_times, call_times, entry_times, stops, AwaitsCall}
 use Rattle.aio_model.proofs.Indices.{times_of-append}
 use Rattle.aio_model.proofs.Rounds.{legal_cut}
@@ -114,6 +114,12 @@ some_nests-parts (e ∷ newer) older none =
     let both = or_parts (gets_nest e.answer e.lent.nests_left) (some_nests (newer ++ older)) none in
     let rest = some_nests-parts newer older both.1 in
     (or_from (gets_nest e.answer e.lent.nests_left) (some_nests newer) both.0 rest.0, rest.1)
+
+-- so of a runner that never asks for one
+pub never_nests : {R : Type 0} (does : R → Entered → R → Type 0) → ((x y : R) (e : Entered) → does x e y → e.answer ≡ Ended) → (log : List Entered) (r s : R) → Runs does r log s → some_nests log ≡ false
+never_nests does ends [] r s runs = refl
+never_nests does ends (e ∷ log) r s runs =
+    or_from (gets_nest e.answer e.lent.nests_left) (some_nests log) (ap (λ x. gets_nest x e.lent.nests_left) (ends runs.0 s e runs.2)) (never_nests does ends log r runs.0 runs.1)
 
 -- Where no entry of a part got a nested poll, it goes on without a take.
 

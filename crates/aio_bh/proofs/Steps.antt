@@ -70,6 +70,11 @@ Goes-passed does frame nests bh job due sizes a r p is of legal =
     subst (λ b. Goes (Calls frame nests bh job b) does (far a r p) (far a r p)) (sym is)
     (record { at = λ log. record { log_after = log; goes = refl; enters = EntersSome-same does r log; counts = λ before. before }; goes_on = GoesOn-same a (subst (λ s. IsLegal s a.seen) (sym of) legal) })
 
+-- it is called, and nests
+pub Goes-nested : {R : Type 0} (does : R → Entered → R → Type 0) (frame : Place → Place → Type 0) (nests given bh : ℕ) (job : Option ℕ) (due : Bool) (old asked new : Far R) → given ≡ nests → 0 < nests → due ≡ true → Goes (Enters (lent_of bh job true nests) Nests) does old asked → Goes (BehindNest frame bh (given - 1)) does asked new → Goes (Calls frame nests bh job due) does old new
+Goes-nested does frame nests given bh job due old asked new same some is entry behind =
+    Goes-called does frame nests bh job due old new is (Goes-on does frame bh job true nests (given - 1) Nests old asked new (omega (arith, same, some)) refl entry behind)
+
 -- a nested frame, and then the rest of the body
 pub Goes-behind : {R : Type 0} (sizes : Sizes) (deeper : ℕ) (bh nests : ℕ) (does : R → Entered → R → Type 0) (old back new : Far R) → 0 < deeper → Goes (Frame sizes (suc (deeper - 1))) does old back → Goes (Body (Frame sizes deeper) bh None false nests) does back new → Goes (BehindNest (Frame sizes deeper) bh nests) does old new
 Goes-behind sizes deeper bh nests does old back new some nested behind =

@@ -9,7 +9,7 @@ use Rattle.aio_model.specs.LoopLegal.{MayFollow, IsLegal}
 use Rattle.aio_model.specs.LoopSeats.{home, entries_of}
 use Rattle.aio_model.specs.LoopFrame.{Place, Entered, Makes, are_of_callback}
 use Rattle.aio_model.specs.InFlight.{AtRest}
-use Rattle.aio_model.proofs.AnnouncedOnce.{out_of-dequeue}
+use Rattle.aio_model.proofs.AnnouncedOnce.{out_of-dequeue, lot_is_no_handle}
 use Rattle.aio_model.proofs.LotLives.{may_free-between}
 use Rattle.aio_core.specs.Known.{Known, empty_stage, numbers_of}
 use Rattle.aio_core.specs.Words.{index_count}
@@ -276,3 +276,11 @@ Goes-finished false i does a b r p first count legal same =
 pub Goes-ends : {R : Type 0} (sizes : Sizes) (i : ℕ) (does : R → Entered → R → Type 0) (a b : Known) (r : R) (p : Polled) → a.first ≡ 64 → a.count ≡ 1 → a.sizes ≡ sizes → IsLegal sizes a.seen → Finishes (is_lot sizes i) i a b → Goes (Ends sizes i) does (far a r p) (far b r p)
 Goes-ends sizes i does a b r p first count of legal finishes =
     Goes-finished (is_lot sizes i) i does a b r p first count (subst (λ s. IsLegal s a.seen) (sym of) legal) finishes
+
+-- of a handle nothing is done at the end of its turn
+pub finishes_handle : (sizes : Sizes) (i : ℕ) (a : Known) → i < sizes.handles → Finishes (is_lot sizes i) i a a
+finishes_handle sizes i a below = by (is_lot sizes i) refl
+  where
+    by : (lot : Bool) → is_lot sizes i ≡ lot → Finishes lot i a a
+    by true is = absurd (lot_is_no_handle sizes i is below)
+    by false is = refl

@@ -6,13 +6,13 @@ ghost use Rattle.aio_model.specs.InFlight.{AtRest};
 ghost use Rattle.aio_model.specs.LoopFlags.{are_due, is_lot};
 ghost use Rattle.aio_model.specs.LoopLists.{out_of};
 ghost use Rattle.aio_model.specs.LoopLegal.{IsLegal};
-ghost use Rattle.aio_model.specs.LoopFrame.{Ended, Nests, Frame, Body, lent_of, nests_above};
-ghost use Rattle.aio_model.specs.LoopFrame.{Turn as OneTurn, is_cut as is_cut_by};
+ghost use Rattle.aio_model.specs.LoopFrame.{Ended, Nests, Frame, Enters, Body, lent_of, nests_above};
+ghost use Rattle.aio_model.specs.LoopFrame.{is_cut as is_cut_by};
 ghost use Rattle.aio_core.specs.Words.{index_count};
 ghost use Rattle.aio_core.specs.Standing.{Frees};
 ghost use Rattle.aio_core.specs.Calls.{IsSeatOf};
 ghost use Rattle.aio_bh.specs.Running.{answer_by, RunsOnce};
-ghost use Rattle.aio_bh.specs.OneShots.{IsPoolFor, GivesFreed};
+ghost use Rattle.aio_bh.specs.OneShots.{IsPoolFor, FreesNone, GivesFreed};
 ghost use Rattle.lot_pool.specs.Pools.{IsHomeOf};
 ghost use Rattle.aio_bh.specs.SoFar.{far, Goes, Calls, Follows, CanTake, IsBetween, FindsNone, MayEnd, TakesNext, BehindNest, noted};
 
@@ -36,9 +36,9 @@ fn nests_of(deeper: u32) -> u32
     if deeper == 0 { 0 } else { 4 }
 }
 
-/// Enters a callback. What it leaves of what it is lent is dropped.
+/// Lends the home's seat for one entry into a callback. What that leaves of what it is lent is dropped.
 #[inline(always)]
-fn enter<J: Job + Drop, R: Runner<J>>(
+fn lend<J: Job + Drop, R: Runner<J>>(
     table: &LoopTable<J>,
     seat: &mut Seat<J>,
     runner: &mut R,
@@ -101,7 +101,9 @@ impl Polled {
     fn note_dequeue(&mut self, was: Flags)
         ensures { self.new ≡ record self.old { progress = self.old.progress || (are_due was && not was.idle) } }
     {
-        self.progress = self.progress || (is_due(was) && !was.idle);
+        if is_due(was) {
+            self.progress = self.progress || !was.idle;
+        }
     }
 
     #[inline(always)]
@@ -149,6 +151,110 @@ fn next<J: Job + Drop>(
     Some(next)
 }
 
+/// One entry into a callback. True where it gets a nested poll.
+#[inline(always)]
+fn enter<J: Job + Drop, R: Runner<J>>(
+    table: &LoopTable<J>,
+    home: &mut Home<J>,
+    runner: &mut R,
+    call: Call<J>,
+    polled: &mut Polled,
+    deeper: u32,
+) -> bool
+    requires can_run { R.can_run runner.old table.now.sizes }
+    requires between { IsBetween table.now deeper home.old.seat }
+    requires index { call.bh < index_count table.now.sizes }
+    requires handle { call.first ≡ true → call.job ≡ None → call.bh < table.now.sizes.handles }
+    ensures can_run { R.can_run runner.new table.now.sizes }
+    ensures between { IsBetween table.now deeper home.new.seat }
+    ensures same_out { out_of home.new.seat.known.seen ≡ out_of home.old.seat.known.seen }
+    ensures frees_none { FreesNone home.old.seat.known home.new.seat.known }
+    ensures nests { result ≡ true → (0 < call.nests_left) × Goes (Enters (lent_of call.bh (option_map J.number_of call.job) call.first call.nests_left) Nests) R.does (far home.old.seat.known runner.old polled.old) (far home.new.seat.known runner.new polled.new) }
+    ensures ends { result ≡ false → Goes (Body (Frame table.now.sizes deeper) call.bh (option_map J.number_of call.job) call.first call.nests_left) R.does (far home.old.seat.known runner.old polled.old) (far home.new.seat.known runner.new polled.new) }
+{
+    let (first, nests) = (call.first, call.nests_left);
+    let turn = lend(table, &mut home.seat, runner, call);
+    polled.note(first, turn, nests);
+    gets_nest(turn, nests)
+}
+
+/// Enters the callback of what was dequeued, where it is due. True where it gets a nested poll.
+#[inline(always)]
+fn call<J: Job + Drop, R: Runner<J>>(
+    table: &LoopTable<J>,
+    home: &mut Home<J>,
+    runner: &mut R,
+    next: Dequeued<J>,
+    polled: &mut Polled,
+    deeper: u32,
+) -> bool
+    requires can_run { R.can_run runner.old table.now.sizes }
+    requires between { IsBetween table.now deeper home.old.seat }
+    requires index { next.bh < index_count table.now.sizes }
+    requires handle { next.job ≡ None → next.bh < table.now.sizes.handles }
+    ensures can_run { R.can_run runner.new table.now.sizes }
+    ensures between { IsBetween table.now deeper home.new.seat }
+    ensures same_out { out_of home.new.seat.known.seen ≡ out_of home.old.seat.known.seen }
+    ensures frees_none { FreesNone home.old.seat.known home.new.seat.known }
+    ensures nests { result ≡ true → (are_due next.flags ≡ true) × (0 < nests_above deeper) × Goes (Enters (lent_of next.bh (option_map J.number_of next.job) true (nests_above deeper)) Nests) R.does (far home.old.seat.known runner.old polled.old) (far home.new.seat.known runner.new polled.new) }
+    ensures ends { result ≡ false → Goes (Calls (Frame table.now.sizes deeper) (nests_above deeper) next.bh (option_map J.number_of next.job) (are_due next.flags)) R.does (far home.old.seat.known runner.old polled.old) (far home.new.seat.known runner.new polled.new) }
+{
+    if !is_due(next.flags) {
+        return false;
+    }
+    let call = Call::first_entry(next.bh, next.job, nests_of(deeper));
+    enter(table, home, runner, call, polled, deeper)
+}
+
+/// Ends the turn of a lot: its life is over, and the pool gets it back.
+fn end_lot<J: Job + Drop, W: Wait>(
+    rt: &W,
+    table: &LoopTable<J>,
+    pool: &LotPool,
+    pass: &mut LotPass,
+    home: &mut Home<J>,
+    bh: u32,
+)
+    requires seat { IsSeatOf table.now home.old.seat }
+    requires index { bh < index_count table.now.sizes }
+    requires lot { table.now.sizes.handles ≤ bh }
+    requires may_end { MayEnd table.now.sizes bh home.old.seat.known.seen }
+    requires pool { IsPoolFor table.now.sizes pool.now }
+    requires pass { IsHomeOf pool.now pass.old }
+    ensures seat { IsSeatOf table.now home.new.seat }
+    ensures ends { MatchBool (is_lot table.now.sizes bh) (Frees bh home.old.seat.known home.new.seat.known) (home.new.seat.known ≡ home.old.seat.known) }
+    ensures pass { IsHomeOf pool.now pass.new }
+    ensures gives { GivesFreed pool.now home.old.seat.known home.new.seat.known pass.old pass.new }
+{
+    table.free(home, bh);
+    pool.give_back(rt, pass, bh);
+}
+
+/// Ends a turn: where it is of a lot, that one's life is over.
+fn finish<J: Job + Drop, W: Wait>(
+    rt: &W,
+    table: &LoopTable<J>,
+    pool: &LotPool,
+    pass: &mut LotPass,
+    home: &mut Home<J>,
+    bh: u32,
+)
+    requires seat { IsSeatOf table.now home.old.seat }
+    requires index { bh < index_count table.now.sizes }
+    requires may_end { MayEnd table.now.sizes bh home.old.seat.known.seen }
+    requires pool { IsPoolFor table.now.sizes pool.now }
+    requires pass { IsHomeOf pool.now pass.old }
+    ensures seat { IsSeatOf table.now home.new.seat }
+    ensures ends { MatchBool (is_lot table.now.sizes bh) (Frees bh home.old.seat.known home.new.seat.known) (home.new.seat.known ≡ home.old.seat.known) }
+    ensures pass { IsHomeOf pool.now pass.new }
+    ensures gives { GivesFreed pool.now home.old.seat.known home.new.seat.known pass.old pass.new }
+{
+    if bh < table.handles() {
+        return;
+    }
+    end_lot(rt, table, pool, pass, home, bh);
+}
+
 /// A nested poll, and then the further entry into the callback that asked for it, which had so many left.
 #[cold]
 #[inline(never)]
@@ -180,111 +286,26 @@ fn nest<J: Job + Drop, R: Runner<J>, W: Wait>(
 {
     frame(rt, table, pool, pass, home, runner, polled, deeper - 1);
     let call = Call::further_entry(bh, nests - 1);
-    body(rt, table, pool, pass, home, runner, call, polled, deeper);
-}
-
-/// Enters a callback, and where it nests goes on with it until it has ended.
-#[inline(always)]
-#[cycle(poll)]
-fn body<J: Job + Drop, R: Runner<J>, W: Wait>(
-    rt: &W,
-    table: &LoopTable<J>,
-    pool: &LotPool,
-    pass: &mut LotPass,
-    home: &mut Home<J>,
-    runner: &mut R,
-    call: Call<J>,
-    polled: &mut Polled,
-    deeper: u32,
-)
-    requires can_run { R.can_run runner.old table.now.sizes }
-    requires between { IsBetween table.now deeper home.old.seat }
-    requires index { call.bh < index_count table.now.sizes }
-    requires handle { call.first ≡ true → call.job ≡ None → call.bh < table.now.sizes.handles }
-    requires nests { call.nests_left ≤ nests_above deeper }
-    requires pool { IsPoolFor table.now.sizes pool.now }
-    requires pass { IsHomeOf pool.now pass.old }
-    ensures can_run { R.can_run runner.new table.now.sizes }
-    ensures between { IsBetween table.now deeper home.new.seat }
-    ensures fewer { length (out_of home.new.seat.known.seen) ≤ length (out_of home.old.seat.known.seen) }
-    ensures goes { Goes (Body (Frame table.now.sizes deeper) call.bh (option_map J.number_of call.job) call.first call.nests_left) R.does (far home.old.seat.known runner.old polled.old) (far home.new.seat.known runner.new polled.new) }
-    ensures pass { IsHomeOf pool.now pass.new }
-    ensures gives { GivesFreed pool.now home.old.seat.known home.new.seat.known pass.old pass.new }
-{
-    let (bh, first, nests) = (call.bh, call.first, call.nests_left);
-    let turn = enter(table, &mut home.seat, runner, call);
-    polled.note(first, turn, nests);
-    if gets_nest(turn, nests) {
+    if enter(table, home, runner, call, polled, deeper) {
         nest(
-            rt, table, pool, pass, home, runner, bh, nests, polled, deeper,
+            rt,
+            table,
+            pool,
+            pass,
+            home,
+            runner,
+            bh,
+            nests - 1,
+            polled,
+            deeper,
         );
     }
 }
 
-/// Calls what was dequeued, where it is due.
+/// What follows a dequeue in its turn. A handle that doesn't nest needs nothing that may wait.
 #[inline(always)]
 #[cycle(poll)]
-fn call<J: Job + Drop, R: Runner<J>, W: Wait>(
-    rt: &W,
-    table: &LoopTable<J>,
-    pool: &LotPool,
-    pass: &mut LotPass,
-    home: &mut Home<J>,
-    runner: &mut R,
-    next: Dequeued<J>,
-    polled: &mut Polled,
-    deeper: u32,
-)
-    requires can_run { R.can_run runner.old table.now.sizes }
-    requires between { IsBetween table.now deeper home.old.seat }
-    requires index { next.bh < index_count table.now.sizes }
-    requires handle { next.job ≡ None → next.bh < table.now.sizes.handles }
-    requires pool { IsPoolFor table.now.sizes pool.now }
-    requires pass { IsHomeOf pool.now pass.old }
-    ensures can_run { R.can_run runner.new table.now.sizes }
-    ensures between { IsBetween table.now deeper home.new.seat }
-    ensures fewer { length (out_of home.new.seat.known.seen) ≤ length (out_of home.old.seat.known.seen) }
-    ensures goes { Goes (Calls (Frame table.now.sizes deeper) (nests_above deeper) next.bh (option_map J.number_of next.job) (are_due next.flags)) R.does (far home.old.seat.known runner.old polled.old) (far home.new.seat.known runner.new polled.new) }
-    ensures pass { IsHomeOf pool.now pass.new }
-    ensures gives { GivesFreed pool.now home.old.seat.known home.new.seat.known pass.old pass.new }
-{
-    if is_due(next.flags) {
-        let call = Call::first_entry(next.bh, next.job, nests_of(deeper));
-        body(rt, table, pool, pass, home, runner, call, polled, deeper);
-    }
-}
-
-/// Ends a turn: the life of a lot is over, and the pool gets it back.
-#[inline(always)]
-fn finish<J: Job + Drop, W: Wait>(
-    rt: &W,
-    table: &LoopTable<J>,
-    pool: &LotPool,
-    pass: &mut LotPass,
-    home: &mut Home<J>,
-    bh: u32,
-)
-    requires seat { IsSeatOf table.now home.old.seat }
-    requires index { bh < index_count table.now.sizes }
-    requires may_end { MayEnd table.now.sizes bh home.old.seat.known.seen }
-    requires pool { IsPoolFor table.now.sizes pool.now }
-    requires pass { IsHomeOf pool.now pass.old }
-    ensures seat { IsSeatOf table.now home.new.seat }
-    ensures ends { MatchBool (is_lot table.now.sizes bh) (Frees bh home.old.seat.known home.new.seat.known) (home.new.seat.known ≡ home.old.seat.known) }
-    ensures pass { IsHomeOf pool.now pass.new }
-    ensures gives { GivesFreed pool.now home.old.seat.known home.new.seat.known pass.old pass.new }
-{
-    if bh < table.handles() {
-        return;
-    }
-    table.free(home, bh);
-    pool.give_back(rt, pass, bh);
-}
-
-/// What follows a dequeue in its turn.
-#[inline(always)]
-#[cycle(poll)]
-fn follow<J: Job + Drop, R: Runner<J>, W: Wait>(
+fn turn<J: Job + Drop, R: Runner<J>, W: Wait>(
     rt: &W,
     table: &LoopTable<J>,
     pool: &LotPool,
@@ -310,40 +331,23 @@ fn follow<J: Job + Drop, R: Runner<J>, W: Wait>(
     ensures gives { GivesFreed pool.now home.old.seat.known home.new.seat.known pass.old pass.new }
 {
     let bh = next.bh;
-    call(rt, table, pool, pass, home, runner, next, polled, deeper);
-    finish(rt, table, pool, pass, home, bh);
-}
-
-/// One turn. False where nothing was out.
-#[inline(always)]
-#[cycle(poll)]
-fn turn<J: Job + Drop, R: Runner<J>, W: Wait>(
-    rt: &W,
-    table: &LoopTable<J>,
-    pool: &LotPool,
-    pass: &mut LotPass,
-    home: &mut Home<J>,
-    runner: &mut R,
-    polled: &mut Polled,
-    deeper: u32,
-) -> bool
-    requires can_run { R.can_run runner.old table.now.sizes }
-    requires between { IsBetween table.now deeper home.old.seat }
-    requires pool { IsPoolFor table.now.sizes pool.now }
-    requires pass { IsHomeOf pool.now pass.old }
-    ensures can_run { R.can_run runner.new table.now.sizes }
-    ensures between { IsBetween table.now deeper home.new.seat }
-    ensures goes { result ≡ true → Goes (OneTurn table.now.sizes (Frame table.now.sizes deeper) (nests_above deeper)) R.does (far home.old.seat.known runner.old polled.old) (far home.new.seat.known runner.new polled.new) }
-    ensures shorter { result ≡ true → length (out_of home.new.seat.known.seen) < length (out_of home.old.seat.known.seen) }
-    ensures none { result ≡ false → FindsNone home.old.seat.known home.new.seat.known polled.old polled.new × (runner.new ≡ runner.old) }
-    ensures pass { IsHomeOf pool.now pass.new }
-    ensures gives { GivesFreed pool.now home.old.seat.known home.new.seat.known pass.old pass.new }
-{
-    let Some(next) = next(table, home, polled, deeper) else {
-        return false;
-    };
-    follow(rt, table, pool, pass, home, runner, next, polled, deeper);
-    true
+    if call(table, home, runner, next, polled, deeper) {
+        nest(
+            rt,
+            table,
+            pool,
+            pass,
+            home,
+            runner,
+            bh,
+            nests_of(deeper),
+            polled,
+            deeper,
+        );
+        finish(rt, table, pool, pass, home, bh);
+    } else if bh >= table.handles() {
+        end_lot(rt, table, pool, pass, home, bh);
+    }
 }
 
 /// A poll with so many depths below its own.
@@ -371,5 +375,7 @@ pub fn frame<J: Job + Drop, R: Runner<J>, W: Wait>(
     ensures gives { GivesFreed pool.now home.old.seat.known home.new.seat.known pass.old pass.new }
 {
     table.take(home);
-    while turn(rt, table, pool, pass, home, runner, polled, deeper) {}
+    while let Some(next) = next(table, home, polled, deeper) {
+        turn(rt, table, pool, pass, home, runner, next, polled, deeper);
+    }
 }

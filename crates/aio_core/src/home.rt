@@ -42,6 +42,7 @@ impl<J: Job> Home<J> {
 }
 
 impl<J: Job> LoopTable<J> {
+    #[inline(always)]
     fn swap_head(&self, seat: &mut Seat<J>) -> u64
         requires seat { IsSeatOf self.now seat.old }
         requires number { (seat.old.known.first ≡ 64) × (seat.old.known.count ≡ 1) }
@@ -51,6 +52,7 @@ impl<J: Job> LoopTable<J> {
         self.table.shared.swap::<Take>(&mut seat.inner, HEAD, 0)
     }
 
+    #[inline(always)]
     fn load_after(&self, seat: &mut Seat<J>, bh: u32) -> u64
         requires seat { IsSeatOf self.now seat.old }
         requires number { (seat.old.known.first ≡ 64) × (seat.old.known.count ≡ 1) }
@@ -65,6 +67,7 @@ impl<J: Job> LoopTable<J> {
             .load::<LoadNext>(&mut seat.inner, next_word(bh))
     }
 
+    #[inline(always)]
     fn clear_flags(&self, seat: &mut Seat<J>, bh: u32) -> u64
         requires seat { IsSeatOf self.now seat.old }
         requires number { (seat.old.known.first ≡ 64) × (seat.old.known.count ≡ 1) }
@@ -80,6 +83,7 @@ impl<J: Job> LoopTable<J> {
     }
 
     /// The index to which a word of the list leads.
+    #[inline(always)]
     pub(crate) fn index_of(&self, word: u64) -> u32
         requires some { 0 < word }
         requires below { word ≤ index_count self.now.sizes }
@@ -90,6 +94,7 @@ impl<J: Job> LoopTable<J> {
     }
 
     /// Takes all that was pushed, by one atomic step, as the last slice.
+    #[inline(always)]
     pub fn take(&self, home: &mut Home<J>)
         requires seat { IsSeatOf self.now home.old.seat }
         requires room { length home.old.seat.known.stage.slices < 8 }
@@ -101,6 +106,7 @@ impl<J: Job> LoopTable<J> {
     }
 
     /// The first of the first slice, by no step. None where no slice is left.
+    #[inline(always)]
     pub fn next(&self, home: &Home<J>) -> Option<u32>
         requires seat { IsSeatOf self.now home.now.seat }
         ensures first { MatchOption result (home.now.seat.known.stage.slices ≡ []) (λ bh. (bh < index_count self.now.sizes) × (home.now.seat.known.stage.slices ≡ (bh + 1) ∷ drop 1 home.now.seat.known.stage.slices)) }
@@ -109,6 +115,7 @@ impl<J: Job> LoopTable<J> {
     }
 
     /// Takes the first of the first slice, a handle, in hand, by one atomic load of what follows it.
+    #[inline(always)]
     pub fn lift(&self, home: &mut Home<J>, bh: u32) -> InHand
         requires seat { IsSeatOf self.now home.old.seat }
         requires free { home.old.seat.known.stage.hand ≡ None }
@@ -124,6 +131,7 @@ impl<J: Job> LoopTable<J> {
     }
 
     /// Dequeues the handle in hand: clears the flags of its round by one atomic step, and answers those that it found.
+    #[inline(always)]
     pub fn dequeue(&self, home: &mut Home<J>, hand: InHand) -> Flags
         requires seat { IsSeatOf self.now home.old.seat }
         requires hand { home.old.seat.known.stage.hand ≡ Some hand }

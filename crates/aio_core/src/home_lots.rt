@@ -67,6 +67,7 @@ impl<J: Job> LoopTable<J> {
 
     /// Dequeues the first of the first slice, a lot, by an atomic load of what follows it and the clearing of its flags, and
     /// moves its job out in between.
+    #[inline(always)]
     pub fn dequeue_lot(&self, home: &mut Home<J>, bh: u32) -> Dequeued<J>
         requires seat { IsSeatOf self.now home.old.seat }
         requires free { home.old.seat.known.stage.hand ≡ None }
@@ -86,6 +87,7 @@ impl<J: Job> LoopTable<J> {
     }
 
     /// Dequeues the first of the first slice, a handle.
+    #[inline(always)]
     fn dequeue_handle(&self, home: &mut Home<J>, bh: u32) -> Dequeued<J>
         requires seat { IsSeatOf self.now home.old.seat }
         requires free { home.old.seat.known.stage.hand ≡ None }
@@ -105,6 +107,7 @@ impl<J: Job> LoopTable<J> {
 
     /// Dequeues the first of the first slice: an atomic load of what follows it, and the clearing of its flags. A lot's job is
     /// moved out in between. None where no slice is left.
+    #[inline(always)]
     pub fn dequeue_next(&self, home: &mut Home<J>) -> Option<Dequeued<J>>
         requires seat { IsSeatOf self.now home.old.seat }
         requires free { home.old.seat.known.stage.hand ≡ None }

@@ -48,6 +48,7 @@ impl Slices {
         Slices { words, count }
     }
 
+    #[inline(always)]
     pub fn first(&self) -> Option<u64>
         ensures { MatchOption result (self.now ≡ []) (λ word. self.now ≡ word ∷ drop 1 self.now) }
     {
@@ -59,6 +60,7 @@ impl Slices {
     }
 
     /// A slice behind the others; 0 leads to none.
+    #[inline(always)]
     pub fn push(&mut self, word: u64)
         requires { length self.old < 8 }
         ensures { self.new ≡ with_slice self.old word }
@@ -70,6 +72,7 @@ impl Slices {
     }
 
     /// The first slice begins at this word now; at 0 it is over.
+    #[inline(always)]
     pub fn lift(&mut self, word: u64)
         requires { self.old ≡ slice_index self.old 0 ∷ drop 1 self.old }
         ensures { self.new ≡ without_first word (drop 1 self.old) }

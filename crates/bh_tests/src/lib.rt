@@ -5,6 +5,8 @@
 #[cfg(test)]
 mod enqueues;
 #[cfg(test)]
+mod nested;
+#[cfg(test)]
 mod one_shots;
 #[cfg(test)]
 mod placing_callbacks;

@@ -1,5 +1,5 @@
 //! The home polls while two threads schedule, until each has said by a handle of its own that it is done.
-ghost use Rattle.std.specs.Prelude.{◌≡◌, ◌<◌};
+ghost use Rattle.std.specs.Prelude.{◌≡◌, ◌<◌, ◌≤◌};
 ghost use Rattle.std.specs.Thread.{IsSync};
 ghost use Rattle.aio_core.specs.Known.{empty_stage};
 ghost use Rattle.aio_bh.specs.Ready.{IsReady};
@@ -7,6 +7,7 @@ ghost use Rattle.aio_bh.specs.OneShots.{ServesHome};
 
 use aio_bh::{BottomHalves, Call, LotBuilt, LotPool, Runner, Turn};
 use aio_core::{Built, Home, LoopTable, Seat};
+use std::alloc::Global;
 use std::process::Abort;
 use std::sync::Wait;
 use std::test::Fail;
@@ -75,10 +76,18 @@ fn schedule_one<R: Wait>(
     }
 }
 
-/// Schedules one handle after another, and then the one by which it says that it is done. Tells how often each was not pending.
-fn schedule_all<R: Wait>(rt: &R, table: &LoopTable<u64>, seat: Seat<u64>, done: u32) -> Tally
+/// Schedules one handle after another of so many, and then the one by which it says that it is done. Tells how often each was
+/// not pending.
+fn schedule_all<R: Wait>(
+    rt: &R,
+    table: &LoopTable<u64>,
+    seat: Seat<u64>,
+    shared: u32,
+    done: u32,
+) -> Tally
     requires ready { IsReady table.now seat }
     requires handles { table.now.sizes.handles ≡ 64 }
+    requires shared { (0 < shared) × (shared ≤ 62) }
     requires done { done < 64 }
 {
     let mut seat = seat;
@@ -88,7 +97,7 @@ fn schedule_all<R: Wait>(rt: &R, table: &LoopTable<u64>, seat: Seat<u64>, done: 
             rt,
             table,
             &mut seat,
-            (turn * 7 + done) % SHARED,
+            (turn * 7 + done) % shared,
             &mut announced,
         );
     }
@@ -102,7 +111,9 @@ fn both_schedule<R: Threads + Wait + Sync>(
     table: &LoopTable<u64>,
     first: Seat<u64>,
     second: Seat<u64>,
+    shared: u32,
 ) -> (Tally, Tally)
+    requires shared { (0 < shared) × (shared ≤ 62) }
     requires first { IsReady table.now first }
     requires second { IsReady table.now second }
     requires handles { table.now.sizes.handles ≡ 64 }
@@ -110,11 +121,11 @@ fn both_schedule<R: Threads + Wait + Sync>(
     join(
         rt,
         || -> Tally
-            requires { IsReady table.now first × (table.now.sizes.handles ≡ 64) }
-        { schedule_all(rt, table, first, 62) },
+            requires { IsReady table.now first × (table.now.sizes.handles ≡ 64) × (0 < shared) × (shared ≤ 62) }
+        { schedule_all(rt, table, first, shared, 62) },
         || -> Tally
-            requires { IsReady table.now second × (table.now.sizes.handles ≡ 64) }
-        { schedule_all(rt, table, second, 63) },
+            requires { IsReady table.now second × (table.now.sizes.handles ≡ 64) × (0 < shared) × (shared ≤ 62) }
+        { schedule_all(rt, table, second, shared, 63) },
     )
 }
 
@@ -144,7 +155,9 @@ fn announced_and_called<R: Threads + Wait + Sync>(
     home: Home<u64>,
     first: Seat<u64>,
     second: Seat<u64>,
+    shared: u32,
 ) -> ((Tally, Tally), Tally)
+    requires shared { (0 < shared) × (shared ≤ 62) }
     requires lots { ServesHome table.now.sizes lots.pool lots.home }
     requires home { IsReady table.now home.seat }
     requires empty { home.seat.known.stage ≡ empty_stage }
@@ -155,8 +168,8 @@ fn announced_and_called<R: Threads + Wait + Sync>(
     join(
         rt,
         || -> (Tally, Tally)
-            requires { IsReady table.now first × IsReady table.now second × (table.now.sizes.handles ≡ 64) }
-        { both_schedule(rt, table, first, second) },
+            requires { IsReady table.now first × IsReady table.now second × (table.now.sizes.handles ≡ 64) × (0 < shared) × (shared ≤ 62) }
+        { both_schedule(rt, table, first, second, shared) },
         || -> Tally
             requires { ServesHome table.now.sizes lots.pool lots.home × IsReady table.now home.seat × (home.seat.known.stage ≡ empty_stage) }
         { poll_all(rt, table, lots, home) },
@@ -174,12 +187,19 @@ fn all_called(rt: &impl Abort, first: &Tally, second: &Tally, called: &Tally) ->
     all
 }
 
-#[test]
-fn each_announced_call_is_made_once(rt: HostRuntime) -> Result<(), Fail> {
-    let Ok(lots) = LotPool::build(&rt, rt.alloc(), HANDLES, 0) else {
+/// Two threads schedule so many handles over and over while home polls. Answers how often one was found not pending, which is how
+/// often it was called.
+fn stormed<R: Abort + Threads + Wait + Sync>(
+    rt: &R,
+    alloc: Global,
+    shared: u32,
+) -> Result<u64, Fail>
+    requires { (0 < shared) × (shared ≤ 62) }
+{
+    let Ok(lots) = LotPool::build(rt, alloc, HANDLES, 0) else {
         return Err(Fail::from("no memory"));
     };
-    let Ok(built) = LoopTable::<u64>::build(rt.alloc(), HANDLES, 0, 0) else {
+    let Ok(built) = LoopTable::<u64>::build(alloc, HANDLES, 0, 0) else {
         return Err(Fail::from("no memory"));
     };
     let Built {
@@ -190,12 +210,26 @@ fn each_announced_call_is_made_once(rt: HostRuntime) -> Result<(), Fail> {
     let Some(other) = table.split(&mut seat) else {
         return Err(Fail::from("64 numbers are not split"));
     };
-    let ((first, second), called) = announced_and_called(&rt, &table, lots, home, seat, other);
-    let announced = all_called(&rt, &first, &second, &called);
+    let ((first, second), called) = announced_and_called(
+        rt, &table, lots, home, seat, other, shared,
+    );
+    Ok(all_called(rt, &first, &second, &called))
+}
+
+#[test]
+fn each_announced_call_is_made_once(rt: HostRuntime) -> Result<(), Fail> {
+    let announced = stormed(&rt, rt.alloc(), SHARED)?;
     println!(rt; "{announced} of 20002 schedules found their handle not pending")?;
     assert!(rt;
         announced > 2_000,
         "only {announced} of 20002 schedules found their handle not pending"
     );
+    Ok(())
+}
+
+#[test]
+fn storm(rt: HostRuntime) -> Result<(), Fail> {
+    let announced = stormed(&rt, rt.alloc(), 1)?;
+    assert!(rt; announced > 2, "one handle was called once at least");
     Ok(())
 }

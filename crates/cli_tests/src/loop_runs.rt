@@ -79,6 +79,39 @@ fn commands_print_what_they_find(rt: HostRuntime) -> Result<(), Fail> {
     assert_runs(&rt, rt.alloc(), SOUND, &RUNG)
 }
 
+/// Callbacks that delete, schedule, cancel and nest as much as they may.
+const HOSTILE: [Row; 4] = [
+    (
+        BELLS,
+        "loop 1 0 0\non 0 delete 0\non 0 schedule 0\nschedule 0\npoll\npoll\nschedule 0\npoll\n",
+        Done,
+        "schedule 0 was -----\npoll ran 0 progress yes cut 0\npoll ran - progress no cut 0\nschedule 0 was --D--\npoll ran - progress no cut 0\n",
+    ),
+    (
+        BELLS,
+        "loop 10 0 0\non 0 schedule 1\non 0 nest\non 1 schedule 2\non 1 nest\non 2 schedule 3\non 2 nest\non 3 schedule 4\non 3 nest\non 4 schedule 5\non 4 nest\non 5 schedule 6\non 5 nest\non 6 schedule 7\non 6 nest\non 7 schedule 8\non 7 nest\non 8 schedule 9\non 8 nest\nschedule 0\npoll\npoll\n",
+        Done,
+        "schedule 0 was -----\npoll ran 0 1 2 3 4 5 6 7 progress yes cut 1\npoll ran 8 9 progress yes cut 0\n",
+    ),
+    (
+        BELLS,
+        "loop 2 0 0\non 1 cancel 0\nschedule 0\nschedule 1\npoll\n",
+        Done,
+        "schedule 0 was -----\nschedule 1 was -----\npoll ran 1 progress yes cut 0\n",
+    ),
+    (
+        BELLS,
+        "loop 1 0 0\nidle 0\ncancel 0\ncommit\ncommit\n",
+        Done,
+        "idle 0 was -----\ncancel 0 was PS--I\ncommit awake notified\ncommit sleep forever\n",
+    ),
+];
+
+#[test]
+fn hostile_callbacks_do_no_more_than_they_may(rt: HostRuntime) -> Result<(), Fail> {
+    assert_runs(&rt, rt.alloc(), SOUND, &HOSTILE)
+}
+
 const REFUSED: [Row; 2] = [
     (BELLS, "image 16\nloops 1\n", BadScript(NoHeader), ""),
     (

@@ -4,7 +4,7 @@ use Rattle.aio_model.specs.declared.flags.Flags.{Flags}
 use Rattle.aio_model.specs.FlagsWord.{bit}
 use Rattle.aio_model.specs.LoopHistory.{Sizes, ToCall, Take, History}
 use Rattle.aio_model.specs.LoopLegal.{IsLegal}
-use Rattle.aio_model.specs.LoopFrame.{Entered, Runs, are_of_callback}
+use Rattle.aio_model.specs.LoopFrame.{Ended, Entered, Runs, are_of_callback}
 use Rattle.aio_model.specs.LoopCalls.{entry_time, entry_times, dequeue_times, stops, AwaitsCall}
 use Rattle.aio_model.proofs.Rounds.{legal_cut}
 use Rattle.aio_model.proofs.Awaiting.{awaits_still, none_dequeued, dequeue_times-append, some_entry-parts, some_entry-both}
@@ -14,7 +14,7 @@ use Rattle.aio_bh.specs.declared.polled.Polled.{Polled}
 use Rattle.aio_bh.specs.Enqueuing.{enqueue_entries}
 use Rattle.aio_bh.specs.Polling.{Polls}
 use Rattle.aio_bh.specs.Serving.{WasMade}
-use Rattle.aio_bh.proofs.Served.{served, callback_awaits}
+use Rattle.aio_bh.proofs.Served.{served, never_nests, callback_awaits}
 use Rattle.doorbells.specs.Responding.{is_new, one_more, count_of, answers, PassesOn, Counts, AreFit}
 use Rattle.doorbells.specs.Rings.{Rings}
 use Rattle.doorbells.specs.Answering.{Counted, Answers, AnswersTwice, AnswersOne}
@@ -74,7 +74,7 @@ zero_or_one (suc zero) h = inl refl
 zero_or_one (suc (suc n)) h = absurd (omega (arith, h))
 
 module _ {R : Type 0} (does : R → Entered → R → Type 0) (counts : R → List ℕ) (passed from to : R → ℕ)
-    (step : (x y : R) (e : Entered) → does x e y → Counts e (counts x) (counts y) × PassesOn (answers (from x) e) (to x) e.made (passed x) (passed y) × (from y ≡ from x) × (to y ≡ to x)) where
+    (step : (x y : R) (e : Entered) → does x e y → Counts e (counts x) (counts y) × PassesOn (answers (from x) e) (to x) e.made (passed x) (passed y) × (from y ≡ from x) × (to y ≡ to x) × (e.answer ≡ Ended)) where
   pub to_same : (log : List Entered) (r s : R) → Runs does r log s → to s ≡ to r
   to_same [] r s runs = ap to runs
   to_same (e ∷ log) r s runs = (step runs.0 s e runs.2).3 ∙ to_same log r runs.0 runs.1
@@ -103,7 +103,7 @@ module _ {R : Type 0} (does : R → Entered → R → Type 0) (counts : R → Li
 
   pub answered : (polled : Polled) (r s : R) (a b : Known) → AreFit a.sizes.handles (counts r) (to r) → Polls does polled r a s b → Answers a.sizes (to r) a.seen b.seen (record { answered = counts r; passed_on = passed r }) (record { answered = counts s; passed_on = passed s })
   answered polled r s a b fit polls =
-      let serves = served does polled r s a b polls in
+      let serves = served does polled r s a b polls (never_nests does (λ x y e did. (step x y e did).4) polls.end.log r s polls.runs) in
       let P : History = serves.others ++ a.seen in
       let legal : IsLegal a.sizes b.seen = polls.goes_on.legal in
       let legal_P : IsLegal a.sizes P = (legal_cut a.sizes serves.later (Take ∷ P) (subst (IsLegal a.sizes) serves.seen legal)).1 in

@@ -92,11 +92,12 @@ impl<'a, R: Wait> Devices<'a, R> {
 
 impl<'a, R: Wait> Runner<()> for Devices<'a, R> {
     ghost use Rattle.std.specs.Prelude.{◌≡◌, ◌==◌, ◌&&◌};
+    ghost use Rattle.aio_model.specs.LoopFrame.{Ended};
     ghost use Rattle.doorbells.specs.Responding.{Counts, PassesOn, AreFit, answers};
 
     ghost can_run = { λ devices sizes. AreFit sizes.handles devices.answered.items devices.to };
 
-    ghost does = { λ before entered after. Counts entered before.answered.items after.answered.items × PassesOn (answers before.from entered) before.to entered.made before.passed_on after.passed_on × (after.from ≡ before.from) × (after.to ≡ before.to) };
+    ghost does = { λ before entered after. Counts entered before.answered.items after.answered.items × PassesOn (answers before.from entered) before.to entered.made before.passed_on after.passed_on × (after.from ≡ before.from) × (after.to ≡ before.to) × (entered.answer ≡ Ended) };
 
     fn run(&mut self, table: &LoopTable<()>, seat: &mut Seat<()>, call: &mut Call<()>) -> Turn {
         if call.first {

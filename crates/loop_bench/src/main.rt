@@ -3,6 +3,7 @@
 #![tactic(auto)]
 
 mod calls;
+mod nested;
 mod part;
 mod placings;
 mod plain;
@@ -28,6 +29,7 @@ fn main(rt: HostRuntime) -> io::Result<()> {
         Some(Part::OneShot) => shared::one_shot(&rt, alloc),
         Some(Part::ManyHandles) => shared::many_handles(&rt, alloc),
         Some(Part::TwoThreads) => threads::two_threads_and_misses(&rt, alloc),
+        Some(Part::Nested) => nested::one_nest(&rt, alloc),
         Some(Part::Placings) => placings::two_threads(&rt, alloc),
         Some(Part::PlainOne) => plain::one_handle(&rt, alloc),
         Some(Part::PlainMany) => plain::many_handles(&rt, alloc),

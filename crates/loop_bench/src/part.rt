@@ -5,6 +5,8 @@ pub enum Part {
     OneHandle,
     OneShot,
     ManyHandles,
+    /// Rounds of one handle whose callback nests once.
+    Nested,
     TwoThreads,
     /// Two threads place one-shots while the home polls.
     Placings,
@@ -25,6 +27,7 @@ impl Part {
             "one" => Some(Part::OneHandle),
             "once" => Some(Part::OneShot),
             "many" => Some(Part::ManyHandles),
+            "nested" => Some(Part::Nested),
             "threads" => Some(Part::TwoThreads),
             "placings" => Some(Part::Placings),
             "plain-one" => Some(Part::PlainOne),

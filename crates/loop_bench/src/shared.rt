@@ -7,7 +7,7 @@ ghost use Rattle.aio_bh.specs.OneShots.{ServesHome};
 ghost use Rattle.lot_pool.specs.Pools.{IsPassOf};
 
 use crate::calls::{Calls, HANDLES, LOTS, MANY_ROUNDS, ONE_ROUNDS};
-use aio_bh::{BottomHalves, LotBuilt, LotPool};
+use aio_bh::{BottomHalves, LotBuilt, LotPool, Runner};
 use aio_core::{Built, Home, LoopTable, Seat};
 use std::alloc::Global;
 use std::io;
@@ -15,7 +15,7 @@ use std::sync::Wait;
 
 /// A shared loop of 64 handles and 16 lots.
 #[derive(Drop)]
-struct Shared {
+pub(crate) struct Shared {
     table: LoopTable<u64>,
     home: Home<u64>,
     seat: Seat<u64>,
@@ -31,7 +31,7 @@ struct Shared {
 }
 
 impl Shared {
-    fn build<R: Wait>(rt: &R, alloc: Global) -> io::Result<Shared> {
+    pub(crate) fn build<R: Wait>(rt: &R, alloc: Global) -> io::Result<Shared> {
         let Ok(lots) = LotPool::build(rt, alloc, HANDLES, LOTS) else {
             return Err(io::Error::from(io::ErrorKind::OutOfMemory));
         };
@@ -46,7 +46,8 @@ impl Shared {
         }
     }
 
-    fn schedule<R: Wait>(&mut self, rt: &R, bh: u32)
+    #[inline(always)]
+    pub(crate) fn schedule<R: Wait>(&mut self, rt: &R, bh: u32)
         requires { bh < 64 }
     {
         self.table.schedule(rt, &mut self.seat, bh);
@@ -60,7 +61,11 @@ impl Shared {
             .is_ok()
     }
 
-    fn poll<R: Wait>(&mut self, rt: &R, calls: &mut Calls) {
+    #[inline(always)]
+    pub(crate) fn poll<R: Wait, C: Runner<u64>>(&mut self, rt: &R, calls: &mut C)
+        requires { C.can_run calls.old self.old.table.sizes }
+        ensures { C.can_run calls.new self.new.table.sizes }
+    {
         let lots = &mut self.lots;
         self.table
             .poll(rt, &lots.pool, &mut lots.home, &mut self.home, calls);

@@ -9,23 +9,14 @@ use Rattle.aio_bh.proofs.frames.+poll.Given as goal
 abbrev pub decreases-nest : goal.decreases-nest
 decreases-nest g l = 16 * l.deeper + 2 * l.nests
 
-abbrev pub decreases-body : goal.decreases-body
-decreases-body g l = 16 * l.deeper + 2 * l.call.nests_left + 1
-
-abbrev pub decreases-call : goal.decreases-call
-decreases-call g l = 16 * l.deeper + 10
-
-abbrev pub decreases-follow : goal.decreases-follow
-decreases-follow g l = 16 * l.deeper + 11
-
 abbrev pub decreases-turn : goal.decreases-turn
 decreases-turn g l = 16 * l.deeper + 12
 
 abbrev pub decreases-frame : goal.decreases-frame
 decreases-frame g l = 16 * l.deeper + 15
 
-abbrev pub invariant-frame-loop : goal.invariant-frame-loop
-invariant-frame-loop g l = record {
+abbrev pub invariant-frame-loop-next : goal.invariant-frame-loop-next
+invariant-frame-loop-next g l = record {
   goes : Goes (TakesAndSome l.table.sizes (Frame l.table.sizes l.deeper) (nests_above l.deeper)) g.R.Runner.does (far l.fn.home.seat.known l.fn.runner l.fn.polled) (far l.home.seat.known l.runner l.polled);
   between : IsBetween l.table l.deeper l.home.seat;
   pass : IsHomeOf l.pool l.pass;
@@ -33,5 +24,5 @@ invariant-frame-loop g l = record {
   can_run : g.R.Runner.can_run l.runner l.table.sizes;
 }
 
-abbrev pub decreases-frame-loop : goal.decreases-frame-loop
-decreases-frame-loop g l = length (out_of l.home.seat.known.seen)
+abbrev pub decreases-frame-loop-next : goal.decreases-frame-loop-next
+decreases-frame-loop-next g l = length (out_of l.home.seat.known.seen)

@@ -1,5 +1,5 @@
 use Rattle.aio_bh.proofs.Returning.{gives_freed}
-use Rattle.aio_bh.proofs.frames.finish.Goals as goal
+use Rattle.aio_bh.proofs.frames.end_lot.Goals as goal
 
 pub returns-clause-gives : goal.returns-clause-gives
 returns-clause-gives g c =
