@@ -87,8 +87,8 @@ module _ (n : ℕ) (h : History) (words : List ℕ) (views : List Known) (id : �
               walks = λ own. walks_kept words words' stand.taken v.stage in_taken (was.walks own);
             })
             (λ beside u ne atu k. knows_kept n words words' h h stand.taken stand.taken u
-              (λ d b busy theirs. (theirs, else_same d (owed_apart n h words views id beside v u c d given b stand at atu ne owed numbered theirs (k.active busy))))
-              (λ own. walks_kept words words' stand.taken u.stage in_taken) k);
+            (λ d b busy theirs. (theirs, else_same d (owed_apart n h words views id beside v u c d given b stand at atu ne owed numbered theirs (k.active busy))))
+            (λ own. walks_kept words words' stand.taken u.stage in_taken) k);
       }
 
 module _ {S : Type 0} (given_in : S → Bool) (IsOf : S → Type 0) where
@@ -102,11 +102,19 @@ module _ {S : Type 0} (given_in : S → Bool) (IsOf : S → Type 0) where
       let owed : IsOwed h v.first c given = owed_of s.words h v.first v.phase (Marked c given) phase was.owes in
       let w = after_head_load v c given found in
       let low : c < v.coroutines = subst (λ k. c < k) (sym (was.coroutines_are numbered)) (owed_below n h s.words s.views v.first c given stand owed) in
-      let told : HeadIsLoaded c given found v w = record { below = low; rest = refl } in
-      (w, keeps, tt, (h, load_stands n h s.words s.views id head_at v w stand at (record { numbers_are = refl; told_is = refl }) refl refl (record { coroutines_are = was.coroutines_are; active = λ _. numbered; owes = owed; walks = was.walks }), slots_kept given_in IsOf n h s.homes s.views id v w kept.2 at refl refl refl), (refl, λ d b is.
-        let index : c ≡ d = ap co_in (sym phase ∙ is) in
-        let gave : given ≡ b = ap given_by (sym phase ∙ is) in
-        subst (λ k. HeadIsLoaded k b found v w) index (subst (λ k. HeadIsLoaded c k found v w) gave told)))
+      let told : HeadIsLoaded c given found v w = record { below = low; rest = refl } in (
+        w,
+        keeps,
+        tt,
+        (h, load_stands n h s.words s.views id head_at v w stand at (record { numbers_are = refl; told_is = refl }) refl refl (record { coroutines_are = was.coroutines_are; active = λ _. numbered; owes = owed; walks = was.walks }), slots_kept given_in IsOf n h s.homes s.views id v w kept.2 at refl refl refl),
+        (
+          refl,
+          λ d b is.
+              let index : c ≡ d = ap co_in (sym phase ∙ is) in
+              let gave : given ≡ b = ap given_by (sym phase ∙ is) in
+              subst (λ k. HeadIsLoaded k b found v w) index (subst (λ k. HeadIsLoaded c k found v w) gave told),
+        ),
+      )
 
   pub next_store_allowed : (n slots id c : ℕ) (given : Bool) (head : ℕ) (me : Me S Known) → 0 < me.0.count → me.0.phase ≡ HeadLoaded c given head → Allows (Kept given_in IsOf n) slots id me (next_at c) (λ _. head) (λ _. next_stored (step slots (next_at c) head 0 none) me head)
   next_store_allowed n slots id c given head me numbered phase s kept long at fits =
@@ -116,9 +124,17 @@ module _ {S : Type 0} (given_in : S → Bool) (IsOf : S → Type 0) where
       let was = stand.knows id v at in
       let owed : IsOwed h v.first c given = owed_of s.words h v.first v.phase (HeadLoaded c given head) phase was.owes in
       let w = after_next_store v c given head in
-      let told : NextIsStored c given head v w = record { rest = refl } in
-      (w, keeps, tt, (h, next_store_stands n h s.words s.views id v c given head stand at numbered owed, slots_kept given_in IsOf n h s.homes s.views id v w kept.2 at refl refl refl), (refl, λ d b to is.
-        let index : c ≡ d = ap co_in (sym phase ∙ is) in
-        let gave : given ≡ b = ap given_by (sym phase ∙ is) in
-        let loaded : head ≡ to = ap head_in (sym phase ∙ is) in
-        subst (λ k. NextIsStored k b to v w) index (subst (λ k. NextIsStored c k to v w) gave (subst (λ k. NextIsStored c given k v w) loaded told))))
+      let told : NextIsStored c given head v w = record { rest = refl } in (
+        w,
+        keeps,
+        tt,
+        (h, next_store_stands n h s.words s.views id v c given head stand at numbered owed, slots_kept given_in IsOf n h s.homes s.views id v w kept.2 at refl refl refl),
+        (
+          refl,
+          λ d b to is.
+              let index : c ≡ d = ap co_in (sym phase ∙ is) in
+              let gave : given ≡ b = ap given_by (sym phase ∙ is) in
+              let loaded : head ≡ to = ap head_in (sym phase ∙ is) in
+              subst (λ k. NextIsStored k b to v w) index (subst (λ k. NextIsStored c k to v w) gave (subst (λ k. NextIsStored c given k v w) loaded told)),
+        ),
+      )

@@ -82,7 +82,7 @@ module _ (n : ℕ) (h : History) (words : List ℕ) (views : List Known) (id : �
               walks = λ own. record { is = refl; rest = []; chain = over; whole = refl; held = tt };
             })
             (λ beside u ne atu. knows_kept n words words' h g stand.taken more u (owed_still u)
-              (λ own old. no_other_home n h words views id beside v u (Walks words' more u.stage) stand at atu ne is_home own));
+            (λ own old. no_other_home n h words views id beside v u (Walks words' more u.stage) stand at atu ne is_home own));
       }
     where
       owed_still : (u : Known) (d : ℕ) (given : Bool) → is_at_rest u.phase ≡ false → IsOwed h u.first d given → IsOwed (Enter c ∷ h) u.first d given × (next_in (set words (mark_at c) 0) d ≡ next_in words d)
@@ -132,15 +132,20 @@ module _ {S : Type 0} (given_in : S → Bool) (IsOf : S → Type 0) where
         walks = λ own. record { is = walks.is; rest = walks.rest; chain = walks.chain; whole = walks.whole; held = (more, run) };
       }) in
       let slots_now = slots_change given_in IsOf n h h s.homes (set s.homes c none) s.views id v w c kept.2 at refl
-          (λ d ne. (refl, set_else s.homes c d none ne, (let other : eqb d c ≡ false = ne_eqb d c ne in other ∙ sym (ap (is_at_hand d) hand)), λ e. absurd (let no : false ≡ true = sym (ap (is_at_hand d) hand) ∙ e in cc)))
-          (λ small free. absurd (let both : Free ≡ Pushed place.0 place.1 = sym free ∙ place.2 in cc))
-          (each_set (λ u. Unit {0}) (λ u. owns (numbers_of u) home ≡ true → c < n → (t : ℕ) (b : Bool) → place_of c h ≡ Pushed t b → Holds given_in IsOf c u.stage b (get_elem? (set s.homes c none) c)) s.views id w (λ far u atu. tt)
-            (λ own small t b is. at_hand_here c w.stage b (get_elem? (set s.homes c none) c) refl (state.2 ∙ same_given place.0 t place.1 b (sym place.2 ∙ is)))
-            (λ far u ne atu old own small t b is. no_other_home n h s.words s.views id far v u (Holds given_in IsOf c u.stage b (get_elem? (set s.homes c none) c)) stand at atu ne is_home own)) in
-      let told : Opens c found (given_in x) v w = record { rest = refl } in
-      (w, takes c x, state.1, (h, now, slots_now), λ d others eq.
-        let index : c ≡ d = same_first c d more others (sym run ∙ eq) in
-        (x, state.3, ap (λ k. (k, x) ∷ me.1) index, subst (λ k. Opens k found (given_in x) v w) index told))
+      (λ d ne. (refl, set_else s.homes c d none ne, (let other : eqb d c ≡ false = ne_eqb d c ne in other ∙ sym (ap (is_at_hand d) hand)), λ e. absurd (let no : false ≡ true = sym (ap (is_at_hand d) hand) ∙ e in cc)))
+      (λ small free. absurd (let both : Free ≡ Pushed place.0 place.1 = sym free ∙ place.2 in cc))
+      (each_set (λ u. Unit {0}) (λ u. owns (numbers_of u) home ≡ true → c < n → (t : ℕ) (b : Bool) → place_of c h ≡ Pushed t b → Holds given_in IsOf c u.stage b (get_elem? (set s.homes c none) c)) s.views id w (λ far u atu. tt)
+      (λ own small t b is. at_hand_here c w.stage b (get_elem? (set s.homes c none) c) refl (state.2 ∙ same_given place.0 t place.1 b (sym place.2 ∙ is)))
+      (λ far u ne atu old own small t b is. no_other_home n h s.words s.views id far v u (Holds given_in IsOf c u.stage b (get_elem? (set s.homes c none) c)) stand at atu ne is_home own)) in
+      let told : Opens c found (given_in x) v w = record { rest = refl } in (
+        w,
+        takes c x,
+        state.1,
+        (h, now, slots_now),
+        λ d others eq.
+            let index : c ≡ d = same_first c d more others (sym run ∙ eq) in
+            (x, state.3, ap (λ k. (k, x) ∷ me.1) index, subst (λ k. Opens k found (given_in x) v w) index told),
+      )
 
   -- the first of the run is entered, and its slot comes back with no state
   pub enter_allowed : (n slots id c : ℕ) (more : List ℕ) (x : S) (v : Known) (held : List (ℕ × S)) → slots ≡ n → 0 < v.count → owns (numbers_of v) home ≡ true → v.stage.word ≡ 0 → v.stage.run ≡ c ∷ more → v.stage.hand ≡ Some c → given_in x ≡ false → Allows (Kept given_in IsOf n) slots id (v, (c, x) ∷ held) (mark_at c) (λ _. 0) (λ _. entered (step slots (mark_at c) 0 0 none) (v, (c, x) ∷ held) 0)
@@ -157,9 +162,9 @@ module _ {S : Type 0} (given_in : S → Bool) (IsOf : S → Type 0) where
       let here : place_of c (entry ∷ h) ≡ Free = place_here entry h in
       let placed : get_elem? (set s.homes c (some x)) c ≡ some (some x) = set_here s.homes c (some x) (omega arith) in
       let slots_now = slots_change given_in IsOf n h (entry ∷ h) s.homes (set s.homes c (some x)) s.views id v w c kept.2 at refl
-          (λ d ne. (place_else d entry h ne, set_else s.homes c d (some x) ne, (let other : eqb d c ≡ false = ne_eqb d c ne in sym (ap (is_at_hand d) hand ∙ other)), λ _. refl))
-          (λ small free. (x, placed, gave))
-          (λ far u atu own small t b is. absurd (let both : Free ≡ Pushed t b = sym here ∙ is in cc)) in
+      (λ d ne. (place_else d entry h ne, set_else s.homes c d (some x) ne, (let other : eqb d c ≡ false = ne_eqb d c ne in sym (ap (is_at_hand d) hand ∙ other)), λ _. refl))
+      (λ small free. (x, placed, gave))
+      (λ far u atu own small t b is. absurd (let both : Free ≡ Pushed t b = sym here ∙ is in cc)) in
       let is = stand.seats.each id v at in
       let sized : v.coroutines ≡ n = was.coroutines_are numbered in
       let gave_then = given_at_hand c v.stage place.1 (get_elem? s.homes c) hand (kept.2.full id v at is_home c low place.0 place.1 place.2) in
@@ -169,11 +174,19 @@ module _ {S : Type 0} (given_in : S → Bool) (IsOf : S → Type 0) where
         scheduler = place.0;
         was = ap (place_of c) (sym (same_older entry h (part.others ++ v.seen) part.seen)) ∙ place.2 ∙ ap (λ b. Pushed place.0 b) (sym gave_then);
         rest = refl;
-      } in
-      (w, gives, tt, (entry ∷ h, now, slots_now), (refl, λ d others in_hand eq.
-        let index : c ≡ d = same_first c d more others (sym run ∙ eq) in
-        let rests : more ≡ others = same_rest c d more others (sym run ∙ eq) in
-        subst (λ k. Enters k others v w) index (subst (λ l. Enters c l v w) rests told)))
+      } in (
+        w,
+        gives,
+        tt,
+        (entry ∷ h, now, slots_now),
+        (
+          refl,
+          λ d others in_hand eq.
+              let index : c ≡ d = same_first c d more others (sym run ∙ eq) in
+              let rests : more ≡ others = same_rest c d more others (sym run ∙ eq) in
+              subst (λ k. Enters k others v w) index (subst (λ l. Enters c l v w) rests told),
+        ),
+      )
 
   pub enter_of : (n slots id c : ℕ) (more : List ℕ) (x : S) (me : Me S Known) (held : List (ℕ × S)) → me.1 ≡ (c, x) ∷ held → slots ≡ n → 0 < me.0.count → owns (numbers_of me.0) home ≡ true → me.0.stage.word ≡ 0 → me.0.stage.run ≡ c ∷ more → me.0.stage.hand ≡ Some c → given_in x ≡ false → Allows (Kept given_in IsOf n) slots id me (mark_at c) (λ _. 0) (λ _. entered (step slots (mark_at c) 0 0 none) me 0)
   enter_of n slots id c more x me held is room numbered is_home over run hand gave =

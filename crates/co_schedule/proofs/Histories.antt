@@ -55,6 +55,7 @@ place_below n (Push d s ∷ P) c legal busy = by (eqb c d) busy (place_below n P
     was Free k = k
     was (Scheduled t g) k = refl
     was (Pushed t g) k = refl
+
     by : (b : Bool) → is_free (cond b (pushed (place_of c P)) (place_of c P)) ≡ false → (is_free (place_of c P) ≡ false → c < n) → c < n
     by true k more = more (was (place_of c P) k)
     by false k more = more k
@@ -95,9 +96,11 @@ once n (Enter d ∷ P) c legal = by (eqb c d) refl (once n P c legal.1)
   where
     counted : times_of c (queue_of P) ≡ bit (eqb c d) + times_of c (drop 1 (queue_of P))
     counted = ap (times_of c) (queue_head P d legal.0)
+
     most : (b : Bool) (k : ℕ) → 1 + k ≡ bit b → k ≡ 0
     most true k e = omega arith
     most false k e = absurd (omega arith)
+
     by : (b : Bool) → eqb c d ≡ b → times_of c (queue_of P) ≡ bit (is_pushed (place_of c P)) → times_of c (drop 1 (queue_of P)) ≡ bit (is_pushed (cond b Free (place_of c P)))
     by true e older =
         let all = ap (λ (k : Bool). bit k + times_of c (drop 1 (queue_of P))) (sym e) ∙ sym counted ∙ older in
@@ -151,6 +154,7 @@ queue_few n h legal =
     at_most : (b : Bool) (t : ℕ) → t ≡ bit b → t ≤ 1
     at_most true t e = omega arith
     at_most false t e = omega arith
+
     in_list : (c : ℕ) (xs : List ℕ) → contains c xs ≡ true → 1 ≤ times_of c xs
     in_list c [] there = absurd cc
     in_list c (x ∷ xs) there = one (eqb c x) there (in_list c xs)
@@ -158,6 +162,7 @@ queue_few n h legal =
         one : (b : Bool) → (b || contains c xs) ≡ true → (contains c xs ≡ true → 1 ≤ times_of c xs) → 1 ≤ bit b + times_of c xs
         one true t k = omega arith
         one false t k = let more = k t in omega arith
+
     not_in : (c : ℕ) (xs : List ℕ) → times_of c xs ≡ 0 → contains c xs ≡ false
     not_in c [] none = refl
     not_in c (x ∷ xs) none = one (eqb c x) none (not_in c xs)
@@ -165,6 +170,7 @@ queue_few n h legal =
         one : (b : Bool) → bit b + times_of c xs ≡ 0 → (times_of c xs ≡ 0 → contains c xs ≡ false) → (b || contains c xs) ≡ false
         one true t k = absurd (omega arith)
         one false t k = k (omega arith)
+
     each_once : (xs : List ℕ) → ((c : ℕ) → times_of c xs ≤ 1) → IsEachOnce xs
     each_once [] most = tt
     each_once (x ∷ xs) most =

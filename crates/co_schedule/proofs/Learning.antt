@@ -24,6 +24,14 @@ module _ {S : Type 0} (given_in : S → Bool) (IsOf : S → Type 0) where
       let v = me.0 in
       let same : set s.views id v ≡ s.views = set_again s.views id v at in
       let sized : v.coroutines ≡ n = (stand.knows id v at).coroutines_are numbered in
-      let loaded : Stands n h (set s.words head_at (slice_index s.words head_at)) s.views = subst (λ ws. Stands n h ws s.views) (sym (loaded_words s.words head_at)) stand in
-      (v, keeps, tt, (h, subst (λ vs. Stands n h (set s.words head_at (slice_index s.words head_at)) vs) (sym same) loaded, subst (λ vs. SlotsStand given_in IsOf n h s.homes vs) (sym same) kept.2), (refl, λ told eq.
-        subst (λ k. IsJoined seat_of (IsLegal k) told (longer_of told.staying told.joining)) (sym sized) (joined_of seat_of (IsLegal n) h told (legal_cut n) stand.legal (subst (AreParts seat_of h) eq (stand.seats.each id v at).told_of))))
+      let loaded : Stands n h (set s.words head_at (slice_index s.words head_at)) s.views = subst (λ ws. Stands n h ws s.views) (sym (loaded_words s.words head_at)) stand in (
+        v,
+        keeps,
+        tt,
+        (h, subst (λ vs. Stands n h (set s.words head_at (slice_index s.words head_at)) vs) (sym same) loaded, subst (λ vs. SlotsStand given_in IsOf n h s.homes vs) (sym same) kept.2),
+        (
+          refl,
+          λ told eq.
+              subst (λ k. IsJoined seat_of (IsLegal k) told (longer_of told.staying told.joining)) (sym sized) (joined_of seat_of (IsLegal n) h told (legal_cut n) stand.legal (subst (AreParts seat_of h) eq (stand.seats.each id v at).told_of)),
+        ),
+      )

@@ -32,6 +32,7 @@ module _ {S O : Type 0} (kept : State S Known → Type 0) (origin : O) where
       let later : get_elem? (set (map known_in s.views) id both) other ≡ some w.known = subst (λ l. get_elem? l other ≡ some w.known) once (at_map known_in (set s.views id (with_known v both)) other w at_later) in
       let whole = joins (state_known s) all.0 (at_map known_in s.views id v at) away later in
       let views : map known_in (set (set s.views id (with_known v both)) other (spent_of spent)) ≡ set (set (map known_in s.views) id both) other spent = map-set known_in (set s.views id (with_known v both)) other (spent_of spent) ∙ ap (λ l. set l other spent) once in
-      let nobody : IsOfTable origin (spent_of spent) = λ some_left. absurd (omega arith) in
-      (subst (λ vs. kept record { words = s.words; homes = s.homes; views = vs }) (sym views) whole,
-       each_set (IsOfTable origin) (IsOfTable origin) (set s.views id (with_known v both)) other (spent_of spent) (each_set (IsOfTable origin) (IsOfTable origin) s.views id (with_known v both) all.1 (λ _. of) (λ i u ne atu old. old)) nobody (λ i u ne atu old. old))
+      let nobody : IsOfTable origin (spent_of spent) = λ some_left. absurd (omega arith) in (
+        subst (λ vs. kept record { words = s.words; homes = s.homes; views = vs }) (sym views) whole,
+        each_set (IsOfTable origin) (IsOfTable origin) (set s.views id (with_known v both)) other (spent_of spent) (each_set (IsOfTable origin) (IsOfTable origin) s.views id (with_known v both) all.1 (λ _. of) (λ i u ne atu old. old)) nobody (λ i u ne atu old. old),
+      )

@@ -66,8 +66,8 @@ module _ (n : ℕ) (h : History) (words : List ℕ) (views : List Known) (id : �
         knows = each_set (Knows n h words stand.taken) (Knows n g words' stand.taken) views id w stand.knows
             (record { coroutines_are = was.coroutines_are; active = λ q. absurd cc; owes = tt; walks = λ own. walks_kept words words' stand.taken v.stage in_taken (was.walks own) })
             (λ beside u ne atu k. knows_kept n words words' h g stand.taken stand.taken u
-              (λ d b busy theirs. (place_else d entry h (λ q. owed_apart n h words views id beside v u c d given b stand at atu ne owed numbered theirs (k.active busy) (sym q)) ∙ theirs, same_next d))
-              (λ own. walks_kept words words' stand.taken u.stage in_taken) k);
+            (λ d b busy theirs. (place_else d entry h (λ q. owed_apart n h words views id beside v u c d given b stand at atu ne owed numbered theirs (k.active busy) (sym q)) ∙ theirs, same_next d))
+            (λ own. walks_kept words words' stand.taken u.stage in_taken) k);
       }
 
 -- what isn't in the run isn't at hand
@@ -76,6 +76,7 @@ not_at_hand words taken stage c walks away = by stage.hand walks.held
   where
     in_run : Each (λ d. c ≢ d) stage.run
     in_run = each-back (λ d. c ≢ d) (reverse walks.rest) stage.run (subst (Each (λ d. c ≢ d)) walks.whole away)
+
     by : (hand : Option ℕ) → IsHeld hand stage.run → is_at_hand c hand ≡ false
     by None held = refl
     by (Some d) held = ne_eqb c d (subst (Each (λ d. c ≢ d)) held.1 in_run).0
@@ -114,29 +115,39 @@ module _ {S : Type 0} (given_in : S → Bool) (IsOf : S → Type 0) where
         let placed : get_elem? (set s.homes c (some x)) c ≡ some (some x) = set_here s.homes c (some x) (omega arith) in
         let here : place_of c (entry ∷ h) ≡ Pushed v.first given = place_here entry h ∙ ap pushed owed_now.0 in
         let slots_now = slots_change given_in IsOf n h (entry ∷ h) s.homes (set s.homes c (some x)) s.views id v w c kept.2 at refl
-            (λ d ne. (place_else d entry h ne, set_else s.homes c d (some x) ne, refl, λ _. refl))
-            (λ small free. absurd (let both : Free ≡ Pushed v.first given = sym free ∙ here in cc))
-            (each_set (Knows n h s.words stand.taken) (λ u. owns (numbers_of u) home ≡ true → c < n → (t : ℕ) (b : Bool) → place_of c (entry ∷ h) ≡ Pushed t b → Holds given_in IsOf c u.stage b (get_elem? (set s.homes c (some x)) c)) s.views id w stand.knows
-              (λ own small t b is_pushed. has_here c v.stage b x (get_elem? (set s.homes c (some x)) c) (not_at_hand s.words stand.taken v.stage c ((stand.knows id v at).walks own) away) placed (gave ∙ same_given v.first t given b (sym here ∙ is_pushed)) of)
-              (λ far u ne atu k own small t b is_pushed. has_here c u.stage b x (get_elem? (set s.homes c (some x)) c) (not_at_hand s.words stand.taken u.stage c (k.walks own) away) placed (gave ∙ same_given v.first t given b (sym here ∙ is_pushed)) of)) in
+        (λ d ne. (place_else d entry h ne, set_else s.homes c d (some x) ne, refl, λ _. refl))
+        (λ small free. absurd (let both : Free ≡ Pushed v.first given = sym free ∙ here in cc))
+        (each_set (Knows n h s.words stand.taken) (λ u. owns (numbers_of u) home ≡ true → c < n → (t : ℕ) (b : Bool) → place_of c (entry ∷ h) ≡ Pushed t b → Holds given_in IsOf c u.stage b (get_elem? (set s.homes c (some x)) c)) s.views id w stand.knows
+        (λ own small t b is_pushed. has_here c v.stage b x (get_elem? (set s.homes c (some x)) c) (not_at_hand s.words stand.taken v.stage c ((stand.knows id v at).walks own) away) placed (gave ∙ same_given v.first t given b (sym here ∙ is_pushed)) of)
+        (λ far u ne atu k own small t b is_pushed. has_here c u.stage b x (get_elem? (set s.homes c (some x)) c) (not_at_hand s.words stand.taken u.stage c (k.walks own) away) placed (gave ∙ same_given v.first t given b (sym here ∙ is_pushed)) of)) in
         let sized : v.coroutines ≡ n = (stand.knows id v at).coroutines_are numbered in
-        let told : Pushes c found_now v w = record { makes = record { part = makes_of seat_of h entry (part_of v) (part_of w) (stand.seats.each id v at) numbered refl refl; legal = subst (λ k. IsLegal k (entry ∷ h)) (sym sized) now.legal }; rest = refl } in
-        (w, gives, tt, (entry ∷ h, now, slots_now), λ d b to eq.
-          let index : c ≡ d = ap co_in (sym phase ∙ eq) in
-          let loaded : head ≡ to = ap head_in (sym phase ∙ eq) in
-          subst (λ k. MatchBool (eqb found_now k) (Pushes d found_now v w × (more ≡ more)) (Misses d b found_now v w × (more ≡ (c, x) ∷ more))) loaded (rw is (subst (λ k. Pushes k found_now v w) index told, refl)))
+        let told : Pushes c found_now v w = record { makes = record { part = makes_of seat_of h entry (part_of v) (part_of w) (stand.seats.each id v at) numbered refl refl; legal = subst (λ k. IsLegal k (entry ∷ h)) (sym sized) now.legal }; rest = refl } in (
+          w,
+          gives,
+          tt,
+          (entry ∷ h, now, slots_now),
+          λ d b to eq.
+              let index : c ≡ d = ap co_in (sym phase ∙ eq) in
+              let loaded : head ≡ to = ap head_in (sym phase ∙ eq) in
+              subst (λ k. MatchBool (eqb found_now k) (Pushes d found_now v w × (more ≡ more)) (Misses d b found_now v w × (more ≡ (c, x) ∷ more))) loaded (rw is (subst (λ k. Pushes k found_now v w) index told, refl)),
+        )
     compared false is =
         let h = kept.0 in
         let stand = kept.1 in
         let was = stand.knows id v at in
         let w = after_miss v c given found_now in
         let now = load_stands n h s.words s.views id head_at v w stand at (record { numbers_are = refl; told_is = refl }) refl refl (record { coroutines_are = was.coroutines_are; active = λ _. numbered; owes = owed_now.0; walks = was.walks }) in
-        let told : Misses c given found_now v w = record { rest = refl } in
-        (w, keeps, tt, (h, now, slots_kept given_in IsOf n h s.homes s.views id v w kept.2 at refl refl refl), λ d b to eq.
-          let index : c ≡ d = ap co_in (sym phase ∙ eq) in
-          let gives_it : given ≡ b = ap given_by (sym phase ∙ eq) in
-          let loaded : head ≡ to = ap head_in (sym phase ∙ eq) in
-          subst (λ k. MatchBool (eqb found_now k) (Pushes d found_now v w × ((c, x) ∷ more ≡ more)) (Misses d b found_now v w × ((c, x) ∷ more ≡ (c, x) ∷ more))) loaded (rw is (subst (λ k. Misses k b found_now v w) index (subst (λ k. Misses c k found_now v w) gives_it told), refl)))
+        let told : Misses c given found_now v w = record { rest = refl } in (
+          w,
+          keeps,
+          tt,
+          (h, now, slots_kept given_in IsOf n h s.homes s.views id v w kept.2 at refl refl refl),
+          λ d b to eq.
+              let index : c ≡ d = ap co_in (sym phase ∙ eq) in
+              let gives_it : given ≡ b = ap given_by (sym phase ∙ eq) in
+              let loaded : head ≡ to = ap head_in (sym phase ∙ eq) in
+              subst (λ k. MatchBool (eqb found_now k) (Pushes d found_now v w × ((c, x) ∷ more ≡ more)) (Misses d b found_now v w × ((c, x) ∷ more ≡ (c, x) ∷ more))) loaded (rw is (subst (λ k. Misses k b found_now v w) index (subst (λ k. Misses c k found_now v w) gives_it told), refl)),
+        )
 
   pub head_compare_allowed : (n slots id c : ℕ) (given : Bool) (head : ℕ) (x : S) (v : Known) (more : List (ℕ × S)) → slots ≡ n → 0 < v.count → v.phase ≡ Linked c given head → given_in x ≡ given → IsOf x → Allows (Kept given_in IsOf n) slots id (v, (c, x) ∷ more) head_at (λ k. either (eqb k head) (c + 1) k) (head_compared (step slots head_at head (c + 1) none) (v, (c, x) ∷ more))
   head_compare_allowed n slots id c given head x v more room numbered phase gave of s kept long at fits =

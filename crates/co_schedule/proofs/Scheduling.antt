@@ -68,8 +68,8 @@ module _ (n : ℕ) (h : History) (words : List ℕ) (views : List Known) (id : �
               walks = λ own. walks_kept words words' stand.taken v.stage (each_all _ stand.taken same_next) ((stand.knows id v at).walks own);
             })
             (λ beside u ne atu. knows_kept n words words' h g stand.taken stand.taken u
-              (λ d b busy owed. (place_else d entry h (λ (q : d ≡ c). let no : Free ≡ Scheduled u.first b = sym free ∙ ap (λ k. place_of k h) (sym q) ∙ owed in cc) ∙ owed, same_next d))
-              (λ own. walks_kept words words' stand.taken u.stage (each_all _ stand.taken same_next)));
+            (λ d b busy owed. (place_else d entry h (λ (q : d ≡ c). let no : Free ≡ Scheduled u.first b = sym free ∙ ap (λ k. place_of k h) (sym q) ∙ owed in cc) ∙ owed, same_next d))
+            (λ own. walks_kept words words' stand.taken u.stage (each_all _ stand.taken same_next)));
       }
 
 module _ {S : Type 0} (cause_in : S → Cause) (given_in : S → Bool) (IsOf : S → Type 0) where
@@ -97,15 +97,20 @@ module _ {S : Type 0} (cause_in : S → Cause) (given_in : S → Bool) (IsOf : S
         let now = schedule_stands n h s.words s.views id v c (cause_in y) given stand at numbered rest low free in
         let here : place_of c (entry ∷ h) ≡ Scheduled v.first given = place_here entry h in
         let slots_now = slots_change given_in IsOf n h (entry ∷ h) s.homes (set s.homes c none) s.views id v w c kept.2 at refl
-            (λ d ne. (place_else d entry h ne, set_else s.homes c d none ne, refl, λ _. refl))
-            (λ small is_free. absurd (let no : Free ≡ Scheduled v.first given = sym is_free ∙ here in cc))
-            (λ far u atu own small t b is_pushed. absurd (let no : Pushed t b ≡ Scheduled v.first given = sym is_pushed ∙ here in cc)) in
+        (λ d ne. (place_else d entry h ne, set_else s.homes c d none ne, refl, λ _. refl))
+        (λ small is_free. absurd (let no : Free ≡ Scheduled v.first given = sym is_free ∙ here in cc))
+        (λ far u atu own small t b is_pushed. absurd (let no : Pushed t b ≡ Scheduled v.first given = sym is_pushed ∙ here in cc)) in
         let sized : v.coroutines ≡ n = (stand.knows id v at).coroutines_are numbered in
-        let told : Schedules c (cause_in y) given v w = record { makes = record { part = makes_of seat_of h entry (part_of v) (part_of w) (stand.seats.each id v at) numbered refl refl; legal = subst (λ k. IsLegal k (entry ∷ h)) (sym sized) now.legal }; rest = refl } in
-        (w, takes c vacant.0, vacant.1, (entry ∷ h, now, slots_now), λ x d said word.
-          let same : y ≡ x = same_said y x said in
-          let index : c ≡ d = omega arith in
-          rw is (subst (λ k. Schedules k (cause_in x) (given_in x) v w) index (subst (λ z. Schedules c (cause_in z) (given_in z) v w) same told), (vacant.0, vacant.2, ap (λ k. (k, vacant.0) ∷ me.1) index)))
+        let told : Schedules c (cause_in y) given v w = record { makes = record { part = makes_of seat_of h entry (part_of v) (part_of w) (stand.seats.each id v at) numbered refl refl; legal = subst (λ k. IsLegal k (entry ∷ h)) (sym sized) now.legal }; rest = refl } in (
+          w,
+          takes c vacant.0,
+          vacant.1,
+          (entry ∷ h, now, slots_now),
+          λ x d said word.
+              let same : y ≡ x = same_said y x said in
+              let index : c ≡ d = omega arith in
+              rw is (subst (λ k. Schedules k (cause_in x) (given_in x) v w) index (subst (λ z. Schedules c (cause_in z) (given_in z) v w) same told), (vacant.0, vacant.2, ap (λ k. (k, vacant.0) ∷ me.1) index)),
+        )
     marked_by false is =
         let h = kept.0 in
         let stand = kept.1 in

@@ -88,8 +88,8 @@ module _ (n : ℕ) (h : History) (words : List ℕ) (views : List Known) (id : �
               };
             })
             (λ beside u ne atu. knows_kept n words words_taken h h stand.taken (queue_of h) u
-              (λ d b busy owed. (owed, same_next d))
-              (λ own old. no_other_home n h words views id beside v u (Walks words_taken (queue_of h) u.stage) stand at atu ne is_home own));
+            (λ d b busy owed. (owed, same_next d))
+            (λ own old. no_other_home n h words views id beside v u (Walks words_taken (queue_of h) u.stage) stand at atu ne is_home own));
       }
 
 -- The walk.

@@ -1,5 +1,5 @@
-use co_state::Origin;
 use chosen::Chosen;
+use co_state::Origin;
 
 /// What a table is told when it is made.
 pub struct About<C: Origin> {

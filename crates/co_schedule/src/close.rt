@@ -28,9 +28,7 @@ impl<C: Origin + Drop> CoTable<C> {
         ensures looks { Looks MarkLoad (mark_at co) result inner.old.me.0.known inner.new.me.0.known }
         ensures mark { result ≡ mark_of (place_of co inner.old.me.0.known.seen) }
     {
-        self.table
-            .shared
-            .load::<LookAtMark>(inner, mark_word(co))
+        self.table.shared.load::<LookAtMark>(inner, mark_word(co))
     }
 
     /// The least coroutine that has a mark.

@@ -1,9 +1,9 @@
 //! The rule of the table, and what each step tells. No value of these types is made.
 use crate::about::About;
-use co_state::Origin;
 use crate::parcel::Parcel;
 use crate::view::View;
 use atomic_table::{Join, Play, Split, TableRule};
+use co_state::Origin;
 use std::marker::PhantomData;
 
 /// What lies in a slot.
@@ -99,7 +99,6 @@ impl<C: Origin> Play<Option<Parcel<C>>, View<C::Source>> for OpenMark<C> {
 }
 
 pub struct ClearMark;
-
 
 impl<S, O> Play<S, View<O>> for ClearMark {
     ghost use Rattle.co_schedule.specs.Held.{Tells};

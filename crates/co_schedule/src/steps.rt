@@ -5,15 +5,23 @@ ghost use Rattle.co_schedule.specs.Known.{MarkCompare, AtRest, Marked, HeadLoade
 ghost use Rattle.co_schedule.specs.Standing.{Schedules, Looks, HeadIsLoaded, NextIsStored, Pushes, Misses, Takes, Follows, Opens, Enters};
 ghost use Rattle.co_schedule.specs.Parcels.{cause_in, given_in, IsOf, has_some};
 
-use co_state::Origin;
 use crate::parcel::Parcel;
-use crate::plays::{ClearMark, CompareHead, Inner, LoadHead, LoadNext, Mark, OpenMark, StoreNext, Take};
+use crate::plays::{
+    ClearMark, CompareHead, Inner, LoadHead, LoadNext, Mark, OpenMark, StoreNext, Take,
+};
 use crate::table::CoTable;
 use crate::words::{HEAD, mark_word, next_word};
+use co_state::Origin;
 
 impl<C: Origin + Drop> CoTable<C> {
     /// Marks the coroutine, where it has no mark, for what is to lie in its slot.
-    pub(crate) fn compare_mark(&self, inner: &mut Inner<C>, co: u32, own: u64, said: &Option<Parcel<C>>) -> u64
+    pub(crate) fn compare_mark(
+        &self,
+        inner: &mut Inner<C>,
+        co: u32,
+        own: u64,
+        said: &Option<Parcel<C>>,
+    ) -> u64
         requires table { inner.old.table_id ≡ self.now.table }
         requires numbers { (0 < inner.old.me.0.known.count) × (own ≡ inner.old.me.0.known.first + 1) }
         requires rest { inner.old.me.0.known.phase ≡ AtRest }

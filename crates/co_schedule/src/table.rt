@@ -1,9 +1,9 @@
 use crate::about::About;
-use co_state::Origin;
 use crate::parcel::Parcel;
 use crate::plays::CoRule;
 use crate::view::View;
 use atomic_table::Table;
+use co_state::Origin;
 use std::alloc::Global;
 use std::marker::Model;
 
