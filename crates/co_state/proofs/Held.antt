@@ -1,16 +1,15 @@
 -- The coroutines by number, seen as a map, after a slot is written, filled or emptied.
 use Rattle.std.proofs.Common.{◌≡◌, ◌≢◌, inl, inr, ℕ, zero, suc, ◌+◌, ◌<◌, Bool, true, false, cond, ◌||◌, nat_cmp, List, [], ◌∷◌, length, get_or, Option, Some, None, is_some, IsSome, refl, sym, ap, ◌∙◌, subst, arith, ne_eqb, eq-eqb, eqb}
-use Rattle.std.proofs.lemmas.Bool.{cases_eq, cases_Bool}
+use Rattle.std.proofs.lemmas.Bool.{cases_eq, cases_Bool, or_left, or_right}
 use Rattle.std.specs.Cmp.{nat_cmp_total, unsigned_tied}
 use Rattle.std.specs.FinMap.{nat_cmp-IsAntisymmetric}
 use Rattle.std.specs.FinMap as map
 use Rattle.slab.specs.Slab.{Slab}
 use Rattle.co_state.specs.Coroutines.{AllOf}
-use Rattle.co_state.specs.Lookup.{IsRising}
-use Rattle.co_state.specs.Kept.{coroutine_of, under, with_this, collected, key_for, held_in, AreKept}
-use Rattle.co_state.specs.declared.directory.Directory.{Directory}
+use Rattle.co_state.specs.Lookup.{Table, ids_in, key_in, is_among, AreOnce}
+use Rattle.co_state.specs.Kept.{coroutine_of, under, with_this, collected, key_for, ids_of, held_in, AreKept}
 use Rattle.co_state.specs.declared.store.Slot.{Slot}
-use Rattle.co_state.proofs.Lookups.{key_in-absent, key_in-at, apart_before}
+use Rattle.co_state.proofs.Tables.{no_key, key_of_one}
 
 -- maps of numbers
 module _ {C : Type 0} where
@@ -48,38 +47,6 @@ module _ {C : Type 0} where
       (λ d e. all q d e)
       (sym (get_removed held id q) ∙ found)
 
--- whether the number is one of these
-abbrev pub is_among : ℕ → List ℕ → Bool
-is_among q [] = false
-is_among q (id ∷ ids) = eqb q id || is_among q ids
-
-or_parts : (a b : Bool) → (a || b) ≡ false → (a ≡ false) × (b ≡ false)
-or_parts true b e = absurd (cc)
-or_parts false b e = (refl, e)
-
-not_among : (q : ℕ) (ids : List ℕ) → is_among q ids ≡ false → (i : ℕ) → i < length ids → get_or ids i 0 ≢ q
-not_among q [] none i within e = absurd (omega arith)
-not_among q (id ∷ ids) none zero within e =
-    let parts = or_parts (eqb q id) (is_among q ids) none in
-    let here : eqb q id ≡ true = eq-eqb q id (sym e) in
-    cc (parts.0, here)
-not_among q (id ∷ ids) none (suc i) within e =
-    let parts = or_parts (eqb q id) (is_among q ids) none in
-    not_among q ids parts.1 i (omega arith) e
-
-first_differs : (id : ℕ) (ids : List ℕ) → IsRising (id ∷ ids) → is_among id ids ≡ false
-first_differs id [] rise = refl
-first_differs id (x ∷ ids) rise =
-    let other : eqb id x ≡ false = ne_eqb id x (λ e. omega (arith, rise 0 1 (omega arith) (omega arith), e)) in
-    let rest = first_differs id ids (without_second id x ids rise) in
-    rw other rest
-  where
-    without_second : (id x : ℕ) (ids : List ℕ) → IsRising (id ∷ x ∷ ids) → IsRising (id ∷ ids)
-    without_second id x ids rise zero zero lt below = absurd (omega arith)
-    without_second id x ids rise zero (suc j) lt below = rise 0 (suc (suc j)) (omega arith) (omega arith)
-    without_second id x ids rise (suc i) zero lt below = absurd (omega arith)
-    without_second id x ids rise (suc i) (suc j) lt below = rise (suc (suc i)) (suc (suc j)) (omega arith) (omega arith)
-
 -- what was collected at each number is found there
 module _ {C : Type 0} where
   abbrev rather : Option C → Option C → Option C
@@ -116,16 +83,16 @@ module _ {C : Type 0} where
             ∙ ap (λ b. cond (b || is_among q ids) (at q) None) (sym here)
       ]
 
-  pub get-held : (d : Directory) (s : Slab (Slot C)) (q : ℕ) → map.get (held_in d s) q ≡ under s (key_for d q)
+  pub get-held : (d : Table) (s : Slab (Slot C)) (q : ℕ) → map.get (held_in d s) q ≡ under s (key_for d q)
   get-held d s q =
       let at = λ (id : ℕ). under s (key_for d id) in
-      map.get-from_entries nat_cmp_total (collected at d.ids.items) q
-      ∙ find-collected at d.ids.items q
-      ∙ elim (cases_Bool (is_among q d.ids.items)) [
+      map.get-from_entries nat_cmp_total (collected at (ids_of d)) q
+      ∙ find-collected at (ids_of d) q
+      ∙ elim (cases_Bool (is_among q (ids_of d))) [
         | inl among ↦ ap (λ b. cond b (at q) None) among
         | inr none ↦
             ap (λ b. cond b (at q) None) none
-            ∙ sym (ap (under s) (key_in-absent d.ids.items d.keys.items q (not_among q d.ids.items none)))
+            ∙ sym (ap (under s) (no_key d.places q none))
       ]
 
   -- as many as there are numbers
@@ -137,16 +104,17 @@ module _ {C : Type 0} where
       ∙ ap (λ o. cond (is_some o) (map.len before) (map.len before + 1)) none
       ∙ omega (arith, later)
 
-  len-collected : (at : ℕ → Option C) (ids : List ℕ) → IsRising ids → ((i : ℕ) → i < length ids → IsSome (at (get_or ids i 0))) → map.len (map.from_entries {R = nat_cmp} (collected at ids)) ≡ length ids
-  len-collected at [] rise some = map.len-empty nat_cmp C
-  len-collected at (id ∷ ids) rise some =
-      let later = len-collected at ids (λ i j lt below. rise (suc i) (suc j) (omega arith) (omega arith)) (λ i within. some (suc i) (omega arith)) in
-      let none = map.get-from_entries nat_cmp_total (collected at ids) id ∙ find-collected at ids id ∙ ap (λ b. cond b (at id) None) (first_differs id ids rise) in
-      one_more at id ids (at id) (some 0 (omega arith)) none later
+  len-collected : (at : ℕ → Option C) (ids : List ℕ) → AreOnce ids → ((q : ℕ) → is_among q ids ≡ true → IsSome (at q)) → map.len (map.from_entries {R = nat_cmp} (collected at ids)) ≡ length ids
+  len-collected at [] once some = map.len-empty nat_cmp C
+  len-collected at (id ∷ ids) once some =
+      let later = len-collected at ids once.1 (λ q among. some q (or_right (eqb q id) (is_among q ids) among)) in
+      let none = map.get-from_entries nat_cmp_total (collected at ids) id ∙ find-collected at ids id ∙ ap (λ b. cond b (at id) None) once.0 in
+      let mine : eqb id id ≡ true = eq-eqb id id refl in
+      one_more at id ids (at id) (some id (or_left (eqb id id) (is_among id ids) mine)) none later
 
-  pub len-held : (room : ℕ) (d : Directory) (s : Slab (Slot C)) → AreKept room d s → map.len (held_in d s) ≡ length d.ids.items
-  len-held room d s kept =
-      len-collected (λ id. under s (key_for d id)) d.ids.items d.rises (λ i within.
-      let at = key_in-at d.ids.items d.keys.items i (get_or d.ids.items i 0) within d.paired refl (apart_before d.ids.items i d.rises within) in
-      let there = kept.numbered (get_or d.ids.items i 0) (get_or d.keys.items i 0) at in
-      subst IsSome (sym (ap (under s) at ∙ ap coroutine_of there.1)) refl)
+  pub len-held : (room : ℕ) (d : Table) (s : Slab (Slot C)) → AreKept room d s → AreOnce (ids_of d) → map.len (held_in d s) ≡ length (ids_of d)
+  len-held room d s kept once =
+      len-collected (λ id. under s (key_for d id)) (ids_of d) once (λ q among.
+      let at = key_of_one d.places q among in
+      let there = kept.numbered q at.0 at.1 in
+      subst IsSome (sym (ap (under s) at.1 ∙ ap coroutine_of there.1)) refl)

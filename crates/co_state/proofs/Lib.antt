@@ -1,3 +1,3 @@
 pub mod Held
-pub mod Lookups
 pub mod Standing
+pub mod Tables

@@ -1,14 +1,13 @@
 -- What the calls on a store leave standing.
-use Rattle.std.proofs.Common.{◌≡◌, ◌≢◌, inl, inr, ℕ, ◌+◌, ◌<◌, ◌≤◌, Bool, true, false, cond, ◌||◌, nat_cmp, nat_le, List, [], ◌∷◌, length, get_or, count_by, Option, Some, None, is_some, IsSome, MatchOption, refl, sym, ap, ◌∙◌, subst, arith, ne_eqb, eq-eqb, eqb, leb, le-leb, leb-true, vec_capacity}
+use Rattle.std.proofs.Common.{◌≡◌, ◌≢◌, inl, inr, ℕ, ◌+◌, ◌<◌, ◌≤◌, Bool, true, false, cond, ◌||◌, nat_cmp, nat_le, List, [], ◌∷◌, length, get_or, count_by, Option, Some, None, is_some, IsSome, MatchOption, refl, sym, ap, ◌∙◌, subst, arith, ne_eqb, eq-eqb, eqb, leb, le-leb, leb-true}
 use Rattle.std.proofs.lemmas.Bool.{cases_eq, cases_Bool}
 use Rattle.std.proofs.lemmas.List.Sums.{sum_by-set}
 use Rattle.std.specs.FinMap as map
 use Rattle.slab.specs.Slab.{Slab, get, slab_len, Updates, with_value}
 use Rattle.slab.proofs.SlabLemmas.{Updates-with_value, ContainsKey-within}
 use Rattle.co_state.specs.Coroutines.{Coroutines}
-use Rattle.co_state.specs.Lookup.{key_in}
-use Rattle.co_state.specs.Kept.{coroutine_of, under, AreNumbered, collected, key_for, held_in, AreKept}
-use Rattle.co_state.specs.declared.directory.Directory.{Directory}
+use Rattle.co_state.specs.Lookup.{Table, ids_in, key_in, AreOnce}
+use Rattle.co_state.specs.Kept.{coroutine_of, under, AreNumbered, collected, key_for, ids_of, held_in, AreKept}
 use Rattle.co_state.specs.declared.store.Slot.{Slot}
 use Rattle.co_state.proofs.Held.{get_inserted, get_removed, same_held, remove-insert, get-held, len-held}
 
@@ -66,11 +65,11 @@ module _ {C : Type 0} where
   stays_under s s' slot key None updates apart = refl
   stays_under s s' slot key (Some k) updates apart = ap coroutine_of (updates.others k (λ e. apart (ap Some e)))
 
-  record Changed (d d' : Directory) (s s' : Slab (Slot C)) (id : ℕ) (now : Option C) : Type 0 where
+  record Changed (d d' : Table) (s s' : Slab (Slot C)) (id : ℕ) (now : Option C) : Type 0 where
     pub numbered : AreNumbered s' (key_for d')
     pub held : (q : ℕ) → map.get (held_in d' s') q ≡ cond (eqb q id) now (map.get (held_in d s) q)
 
-  changed : (d d' : Directory) (s s' : Slab (Slot C)) (slot : Option (Slot C)) (id key : ℕ) (now : Option C) → AreNumbered s (key_for d) → Updates s s' key slot → ((q : ℕ) → q ≢ id → key_for d q ≡ Some key → ⊥) → ((q : ℕ) → q ≢ id → key_for d' q ≡ key_for d q) → under s' (key_for d' id) ≡ now → ((k : ℕ) → key_for d' id ≡ Some k → (co : C) × (get s' k ≡ Some (record { id = id; co = co }))) → Changed d d' s s' id now
+  changed : (d d' : Table) (s s' : Slab (Slot C)) (slot : Option (Slot C)) (id key : ℕ) (now : Option C) → AreNumbered s (key_for d) → Updates s s' key slot → ((q : ℕ) → q ≢ id → key_for d q ≡ Some key → ⊥) → ((q : ℕ) → q ≢ id → key_for d' q ≡ key_for d q) → under s' (key_for d' id) ≡ now → ((k : ℕ) → key_for d' id ≡ Some k → (co : C) × (get s' k ≡ Some (record { id = id; co = co }))) → Changed d d' s s' id now
   changed d d' s s' slot id key now numbered updates alone same here own =
       record {
         numbered = λ q k found. elim (cases_eq q id) [
@@ -96,15 +95,15 @@ module _ {C : Type 0} where
       }
 
   -- with a coroutine more
-  pub record Holds (room : ℕ) (d : Directory) (s : Slab (Slot C)) (held : map.FinMap nat_cmp C) : Type 0 where
+  pub record Holds (room : ℕ) (d : Table) (s : Slab (Slot C)) (held : map.FinMap nat_cmp C) : Type 0 where
     pub kept : AreKept room d s
     pub is : held_in d s ≡ held
 
   no_key : (o : Option ℕ) (s : Slab (Slot C)) (F : ℕ → Option ℕ) (key : ℕ) → AreNumbered s F → get s key ≡ None → (q : ℕ) → F q ≡ Some key → ⊥
   no_key o s F key numbered vacant q found = let there = numbered q key found in absurd (cc (there.1, vacant))
 
-  pub put_in : (room : ℕ) (d d' : Directory) (s s' : Slab (Slot C)) (id key : ℕ) (co : C) → AreKept room d s → length d.ids.items < room → get s key ≡ None → Updates s s' key (Some (record { id = id; co = co })) → slab_len s' ≡ slab_len s + 1 → s'.capacity ≡ s.capacity → ((q : ℕ) → key_for d' q ≡ cond (eqb q id) (Some key) (key_for d q)) → length d'.ids.items ≡ length d.ids.items + 1 → vec_capacity d'.ids ≡ vec_capacity d.ids → vec_capacity d'.keys ≡ vec_capacity d.keys → Holds room d' s' (map.insert (held_in d s) id co)
-  put_in room d d' s s' id key co kept free vacant updates filled capacity keys more ids_room keys_room =
+  pub put_in : (room : ℕ) (d d' : Table) (s s' : Slab (Slot C)) (id key : ℕ) (co : C) → AreKept room d s → length (ids_of d) < room → get s key ≡ None → Updates s s' key (Some (record { id = id; co = co })) → slab_len s' ≡ slab_len s + 1 → s'.capacity ≡ s.capacity → ((q : ℕ) → key_for d' q ≡ cond (eqb q id) (Some key) (key_for d q)) → length (ids_of d') ≡ length (ids_of d) + 1 → d'.homes ≡ d.homes → length d'.places ≡ length d.places → Holds room d' s' (map.insert (held_in d s) id co)
+  put_in room d d' s s' id key co kept free vacant updates filled capacity keys more same_homes same_places =
       let mine : eqb id id ≡ true = eq-eqb id id refl in
       let own_key : key_for d' id ≡ Some key = keys id ∙ ap (λ b. cond b (Some key) (key_for d id)) mine in
       let all = changed d d' s s' (Some (record { id = id; co = co })) id key (Some co) kept.numbered updates
@@ -118,8 +117,7 @@ module _ {C : Type 0} where
           filled = omega (arith, kept.filled);
           fits = omega arith;
           slots = omega (arith, kept.slots);
-          ids = omega (arith, kept.ids);
-          keys = omega (arith, kept.keys);
+          places = omega (arith, kept.places, same_homes, same_places);
         };
         is = same_held _ _ (λ q. all.held q ∙ sym (get_inserted (held_in d s) id co q));
       }
@@ -135,7 +133,7 @@ module _ {C : Type 0} where
       let was : cond {A = ℕ} (is_some (get_or s.slots key None)) 1 0 ≡ 1 = ap (λ (o : Option (Slot C)). cond {A = ℕ} (is_some o) 1 0) there in
       omega (arith, sums, was)
 
-  pub write_in : (room : ℕ) (d : Directory) (s : Slab (Slot C)) (id key : ℕ) (slot : Slot C) (co : C) → AreKept room d s → key_for d id ≡ Some key → get s key ≡ Some slot → Holds room d (with_value s key (record { id = slot.id; co = co })) (map.insert (held_in d s) id co)
+  pub write_in : (room : ℕ) (d : Table) (s : Slab (Slot C)) (id key : ℕ) (slot : Slot C) (co : C) → AreKept room d s → key_for d id ≡ Some key → get s key ≡ Some slot → Holds room d (with_value s key (record { id = slot.id; co = co })) (map.insert (held_in d s) id co)
   write_in room d s id key slot co kept found there =
       let new : Slot C = record { id = slot.id; co = co } in
       let s' = with_value s key new in
@@ -153,14 +151,13 @@ module _ {C : Type 0} where
           filled = same_length s key slot new there ∙ kept.filled;
           fits = kept.fits;
           slots = kept.slots;
-          ids = kept.ids;
-          keys = kept.keys;
+          places = kept.places;
         };
         is = same_held _ _ (λ q. all.held q ∙ sym (get_inserted (held_in d s) id co q));
       }
 
-  pub take_out : (room : ℕ) (d d' : Directory) (s s' : Slab (Slot C)) (id key : ℕ) → AreKept room d s → key_for d id ≡ Some key → Updates s s' key None → slab_len s' + 1 ≡ slab_len s → s'.capacity ≡ s.capacity → ((q : ℕ) → key_for d' q ≡ cond (eqb q id) None (key_for d q)) → length d'.ids.items + 1 ≡ length d.ids.items → vec_capacity d'.ids ≡ vec_capacity d.ids → vec_capacity d'.keys ≡ vec_capacity d.keys → Holds room d' s' (map.remove (held_in d s) id)
-  take_out room d d' s s' id key kept found updates filled capacity keys fewer ids_room keys_room =
+  pub take_out : (room : ℕ) (d d' : Table) (s s' : Slab (Slot C)) (id key : ℕ) → AreKept room d s → key_for d id ≡ Some key → Updates s s' key None → slab_len s' + 1 ≡ slab_len s → s'.capacity ≡ s.capacity → ((q : ℕ) → key_for d' q ≡ cond (eqb q id) None (key_for d q)) → length (ids_of d') + 1 ≡ length (ids_of d) → d'.homes ≡ d.homes → length d'.places ≡ length d.places → Holds room d' s' (map.remove (held_in d s) id)
+  take_out room d d' s s' id key kept found updates filled capacity keys fewer same_homes same_places =
       let mine : eqb id id ≡ true = eq-eqb id id refl in
       let none : key_for d' id ≡ None = keys id ∙ ap (λ b. cond b None (key_for d id)) mine in
       let named = kept.numbered id key found in
@@ -175,17 +172,16 @@ module _ {C : Type 0} where
           filled = omega (arith, kept.filled);
           fits = omega (arith, kept.fits);
           slots = omega (arith, kept.slots);
-          ids = omega (arith, kept.ids);
-          keys = omega (arith, kept.keys);
+          places = omega (arith, kept.places, same_homes, same_places);
         };
         is = same_held _ _ (λ q. all.held q ∙ sym (get_removed (held_in d s) id q));
       }
 
-  pub write_and_take : (room : ℕ) (d d' : Directory) (s s' : Slab (Slot C)) (id n key : ℕ) (slot : Slot C) (co : C) → AreKept room d s → key_for d id ≡ Some key → get s key ≡ Some slot → n ≡ id → Updates (with_value s key (record { id = slot.id; co = co })) s' key None → slab_len s' + 1 ≡ slab_len (with_value s key (record { id = slot.id; co = co })) → s'.capacity ≡ s.capacity → ((q : ℕ) → key_for d' q ≡ cond (eqb q n) None (key_for d q)) → length d'.ids.items + 1 ≡ length d.ids.items → vec_capacity d'.ids ≡ vec_capacity d.ids → vec_capacity d'.keys ≡ vec_capacity d.keys → Holds room d' s' (map.remove (held_in d s) id)
-  write_and_take room d d' s s' id n key slot co kept found there named updates filled capacity keys fewer ids_room keys_room =
+  pub write_and_take : (room : ℕ) (d d' : Table) (s s' : Slab (Slot C)) (id n key : ℕ) (slot : Slot C) (co : C) → AreKept room d s → key_for d id ≡ Some key → get s key ≡ Some slot → n ≡ id → Updates (with_value s key (record { id = slot.id; co = co })) s' key None → slab_len s' + 1 ≡ slab_len (with_value s key (record { id = slot.id; co = co })) → s'.capacity ≡ s.capacity → ((q : ℕ) → key_for d' q ≡ cond (eqb q n) None (key_for d q)) → length (ids_of d') + 1 ≡ length (ids_of d) → d'.homes ≡ d.homes → length d'.places ≡ length d.places → Holds room d' s' (map.remove (held_in d s) id)
+  write_and_take room d d' s s' id n key slot co kept found there named updates filled capacity keys fewer same_homes same_places =
       let written = write_in room d s id key slot co kept found there in
       let keys_of = subst (λ (n : ℕ). (q : ℕ) → key_for d' q ≡ cond (eqb q n) None (key_for d q)) named keys in
-      let out = take_out room d d' (with_value s key (record { id = slot.id; co = co })) s' id key written.kept found updates filled capacity keys_of fewer ids_room keys_room in
+      let out = take_out room d d' (with_value s key (record { id = slot.id; co = co })) s' id key written.kept found updates filled capacity keys_of fewer same_homes same_places in
       record { kept = out.kept; is = out.is ∙ ap (λ m. map.remove m id) written.is ∙ remove-insert (held_in d s) id co }
 
   abbrev co_or : C → Option (Slot C) → C
@@ -197,43 +193,38 @@ module _ {C : Type 0} where
       let written = Updates-with_value s key new (subst IsSome (sym there) refl) in
       ap (co_or new.co) (sym is ∙ written.changed)
 
-  pub held_absent : (d : Directory) (s : Slab (Slot C)) (id : ℕ) → key_for d id ≡ None → map.get (held_in d s) id ≡ None
+  pub held_absent : (d : Table) (s : Slab (Slot C)) (id : ℕ) → key_for d id ≡ None → map.get (held_in d s) id ≡ None
   held_absent d s id none = get-held d s id ∙ ap (under s) none
 
-  pub held_present : (d : Directory) (s : Slab (Slot C)) (id key : ℕ) (slot : Slot C) → key_for d id ≡ Some key → get s key ≡ Some slot → map.get (held_in d s) id ≡ Some slot.co
+  pub held_present : (d : Table) (s : Slab (Slot C)) (id key : ℕ) (slot : Slot C) → key_for d id ≡ Some key → get s key ≡ Some slot → map.get (held_in d s) id ≡ Some slot.co
   held_present d s id key slot found there = get-held d s id ∙ ap (under s) found ∙ ap coroutine_of there
 
-  present_by : (d : Directory) (s : Slab (Slot C)) (id : ℕ) (o : Option ℕ) → AreNumbered s (key_for d) → key_for d id ≡ o → IsSome o → is_some (under s o) ≡ true
+  present_by : (d : Table) (s : Slab (Slot C)) (id : ℕ) (o : Option ℕ) → AreNumbered s (key_for d) → key_for d id ≡ o → IsSome o → is_some (under s o) ≡ true
   present_by d s id None numbered e some = absurd (cc)
   present_by d s id (Some key) numbered e some = let there = numbered id key e in ap (λ o. is_some (coroutine_of o)) there.1
 
   -- when a put is refused
-  pub refused_present : (room : ℕ) (d : Directory) (s : Slab (Slot C)) (id : ℕ) → AreKept room d s → IsSome (key_for d id) → true ≡ (map.contains_key (held_in d s) id || nat_le room (map.len (held_in d s)))
+  pub refused_present : (room : ℕ) (d : Table) (s : Slab (Slot C)) (id : ℕ) → AreKept room d s → IsSome (key_for d id) → true ≡ (map.contains_key (held_in d s) id || nat_le room (map.len (held_in d s)))
   refused_present room d s id kept some =
       first_true _ _ (ap is_some (get-held d s id) ∙ present_by d s id (key_for d id) kept.numbered refl some)
 
-  pub refused_full : (room : ℕ) (d : Directory) (s : Slab (Slot C)) (id : ℕ) → AreKept room d s → room ≤ length d.ids.items → true ≡ (map.contains_key (held_in d s) id || nat_le room (map.len (held_in d s)))
-  refused_full room d s id kept full =
-      either_true _ _ (ap (nat_le room) (len-held room d s kept) ∙ le-leb room (length d.ids.items) full)
+  pub refused_full : (room : ℕ) (d : Table) (s : Slab (Slot C)) (id : ℕ) → AreKept room d s → AreOnce (ids_of d) → room ≤ length (ids_of d) → true ≡ (map.contains_key (held_in d s) id || nat_le room (map.len (held_in d s)))
+  refused_full room d s id kept once full =
+      either_true _ _ (ap (nat_le room) (len-held room d s kept once) ∙ le-leb room (length (ids_of d)) full)
 
-  pub not_refused : (room : ℕ) (d : Directory) (s : Slab (Slot C)) (id : ℕ) → AreKept room d s → key_for d id ≡ None → length d.ids.items < room → false ≡ (map.contains_key (held_in d s) id || nat_le room (map.len (held_in d s)))
-  not_refused room d s id kept none free =
-      neither _ _ (ap is_some (held_absent d s id none)) (ap (nat_le room) (len-held room d s kept) ∙ leb_false room (length d.ids.items) free)
+  pub not_refused : (room : ℕ) (d : Table) (s : Slab (Slot C)) (id : ℕ) → AreKept room d s → AreOnce (ids_of d) → key_for d id ≡ None → length (ids_of d) < room → false ≡ (map.contains_key (held_in d s) id || nat_le room (map.len (held_in d s)))
+  not_refused room d s id kept once none free =
+      neither _ _ (ap is_some (held_absent d s id none)) (ap (nat_le room) (len-held room d s kept once) ∙ leb_false room (length (ids_of d)) free)
 
-  pub starts : (room : ℕ) (d : Directory) (s : Slab (Slot C)) → d.ids.items ≡ [] → s.slots ≡ [] → room ≤ s.capacity → room ≤ vec_capacity d.ids → room ≤ vec_capacity d.keys → Holds room d s map.empty
-  starts room d s none empty slots ids keys =
+  pub starts : (room : ℕ) (d : Table) (s : Slab (Slot C)) → ((q : ℕ) → key_for d q ≡ None) → ids_of d ≡ [] → s.slots ≡ [] → room ≤ s.capacity → room + d.homes ≤ length d.places → Holds room d s map.empty
+  starts room d s keyless none empty slots places =
       record {
         kept = record {
-          numbered = λ id key found. absurd (no_keys d.ids.items d.keys.items id key none found);
+          numbered = λ id key found. absurd (cc (sym (keyless id) ∙ found));
           filled = ap (count_by is_some) empty ∙ sym (ap (λ (xs : List ℕ). length xs) none);
           fits = omega (arith, ap (λ (xs : List ℕ). length xs) none);
           slots = slots;
-          ids = ids;
-          keys = keys;
+          places = places;
         };
         is = ap (λ (xs : List ℕ). map.from_entries {R = nat_cmp} (collected (λ id. under s (key_for d id)) xs)) none;
       }
-    where
-      no_keys : (ids keys : List ℕ) (id key : ℕ) → ids ≡ [] → key_in ids keys id ≡ Some key → ⊥
-      no_keys [] keys id key e found = absurd (cc)
-      no_keys (x ∷ ids) keys id key e found = absurd (cc)

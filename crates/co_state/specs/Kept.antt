@@ -1,10 +1,9 @@
 -- How the fields of a store keep it.
-use Rattle.std.specs.Prelude.{◌≡◌, ℕ, ◌≤◌, List, [], ◌∷◌, length, Option, Some, None, vec_capacity}
+use Rattle.std.specs.Prelude.{◌≡◌, ℕ, ◌+◌, ◌≤◌, List, [], ◌∷◌, length, Option, Some, None}
 use Rattle.std.specs.Ordering.{nat_cmp}
 use Rattle.std.specs.FinMap as map
 use Rattle.slab.specs.Slab.{Slab, get, slab_len}
-use Rattle.co_state.specs.Lookup.{key_in}
-use Rattle.co_state.specs.declared.directory.Directory.{Directory}
+use Rattle.co_state.specs.Lookup.{Table, ids_in, key_in}
 use Rattle.co_state.specs.declared.store.Slot.{Slot}
 
 module _ {C : Type 0} where
@@ -30,17 +29,19 @@ module _ {C : Type 0} where
   abbrev pub AreNumbered : Slab (Slot C) → (ℕ → Option ℕ) → Type 0
   AreNumbered slab key_of = (id key : ℕ) → key_of id ≡ Some key → (co : C) × (get slab key ≡ Some (record { id = id; co = co }))
 
-abbrev pub key_for : Directory → ℕ → Option ℕ
-key_for directory = key_in directory.ids.items directory.keys.items
+abbrev pub key_for : Table → ℕ → Option ℕ
+key_for directory = key_in directory.places
+
+abbrev pub ids_of : Table → List ℕ
+ids_of directory = ids_in directory.places
 
 -- the coroutines by number
-abbrev pub held_in : {C : Type 0} → Directory → Slab (Slot C) → map.FinMap nat_cmp C
-held_in directory slab = map.from_entries (collected (λ id. under slab (key_for directory id)) directory.ids.items)
+abbrev pub held_in : {C : Type 0} → Table → Slab (Slot C) → map.FinMap nat_cmp C
+held_in directory slab = map.from_entries (collected (λ id. under slab (key_for directory id)) (ids_of directory))
 
-pub record AreKept {C : Type 0} (room : ℕ) (directory : Directory) (slab : Slab (Slot C)) : Type 0 where
+pub record AreKept {C : Type 0} (room : ℕ) (directory : Table) (slab : Slab (Slot C)) : Type 0 where
   pub numbered : AreNumbered slab (key_for directory)
-  pub filled : slab_len slab ≡ length directory.ids.items
-  pub fits : length directory.ids.items ≤ room
+  pub filled : slab_len slab ≡ length (ids_of directory)
+  pub fits : length (ids_of directory) ≤ room
   pub slots : room ≤ slab.capacity
-  pub ids : room ≤ vec_capacity directory.ids
-  pub keys : room ≤ vec_capacity directory.keys
+  pub places : room + directory.homes ≤ length directory.places

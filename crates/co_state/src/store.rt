@@ -63,7 +63,7 @@ impl<C: Origin> CoStore<C> {
         ghost origin: { C.Source }
         ensures { IfOk result (λ store. store ≡ record { room = room; held = map.empty; origin = origin }) }
     {
-        let Ok(directory) = Directory::build(alloc, room as usize) else {
+        let Ok(directory) = Directory::build(alloc, room) else {
             return Err(NoMemory);
         };
         let Ok(slots) = Slab::with_capacity(alloc, room as usize) else {

@@ -5,5 +5,5 @@ use Rattle.co_state.proofs.store.CoStore.build.Goals as goal
 
 pub invariant_of-result : goal.invariant_of-result
 invariant_of-result g c =
-    let e = starts c.args.room c.in-Ok.directory c.in-Ok-with_capacity.slots c.in-Ok.ensures.empty c.in-Ok-with_capacity.ensures.empty c.in-Ok-with_capacity.ensures.capacity c.in-Ok.ensures.ids_room c.in-Ok.ensures.keys_room in
+    let e = starts c.args.room c.in-Ok.directory c.in-Ok-with_capacity.slots c.in-Ok.ensures.empty c.in-Ok.ensures.none c.in-Ok-with_capacity.ensures.empty c.in-Ok-with_capacity.ensures.capacity c.in-Ok.ensures.room in
     (e.kept, λ id co found. absurd (cc (ap (λ m. map.get m id) e.is, map.get-empty nat_cmp id, found)))

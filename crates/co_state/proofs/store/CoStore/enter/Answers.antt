@@ -47,7 +47,7 @@ invariant_of-self g c =
     let inside = c.self.inside in
     let found : key_for inside.directory c.args.id ≡ Some c.key_at-key.result = ap (key_for inside.directory) (sym c.in-Ok.ensures.place.is) ∙ c.key_at-key.ensures in
     let there = sym c.in-Some.ensures.value in
-    let after = write_and_take inside.room inside.directory c.remove.new.self inside.slots c.remove-in-Done.new.self c.args.id _ c.key_at-key.result c.in-Some.slot.now c.resume.new.self c.self.invariant.0 found there c.in-Ok.ensures.place.is c.remove-in-Done.ensures.updates c.remove-in-Done.ensures.len c.remove-in-Done.ensures.capacity c.remove.ensures.keys c.remove.ensures.len c.remove.ensures.ids_room c.remove.ensures.keys_room in
+    let after = write_and_take inside.room inside.directory c.remove.new.self inside.slots c.remove-in-Done.new.self c.args.id _ c.key_at-key.result c.in-Some.slot.now c.resume.new.self c.self.invariant.0 found there c.in-Ok.ensures.place.is c.remove-in-Done.ensures.updates c.remove-in-Done.ensures.len c.remove-in-Done.ensures.capacity c.remove.ensures.keys c.remove.ensures.len c.remove.ensures.homes c.remove.ensures.sized in
     (after.kept, subst (λ m. AllOf g.C.Origin.is_of m inside.origin.value) (sym after.is) (all_of-remove g.C.Origin.is_of _ _ c.args.id c.self.invariant.1))
 
 pub invariant_of-self-in-Move : goal.invariant_of-self-in-Move
@@ -55,7 +55,7 @@ invariant_of-self-in-Move g c =
     let inside = c.self.inside in
     let found : key_for inside.directory c.args.id ≡ Some c.key_at-key.result = ap (key_for inside.directory) (sym c.in-Ok.ensures.place.is) ∙ c.key_at-key.ensures in
     let there = sym c.in-Some.ensures.value in
-    let after = write_and_take inside.room inside.directory c.remove-in-Move.new.self inside.slots c.remove-in-Move-2.new.self c.args.id _ c.key_at-key.result c.in-Some.slot.now c.resume.new.self c.self.invariant.0 found there c.in-Ok.ensures.place.is c.remove-in-Move-2.ensures.updates c.remove-in-Move-2.ensures.len c.remove-in-Move-2.ensures.capacity c.remove-in-Move.ensures.keys c.remove-in-Move.ensures.len c.remove-in-Move.ensures.ids_room c.remove-in-Move.ensures.keys_room in
+    let after = write_and_take inside.room inside.directory c.remove-in-Move.new.self inside.slots c.remove-in-Move-2.new.self c.args.id _ c.key_at-key.result c.in-Some.slot.now c.resume.new.self c.self.invariant.0 found there c.in-Ok.ensures.place.is c.remove-in-Move-2.ensures.updates c.remove-in-Move-2.ensures.len c.remove-in-Move-2.ensures.capacity c.remove-in-Move.ensures.keys c.remove-in-Move.ensures.len c.remove-in-Move.ensures.homes c.remove-in-Move.ensures.sized in
     (after.kept, subst (λ m. AllOf g.C.Origin.is_of m inside.origin.value) (sym after.is) (all_of-remove g.C.Origin.is_of _ _ c.args.id c.self.invariant.1))
 
 pub returns-in-Yield : goal.returns-in-Yield
@@ -95,7 +95,7 @@ returns-in-Done g c =
     let inside = c.self.inside in
     let found : key_for inside.directory c.args.id ≡ Some c.key_at-key.result = ap (key_for inside.directory) (sym c.in-Ok.ensures.place.is) ∙ c.key_at-key.ensures in
     let there = sym c.in-Some.ensures.value in
-    let after = write_and_take inside.room inside.directory c.remove.new.self inside.slots c.remove-in-Done.new.self c.args.id _ c.key_at-key.result c.in-Some.slot.now c.resume.new.self c.self.invariant.0 found there c.in-Ok.ensures.place.is c.remove-in-Done.ensures.updates c.remove-in-Done.ensures.len c.remove-in-Done.ensures.capacity c.remove.ensures.keys c.remove.ensures.len c.remove.ensures.ids_room c.remove.ensures.keys_room in
+    let after = write_and_take inside.room inside.directory c.remove.new.self inside.slots c.remove-in-Done.new.self c.args.id _ c.key_at-key.result c.in-Some.slot.now c.resume.new.self c.self.invariant.0 found there c.in-Ok.ensures.place.is c.remove-in-Done.ensures.updates c.remove-in-Done.ensures.len c.remove-in-Done.ensures.capacity c.remove.ensures.keys c.remove.ensures.len c.remove.ensures.homes c.remove.ensures.sized in
     let is = ap (λ s. map.get s.held c.args.id) (sym c.self.view_is) ∙ held_present inside.directory inside.slots c.args.id c.key_at-key.result c.in-Some.slot.now found there in
     at_some _ _ _ c.in-Some.slot.now.co is (record {
       step = step.Done;
@@ -111,7 +111,7 @@ returns-in-Move g c =
     let inside = c.self.inside in
     let found : key_for inside.directory c.args.id ≡ Some c.key_at-key.result = ap (key_for inside.directory) (sym c.in-Ok.ensures.place.is) ∙ c.key_at-key.ensures in
     let there = sym c.in-Some.ensures.value in
-    let after = write_and_take inside.room inside.directory c.remove-in-Move.new.self inside.slots c.remove-in-Move-2.new.self c.args.id _ c.key_at-key.result c.in-Some.slot.now c.resume.new.self c.self.invariant.0 found there c.in-Ok.ensures.place.is c.remove-in-Move-2.ensures.updates c.remove-in-Move-2.ensures.len c.remove-in-Move-2.ensures.capacity c.remove-in-Move.ensures.keys c.remove-in-Move.ensures.len c.remove-in-Move.ensures.ids_room c.remove-in-Move.ensures.keys_room in
+    let after = write_and_take inside.room inside.directory c.remove-in-Move.new.self inside.slots c.remove-in-Move-2.new.self c.args.id _ c.key_at-key.result c.in-Some.slot.now c.resume.new.self c.self.invariant.0 found there c.in-Ok.ensures.place.is c.remove-in-Move-2.ensures.updates c.remove-in-Move-2.ensures.len c.remove-in-Move-2.ensures.capacity c.remove-in-Move.ensures.keys c.remove-in-Move.ensures.len c.remove-in-Move.ensures.homes c.remove-in-Move.ensures.sized in
     let is = ap (λ s. map.get s.held c.args.id) (sym c.self.view_is) ∙ held_present inside.directory inside.slots c.args.id c.key_at-key.result c.in-Some.slot.now found there in
     at_some _ _ _ c.in-Some.slot.now.co is (record {
       step = step.Move c.in-Move.home;
