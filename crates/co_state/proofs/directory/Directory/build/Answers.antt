@@ -9,6 +9,7 @@ pub returns-clause-empty : goal.returns-clause-empty
 returns-clause-empty c = none_found c.loop.entries.items c.loop.invariant.1
 
 pub invariant_of-result : goal.invariant_of-result
-invariant_of-result c =
-    (table_begins c.saturating_add-homes.result c.loop.entries.items (omega (arith, c.saturating_add-homes.ensures)) (omega (arith, c.loop.invariant.0)) c.loop.invariant.1,
-    sym (ap (λ (xs : List ℕ). length xs) (none_keyed c.loop.entries.items c.loop.invariant.1)))
+invariant_of-result c = (
+  table_begins c.saturating_add-homes.result c.loop.entries.items (omega (arith, c.saturating_add-homes.ensures)) (omega (arith, c.loop.invariant.0)) c.loop.invariant.1,
+  sym (ap (λ (xs : List ℕ). length xs) (none_keyed c.loop.entries.items c.loop.invariant.1)),
+)
