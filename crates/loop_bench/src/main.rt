@@ -4,6 +4,7 @@
 
 mod calls;
 mod nested;
+mod parked;
 mod part;
 mod placings;
 mod plain;
@@ -36,6 +37,9 @@ fn main(rt: HostRuntime) -> io::Result<()> {
         Some(Part::Commits) => sleeps::over_an_empty_list(&rt, alloc),
         Some(Part::IdleCommits) => sleeps::over_idle_ones(&rt, alloc),
         Some(Part::Accepts) => sleeps::accepts(&rt, alloc),
+        Some(Part::HomesInTurn) => parked::wake_each_other(&rt, alloc),
+        Some(Part::CondvarInTurn) => parked::wake_by_condvar(&rt),
+        Some(Part::Rings) => parked::ring_at_random(&rt, alloc),
         None => println!(rt; "no such part"),
     }
 }

@@ -18,6 +18,11 @@ pub enum Part {
     /// A home with idle handles in its list commits.
     IdleCommits,
     Accepts,
+    /// Two parked homes wake each other.
+    HomesInTurn,
+    CondvarInTurn,
+    /// Four threads notify a home that parks.
+    Rings,
 }
 
 impl Part {
@@ -35,6 +40,9 @@ impl Part {
             "commits" => Some(Part::Commits),
             "idle-commits" => Some(Part::IdleCommits),
             "accepts" => Some(Part::Accepts),
+            "homes" => Some(Part::HomesInTurn),
+            "condvar" => Some(Part::CondvarInTurn),
+            "rings" => Some(Part::Rings),
             _ => None,
         }
     }
