@@ -1,15 +1,14 @@
 -- The load of the head, and its store as what follows the coroutine, keep the rule.
-use Rattle.std.proofs.Common.{◌≡◌, ◌≢◌, ℕ, ◌<◌, Bool, true, false, List, [], ◌∷◌, ◌++◌, set, slice_index, reverse, refl, sym, ap, ◌∙◌, subst, arith}
+use Rattle.std.proofs.Common.{◌≡◌, ◌≢◌, ℕ, ◌<◌, Bool, false, List, ◌∷◌, ◌++◌, set, slice_index, reverse, refl, sym, ap, ◌∙◌, subst, arith}
 use mathlib.Core.Option.{some, none}
 use lib.ListN.{get_elem?, length-set}
 use Rattle.atomic_table.specs.Table.{Me, keeps, step, Allows}
 use Rattle.aio_chain.specs.Chains.{IsChain}
 use Rattle.aio_chain.proofs.Chains.{Each, each_of, each-front, each-back, chain_kept}
-use Rattle.table_seats.specs.Seats.{owns, home}
 use Rattle.table_seats.proofs.Seats.{each_set, seats_keep}
-use Rattle.aio_model.specs.CoroutineHistory.{History, seat_of, place_of, queue_of}
+use Rattle.aio_model.specs.CoroutineHistory.{History, seat_of}
 use Rattle.co_schedule.specs.Words.{head_at, mark_at, next_at, next_in}
-use Rattle.co_schedule.specs.Known.{HeadLoad, NextStore, Phase, AtRest, Marked, HeadLoaded, Linked, Known, part_of, numbers_of}
+use Rattle.co_schedule.specs.Known.{HeadLoad, NextStore, Phase, AtRest, Marked, HeadLoaded, Linked, Known, part_of}
 use Rattle.co_schedule.specs.Rule.{IsOwed, Owes, Knows, Stands}
 use Rattle.co_schedule.specs.Slots.{Kept}
 use Rattle.co_schedule.specs.Standing.{done, HeadIsLoaded, NextIsStored}

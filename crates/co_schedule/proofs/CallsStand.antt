@@ -1,13 +1,13 @@
 -- From the steps of a call to what the call says.
-use Rattle.std.proofs.Common.{◌≡◌, ℕ, ◌+◌, ◌<◌, ◌≤◌, Bool, true, false, ltb, Option, None, Some, List, [], ◌∷◌, ◌++◌, drop, refl, sym, ap, ◌∙◌, subst, arith}
+use Rattle.std.proofs.Common.{◌≡◌, ℕ, ◌<◌, Bool, true, None, Some, List, [], ◌∷◌, ◌++◌, refl, sym, ap, ◌∙◌, subst}
 use Rattle.std.proofs.lemmas.Bool.{and_parts, and_from, lt-ltb, ltb-true}
 use Rattle.aio_model.specs.declared.causes.Cause.{Cause}
-use Rattle.aio_model.specs.CoroutineHistory.{Entry, Schedule, Push, Enter, History, seat_of, queue_of, IsLegal}
+use Rattle.aio_model.specs.CoroutineHistory.{Schedule, Push, Enter, History, seat_of, queue_of, IsLegal}
 use Rattle.aio_chain.proofs.Chains.{Each}
 use Rattle.table_seats.specs.Calls.{newest_of}
 use Rattle.table_seats.proofs.Standing.{HasGrown, grown_by_none, grown_by_others, grown_by_one, stands_of}
 use Rattle.co_schedule.specs.Known.{Done, Phase, AtRest, Stage, Known, part_of}
-use Rattle.co_schedule.specs.Standing.{tried, Schedules, Follows, Walked, Missed, PushesOnce, PushesAtLast, SchedulesAtLast, Takes, TakesAll, Begins}
+use Rattle.co_schedule.specs.Standing.{tried, Follows, Walked, Missed, SchedulesAtLast, TakesAll, Begins}
 use Rattle.co_schedule.specs.Calls.{are_within, HasScheduled, HasTaken, HasBegun}
 use Rattle.co_schedule.proofs.Histories.{queue_below}
 

@@ -1,5 +1,5 @@
 -- What keeps the parts of the rule: on views, on words, on slots.
-use Rattle.std.proofs.Common.{◌≡◌, ◌≢◌, ℕ, ◌+◌, ◌<◌, Bool, true, false, eqb, Option, Some, None, List, [], ◌∷◌, ◌++◌, MatchBool, set, slice_index, reverse, refl, sym, ap, ◌∙◌, subst, ⊎_elim, arith}
+use Rattle.std.proofs.Common.{◌≡◌, ◌≢◌, ℕ, ◌<◌, Bool, true, false, List, [], ◌∷◌, ◌++◌, MatchBool, set, slice_index, reverse, refl, sym, ap, ◌∙◌, subst, ⊎_elim, arith}
 use Rattle.std.proofs.lemmas.List.{set-get_or, reverse-append}
 use Rattle.std.proofs.lemmas.Bool.{cases_eq}
 use mathlib.Core.Option.{some}
@@ -8,7 +8,7 @@ use Rattle.aio_chain.proofs.Chains.{Each, each-front, each-back, chain_kept}
 use Rattle.table_seats.specs.Seats.{owns, home, EachView}
 use Rattle.table_seats.proofs.Seats.{each_set, IsSame, seats_keep}
 use Rattle.table_seats.proofs.Entries.{owns_first}
-use Rattle.aio_model.specs.CoroutineHistory.{History, seat_of, Place, Free, Scheduled, Pushed, place_of, queue_of}
+use Rattle.aio_model.specs.CoroutineHistory.{History, seat_of, Free, Scheduled, Pushed, place_of}
 use Rattle.co_schedule.specs.Words.{next_in}
 use Rattle.co_schedule.specs.Known.{Phase, AtRest, Marked, HeadLoaded, Linked, is_at_rest, Stage, Known, part_of, numbers_of}
 use Rattle.co_schedule.specs.Rule.{IsOwed, Owes, Walks, Knows, Stands}

@@ -1,13 +1,12 @@
 -- The load after a join keeps the rule, and tells that what each of the two had seen is a part of the one history.
-use Rattle.std.proofs.Common.{◌≡◌, ℕ, ◌<◌, Bool, Some, List, [], ◌∷◌, ◌++◌, set, slice_index, refl, sym, ap, ◌∙◌, subst}
-use mathlib.Core.Option.{some, none}
-use lib.ListN.{get_elem?}
-use Rattle.atomic_table.specs.Table.{Me, Step, keeps, step, Allows}
+use Rattle.std.proofs.Common.{◌≡◌, ℕ, ◌<◌, Bool, set, slice_index, refl, sym, subst}
+use mathlib.Core.Option.{none}
+use Rattle.atomic_table.specs.Table.{Me, keeps, step, Allows}
 use Rattle.atomic_table.proofs.Lists.{set_again}
-use Rattle.table_seats.specs.Seats.{Told, longer_of, AreParts}
+use Rattle.table_seats.specs.Seats.{longer_of, AreParts}
 use Rattle.table_seats.specs.Calls.{IsJoined}
 use Rattle.table_seats.proofs.Joining.{joined_of}
-use Rattle.aio_model.specs.CoroutineHistory.{Entry, seat_of, IsLegal}
+use Rattle.aio_model.specs.CoroutineHistory.{seat_of, IsLegal}
 use Rattle.co_schedule.specs.Words.{head_at}
 use Rattle.co_schedule.specs.Known.{Known}
 use Rattle.co_schedule.specs.Plays.{learned}

@@ -1,8 +1,7 @@
 -- Who owns all numbers has seen all, so what a mark's load finds is where the coroutine stands in what was seen.
-use Rattle.std.proofs.Common.{◌≡◌, ℕ, ◌<◌, Bool, List, ◌∷◌, slice_index, refl, sym, ap, ◌∙◌, subst, arith}
-use mathlib.Core.Option.{some, none}
-use lib.ListN.{get_elem?}
-use Rattle.atomic_table.specs.Table.{Me, Step, keeps, step, Allows}
+use Rattle.std.proofs.Common.{◌≡◌, ℕ, ◌<◌, Bool, ◌∷◌, slice_index, refl, sym, ap, ◌∙◌, subst, arith}
+use mathlib.Core.Option.{none}
+use Rattle.atomic_table.specs.Table.{Me, keeps, step, Allows}
 use Rattle.table_seats.specs.Seats.{everyone}
 use Rattle.table_seats.proofs.Seats.{all_seen}
 use Rattle.aio_model.specs.CoroutineHistory.{seat_of, place_of}

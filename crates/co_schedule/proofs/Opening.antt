@@ -1,5 +1,5 @@
 -- A new table meets the rule, over a history with no entry.
-use Rattle.std.proofs.Common.{◌≡◌, ◌≢◌, Bool, false, ℕ, zero, suc, ◌+◌, ◌<◌, ◌≤◌, Option, None, Some, List, [], ◌∷◌, length, map, replicate, slice_index, refl, sym, subst, arith}
+use Rattle.std.proofs.Common.{◌≡◌, Bool, false, ℕ, zero, suc, ◌<◌, Option, None, Some, List, [], ◌∷◌, length, map, replicate, slice_index, refl, sym, subst, arith}
 use mathlib.Core.Option.{some, some-injective, some-ne-none}
 use lib.ListN.{get_elem?}
 use Rattle.atomic_table.specs.Table.{opening}
@@ -7,9 +7,9 @@ use Rattle.table_seats.specs.Seats.{EachView, AreApart}
 use Rattle.aio_model.specs.CoroutineHistory.{seat_of}
 use Rattle.co_schedule.specs.Words.{head_at, mark_at, word_count}
 use Rattle.co_schedule.specs.Known.{Known, part_of, first_known}
-use Rattle.co_schedule.specs.Rule.{Knows, Stands}
+use Rattle.co_schedule.specs.Rule.{Stands}
 use Rattle.co_schedule.specs.Slots.{Kept}
-use Rattle.co_schedule.specs.Held.{Held, IsOfTable, AllOf}
+use Rattle.co_schedule.specs.Held.{AllOf}
 
 each_alone : {V : Type 0} (P : V → Type 0) (v : V) → P v → EachView P (v ∷ [])
 each_alone P v h zero u e = subst P (some-injective v u e) h

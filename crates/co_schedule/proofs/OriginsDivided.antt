@@ -1,10 +1,10 @@
 -- A split and a join that keep the rule on what seats know keep it with the origin beside.
-use Rattle.std.proofs.Common.{◌≡◌, ◌≢◌, ℕ, zero, suc, ◌<◌, Option, Some, None, List, [], ◌∷◌, ◌++◌, map, set, refl, sym, ap, ◌∙◌, subst, arith}
+use Rattle.std.proofs.Common.{◌≡◌, ℕ, ◌<◌, Some, None, [], ◌∷◌, ◌++◌, map, set, sym, ap, ◌∙◌, subst, arith}
 use Rattle.std.proofs.lemmas.List.{map-append, map-set}
 use mathlib.Core.Option.{some}
 use lib.ListN.{get_elem?}
 use Rattle.atomic_table.specs.Table.{State, Splits, Joins}
-use Rattle.atomic_table.proofs.Lists.{at_map, set_else}
+use Rattle.atomic_table.proofs.Lists.{at_map}
 use Rattle.table_seats.proofs.Seats.{each_set}
 use Rattle.table_seats.proofs.Splitting.{each_split}
 use Rattle.co_schedule.specs.Known.{Known}

@@ -11,11 +11,11 @@ use Rattle.aio_chain.proofs.Chains.{Each, each-front, each-back, chain_kept, pus
 use Rattle.table_seats.specs.Seats.{owns, home}
 use Rattle.table_seats.proofs.Seats.{each_set, seats_make, makes_of}
 use Rattle.table_seats.proofs.Entries.{owns_first}
-use Rattle.aio_model.specs.CoroutineHistory.{Push, History, seat_of, Place, Free, Scheduled, Pushed, pushed, place_of, queue_of, IsLegal}
+use Rattle.aio_model.specs.CoroutineHistory.{Push, History, seat_of, Place, Free, Scheduled, Pushed, pushed, place_of, IsLegal}
 use Rattle.co_schedule.specs.Words.{head_at, mark_at, next_at, mark_of, next_in}
-use Rattle.co_schedule.specs.Known.{HeadCompare, Phase, AtRest, Marked, Linked, Stage, Known, part_of, numbers_of}
+use Rattle.co_schedule.specs.Known.{HeadCompare, AtRest, Marked, Linked, Stage, Known, part_of, numbers_of}
 use Rattle.co_schedule.specs.Rule.{IsOwed, Owes, IsHeld, Walks, Knows, Stands}
-use Rattle.co_schedule.specs.Slots.{is_at_hand, IsVacant, HasState, Holds, HoldsAll, SlotsStand, Kept}
+use Rattle.co_schedule.specs.Slots.{is_at_hand, Holds, Kept}
 use Rattle.co_schedule.specs.Standing.{done, Pushes, Misses}
 use Rattle.co_schedule.specs.Plays.{head_compared}
 use Rattle.co_schedule.proofs.Histories.{place_here, place_else, scheduled_alone}

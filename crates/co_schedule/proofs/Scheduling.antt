@@ -1,6 +1,6 @@
 -- The compare of a mark keeps the rule, whether it schedules the coroutine or finds it scheduled.
-use Rattle.std.proofs.Common.{◌≡◌, ◌≢◌, ℕ, ◌+◌, ◌*◌, ◌<◌, Bool, true, false, eqb, MatchBool, Option, Some, None, List, [], ◌∷◌, length, set, slice_index, refl, sym, ap, ◌∙◌, subst, arith, ⊎_elim}
-use Rattle.std.proofs.lemmas.Bool.{eqb-true, ne_eqb, cases_eq}
+use Rattle.std.proofs.Common.{◌≡◌, ◌≢◌, ℕ, ◌+◌, ◌<◌, Bool, true, false, eqb, List, ◌∷◌, set, slice_index, refl, sym, ap, ◌∙◌, subst, arith, ⊎_elim}
+use Rattle.std.proofs.lemmas.Bool.{eqb-true, cases_eq}
 use mathlib.Core.Option.{some, none}
 use lib.ListN.{get_elem?, length-set}
 use prog.Atomic.{either}
@@ -8,18 +8,16 @@ use Rattle.atomic_table.specs.Table.{State, Me, Act, keeps, takes, step, Valid, 
 use Rattle.atomic_table.proofs.Lists.{set_else}
 use Rattle.aio_chain.specs.Chains.{IsChain}
 use Rattle.aio_chain.proofs.Chains.{chain_kept}
-use Rattle.table_seats.specs.Seats.{owns, home}
-use Rattle.table_seats.proofs.Seats.{each_set, IsSame, seats_make, makes_of}
+use Rattle.table_seats.proofs.Seats.{each_set, seats_make, makes_of}
 use Rattle.table_seats.proofs.Entries.{owns_first}
 use Rattle.aio_model.specs.declared.causes.Cause.{Cause}
-use Rattle.aio_model.specs.CoroutineHistory.{Schedule, History, seat_of, Place, Free, Scheduled, Pushed, place_of, queue_of, IsLegal}
-use Rattle.co_schedule.specs.Words.{head_at, mark_at, next_at, word_count, mark_of, next_in}
-use Rattle.co_schedule.specs.Known.{MarkCompare, Phase, AtRest, Marked, is_at_rest, Known, part_of, numbers_of}
-use Rattle.co_schedule.specs.Rule.{IsOwed, Knows, Stands}
-use Rattle.co_schedule.specs.Slots.{is_at_hand, IsVacant, Holds, SlotsStand, Kept}
-use Rattle.co_schedule.specs.Standing.{done, Makes, Schedules, Looks}
+use Rattle.aio_model.specs.CoroutineHistory.{Schedule, History, seat_of, Place, Free, Scheduled, Pushed, place_of, IsLegal}
+use Rattle.co_schedule.specs.Words.{head_at, mark_at, next_at, mark_of, next_in}
+use Rattle.co_schedule.specs.Known.{MarkCompare, AtRest, Marked, Known, part_of, numbers_of}
+use Rattle.co_schedule.specs.Rule.{Knows, Stands}
+use Rattle.co_schedule.specs.Slots.{Kept}
+use Rattle.co_schedule.specs.Standing.{done, Schedules, Looks}
 use Rattle.co_schedule.specs.Plays.{marked}
-use Rattle.aio_model.proofs.Coroutines.{is_free}
 use Rattle.co_schedule.proofs.Histories.{place_here, place_else}
 use Rattle.co_schedule.proofs.Reading.{read_here, read_else}
 use Rattle.co_schedule.proofs.Keeping.{each_all, walks_kept, knows_kept, load_stands, slots_change, slots_kept}

@@ -1,15 +1,15 @@
 -- Seats that are split and joined keep the rule.
-use Rattle.std.proofs.Common.{◌≡◌, ◌≢◌, ℕ, ◌+◌, ◌<◌, ◌≤◌, Bool, true, false, cond, MatchBool, List, [], ◌∷◌, ◌++◌, set, refl, sym, ap, ◌∙◌, subst, ⊎_elim, arith}
+use Rattle.std.proofs.Common.{◌≡◌, ℕ, ◌+◌, ◌<◌, ◌≤◌, Bool, true, false, cond, List, refl, sym, ◌∙◌, ⊎_elim, arith}
 use mathlib.Core.Option.{some}
 use lib.ListN.{get_elem?}
 use Rattle.atomic_table.specs.Table.{Splits, Joins}
 use Rattle.atomic_table.proofs.Lists.{set_else}
-use Rattle.table_seats.specs.Seats.{owns, home, numbers_in}
+use Rattle.table_seats.specs.Seats.{owns, home}
 use Rattle.table_seats.proofs.Splitting.{front_owned, back_owned, each_split, seats_split}
 use Rattle.table_seats.proofs.Joining.{both_owned, none_owned, each_joined, seats_join}
-use Rattle.aio_model.specs.CoroutineHistory.{History, seat_of, Pushed, place_of}
-use Rattle.co_schedule.specs.Known.{AtRest, Stage, Known, part_of, numbers_of}
-use Rattle.co_schedule.specs.Rule.{Walks, Knows, Stands}
+use Rattle.aio_model.specs.CoroutineHistory.{seat_of}
+use Rattle.co_schedule.specs.Known.{Known, part_of, numbers_of}
+use Rattle.co_schedule.specs.Rule.{Walks, Knows}
 use Rattle.co_schedule.specs.Slots.{Holds, HoldsAll, Kept}
 use Rattle.co_schedule.specs.Seating.{front_known, back_known, joined_known, spent_known}
 

@@ -1,16 +1,16 @@
 -- The swap by which home takes the list, and the walk over what it took, keep the rule.
-use Rattle.std.proofs.Common.{◌≡◌, ◌≢◌, ℕ, suc, ◌+◌, ◌<◌, ◌≤◌, Bool, true, false, Option, Some, None, List, [], ◌∷◌, ◌++◌, length, length-append, set, slice_index, reverse, refl, sym, ap, ◌∙◌, subst, arith, append_assoc, append-nil}
+use Rattle.std.proofs.Common.{◌≡◌, ℕ, ◌+◌, ◌<◌, ◌≤◌, Bool, true, None, List, [], ◌∷◌, ◌++◌, length, length-append, set, slice_index, reverse, refl, sym, ap, ◌∙◌, subst, arith, append_assoc, append-nil}
 use mathlib.Core.Option.{some, none}
 use lib.ListN.{get_elem?, length-set}
 use Rattle.atomic_table.specs.Table.{Me, keeps, step, Allows}
 use Rattle.aio_chain.specs.Chains.{IsChain}
-use Rattle.aio_chain.proofs.Chains.{Each, each-front, each-back, chain_kept, none_taken, first_of_chain}
+use Rattle.aio_chain.proofs.Chains.{Each, each-front, chain_kept, none_taken, first_of_chain}
 use Rattle.table_seats.specs.Seats.{owns, home}
 use Rattle.table_seats.proofs.Seats.{each_set, seats_see}
-use Rattle.aio_model.specs.CoroutineHistory.{History, seat_of, place_of, queue_of, IsLegal}
+use Rattle.aio_model.specs.CoroutineHistory.{History, seat_of, queue_of, IsLegal}
 use Rattle.co_schedule.specs.Words.{head_at, mark_at, next_at, next_in}
 use Rattle.co_schedule.specs.Known.{TakeSwap, NextLoad, Stage, Known, part_of, numbers_of}
-use Rattle.co_schedule.specs.Rule.{IsHeld, Owes, Walks, Knows, Stands}
+use Rattle.co_schedule.specs.Rule.{IsHeld, Walks, Knows, Stands}
 use Rattle.co_schedule.specs.Slots.{Kept}
 use Rattle.co_schedule.specs.Standing.{done, Takes, Follows}
 use Rattle.co_schedule.specs.Plays.{taken, next_loaded}

@@ -1,6 +1,5 @@
 -- The walk over what was taken, beside the vector that it fills.
-use Rattle.std.proofs.Common.{◌≡◌, ℕ, ◌+◌, ◌<◌, ◌≤◌, None, List, [], ◌∷◌, ◌++◌, length, refl, sym, ap, ◌∙◌, subst, arith}
-use Rattle.aio_model.specs.CoroutineHistory.{queue_of}
+use Rattle.std.proofs.Common.{◌≡◌, ℕ, ◌+◌, ◌<◌, ◌≤◌, None, List, [], ◌∷◌, length, refl, sym, ap, ◌∙◌, subst, arith}
 use Rattle.co_schedule.specs.Known.{Known}
 use Rattle.co_schedule.specs.Standing.{Takes, Follows, Walked, TakesAll}
 

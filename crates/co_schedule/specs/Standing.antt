@@ -1,10 +1,10 @@
 -- What one step makes of what a seat knows.
-use Rattle.std.specs.Prelude.{◌≡◌, ◌≢◌, ℕ, ◌+◌, ◌≤◌, ◌<◌, Bool, false, None, Some, List, [], ◌∷◌, ◌++◌, length}
+use Rattle.std.specs.Prelude.{◌≡◌, ◌≢◌, ℕ, ◌≤◌, ◌<◌, Bool, None, Some, List, [], ◌∷◌, ◌++◌, length}
 use Rattle.table_seats.specs.Seats.{Makes as makes_part, own_entries}
 use Rattle.aio_model.specs.declared.causes.Cause.{Cause}
 use Rattle.aio_model.specs.CoroutineHistory.{Entry, Schedule, Push, Enter, History, seat_of, Pushed, place_of, queue_of, IsLegal}
 use Rattle.co_schedule.specs.Words.{head_at, mark_at, next_at}
-use Rattle.co_schedule.specs.Known.{Kind, MarkCompare, HeadLoad, NextStore, HeadCompare, TakeSwap, NextLoad, MarkLoad, MarkClear, Done, Phase, AtRest, Marked, HeadLoaded, Linked, Known, part_of, numbers_of}
+use Rattle.co_schedule.specs.Known.{Kind, MarkCompare, HeadLoad, NextStore, HeadCompare, TakeSwap, NextLoad, MarkLoad, MarkClear, Done, AtRest, Marked, HeadLoaded, Linked, Known, part_of, numbers_of}
 
 abbrev pub done : Kind → ℕ → ℕ → Done
 done kind word found = record { kind = kind; word = word; found = found }

@@ -1,4 +1,4 @@
-use Rattle.std.proofs.Common.{rules, ◌≡◌, ℕ, true, drop, ◌∷◌, sym, ap, ◌∙◌}
+use Rattle.std.proofs.Common.{rules, drop, sym, ◌∙◌}
 use Rattle.co_schedule.specs.Standing.{Begins}
 use Rattle.co_schedule.specs.Parcels.{has_some}
 use Rattle.co_schedule.proofs.CallsStand.{begun, begun_over, begun_within}

@@ -1,5 +1,4 @@
-use Rattle.std.proofs.Common.{◌≡◌, ◌<◌, ◌-◌, Some, sym, ap, ◌∙◌, subst, arith}
-use Rattle.table_seats.specs.Dividing.{half_of}
+use Rattle.std.proofs.Common.{◌<◌, sym, ap, ◌∙◌, subst, arith}
 use Rattle.table_seats.proofs.Splitting.{half_below, back_first, back_count, front_count}
 use Rattle.co_schedule.specs.Slots.{Kept}
 use Rattle.co_schedule.specs.Parcels.{given_in, IsOf}

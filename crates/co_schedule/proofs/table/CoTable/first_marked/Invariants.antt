@@ -1,4 +1,4 @@
-use Rattle.std.proofs.Common.{◌≡◌, ◌-◌, ℕ}
+use Rattle.std.proofs.Common.{◌≡◌, ◌-◌}
 use Rattle.co_schedule.proofs.Ending.{IsLooking}
 use Rattle.co_schedule.proofs.table.CoTable.first_marked.Given as goal
 

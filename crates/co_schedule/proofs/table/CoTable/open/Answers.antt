@@ -1,4 +1,4 @@
-use Rattle.std.proofs.Common.{◌≡◌, ◌<◌, sym, ap, ◌∙◌, arith}
+use Rattle.std.proofs.Common.{sym, ap, ◌∙◌, arith}
 use Rattle.co_schedule.specs.Slots.{Kept}
 use Rattle.co_schedule.specs.Parcels.{given_in, IsOf}
 use Rattle.co_schedule.specs.Seating.{front_known, back_known}
