@@ -24,3 +24,5 @@ pub mod HandlerCalls
 pub mod HandlerStates
 pub mod TimerCalls
 pub mod TimerStates
+pub mod LockHistory
+pub mod LockNotes

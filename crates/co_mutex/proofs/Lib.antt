@@ -1,0 +1,14 @@
+pub mod Counting
+pub mod ListSteps
+pub mod Frames
+pub mod Waiting
+pub mod Quiet
+pub mod QuietSteps
+pub mod Laws
+pub mod DutySteps
+pub mod Batons
+pub mod GotSteps
+pub mod PushStep
+pub mod BatonSteps
+pub mod GrantSteps
+pub mod Ends

@@ -1,0 +1,6 @@
+//! A lock of coroutines.
+#![tactic(auto)]
+
+mod popped;
+mod slot;
+mod view;
