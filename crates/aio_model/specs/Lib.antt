@@ -26,3 +26,4 @@ pub mod TimerCalls
 pub mod TimerStates
 pub mod LockHistory
 pub mod LockNotes
+pub mod LockSeats

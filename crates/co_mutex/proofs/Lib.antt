@@ -12,3 +12,6 @@ pub mod PushStep
 pub mod BatonSteps
 pub mod GrantSteps
 pub mod Ends
+pub mod Histories
+pub mod SeatSteps
+pub mod StepForms

@@ -1,6 +1,6 @@
 -- What a pass knows of its lock.
-use Rattle.std.specs.Prelude.{◌≡◌, ◌≢◌, ℕ, ◌+◌, Bool, true, false, Option, None, Some, List, [], ◌∷◌, ◌++◌}
-use Rattle.aio_model.specs.LockHistory.{LockEntry, made_by, owner_of, value_of, IsLegalLock}
+use Rattle.std.specs.Prelude.{◌≡◌, ℕ, Bool, true, false, Option, None, Some, List, [], ◌∷◌, ◌++◌}
+use Rattle.aio_model.specs.LockHistory.{LockEntry, made_by, IsLegalLock}
 use Rattle.co_mutex.specs.Places.{Place, AtRest}
 
 -- the kinds of atomic step on a word
@@ -76,4 +76,5 @@ module _ {T : Type 0} where
     pub others : List (LockEntry T)
     pub longer : history ≡ others ++ known.seen
     pub foreign : made_by known.number others ≡ []
+    pub all_mine : made_by known.number history ≡ known.mine
     pub legal : IsLegalLock history

@@ -5,3 +5,4 @@ pub mod LockWords
 pub mod Rule
 pub mod Known
 pub mod Seats
+pub mod Plays

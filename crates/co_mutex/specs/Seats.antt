@@ -1,11 +1,11 @@
 -- What ties the passes to the history, and the whole rule of the table.
-use Rattle.std.specs.Prelude.{◌≡◌, ◌≢◌, ℕ, ◌≤◌, true, Some, List, [], ◌∷◌, ◌++◌, length}
+use Rattle.std.specs.Prelude.{◌≡◌, ◌≢◌, ℕ, ◌≤◌, true, Some, List, [], ◌++◌, length}
 use mathlib.Core.Option.{some}
 use lib.ListN.{get_elem?}
 use Rattle.atomic_table.specs.Table.{State}
 use Rattle.aio_model.specs.LockHistory.{LockEntry, made_by, value_of}
 use Rattle.aio_model.specs.LockNotes.{IsNoted}
-use Rattle.co_mutex.specs.Places.{Place, AtRest, Holds}
+use Rattle.co_mutex.specs.Places.{Place, AtRest, is_owning}
 use Rattle.co_mutex.specs.declared.slot.Slot.{Slot}
 use Rattle.co_mutex.specs.Known.{Part, Known}
 use Rattle.co_mutex.specs.Rule.{Baton, Stands}
@@ -26,7 +26,7 @@ module _ {T : Type 0} where
     pub sized : known.passes ≡ length places
     pub placed : get_elem? places known.number ≡ some known.place
     pub part : IsPart h seat id known.number known.seen known.mine
-    pub value : known.place ≡ Holds → value_of built known.seen ≡ value_of built h
+    pub value : is_owning known.place ≡ true → value_of built known.seen ≡ value_of built h
     pub others : (k : ℕ) (other : Part T) → get_elem? known.others k ≡ some other → IsPart h seat id other.number other.seen other.mine × (get_elem? places other.number ≡ some AtRest) × (other.number ≢ known.number)
 
   abbrev pub SeatsStand : T → List (LockEntry T) → List Place → (ℕ → ℕ) → List (Known T) → Type 0
