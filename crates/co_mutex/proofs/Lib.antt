@@ -15,3 +15,6 @@ pub mod Ends
 pub mod Histories
 pub mod SeatSteps
 pub mod StepForms
+pub mod LockSteps
+pub mod WakeSteps
+pub mod OwnerSteps
