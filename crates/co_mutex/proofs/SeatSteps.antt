@@ -5,7 +5,7 @@ use lib.ListN.{get_elem?}
 use Rattle.atomic_table.proofs.Lists.{at_set, set_here, set_else}
 use Rattle.aio_model.specs.LockHistory.{LockEntry, maker_of, made_by, value_of, IsLegalLock}
 use Rattle.co_mutex.specs.Places.{Place, AtRest, is_owning}
-use Rattle.co_mutex.specs.Known.{Part, Done, Known, moves, learns, makes, GoesOn}
+use Rattle.co_mutex.specs.Known.{Part, Done, Known, moves, learns, makes, Goes}
 use Rattle.co_mutex.specs.Seats.{IsPart, IsSeat, SeatsStand}
 use Rattle.co_mutex.proofs.QuietSteps.{at_low}
 use Rattle.co_mutex.proofs.Histories.{made_by-append, made_more, made_else}
@@ -23,7 +23,7 @@ module _ {T : Type 0} where
     me : IsSeat built h places seat id v
     me = s id v at live
 
-    pub goes_on : IsLegalLock h → GoesOn v h
+    pub goes_on : IsLegalLock h → Goes v h
     goes_on legal =
         record { others = me.part.rest; longer = me.part.longer; foreign = me.part.none_missed; all_mine = made_whole h seat id v.number v.seen v.mine me.part; legal = legal }
 

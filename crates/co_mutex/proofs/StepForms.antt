@@ -9,7 +9,7 @@ use Rattle.aio_model.specs.LockNotes.{IsNoted}
 use Rattle.co_mutex.specs.declared.slot.Slot.{Slot}
 use Rattle.co_mutex.specs.Places.{Place, is_owning}
 use Rattle.co_mutex.specs.Rule.{Baton, Stands}
-use Rattle.co_mutex.specs.Known.{Done, Known, moves, learns, makes, GoesOn}
+use Rattle.co_mutex.specs.Known.{Done, Known, moves, learns, makes, Goes}
 use Rattle.co_mutex.specs.Seats.{IsSeat, Kept}
 use Rattle.co_mutex.specs.Plays.{Makes}
 use Rattle.co_mutex.proofs.SeatSteps.{goes_on, ValueStays, seats_make, seats_learn, seats_move}
@@ -39,7 +39,7 @@ module _ {T N : Type 0} (note : T → ℕ → N) (n : ℕ) (built : T) (id : ℕ
     pub sized_as : v.passes ≡ n
     sized_as = seat_is.sized ∙ r.lock.each
 
-    pub history_goes : GoesOn v r.history
+    pub history_goes : Goes v r.history
     history_goes = goes_on built r.history r.places r.seat s.views id v r.seats at live v.place r.lock.legal
 
     module _ (new : Place) (d : Done) (k x : ℕ) (c : List (ℕ × S)) (a : Act S) (b : Baton) (stack : List ℕ) where

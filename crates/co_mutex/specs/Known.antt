@@ -71,10 +71,17 @@ module _ {T : Type 0} where
   makes known place done older entry =
       record known { place = place; did = done ∷ known.did; seen = entry ∷ older; mine = entry ∷ known.mine }
 
+  -- the same pass after these steps, none of which made an entry
+  abbrev pub advances : Known T → Place → List Done → Known T
+  advances known place steps = record known { place = place; did = steps ++ known.did }
+
   -- the history goes on from what the pass had seen, with entries of other passes alone
-  pub record GoesOn (known : Known T) (history : List (LockEntry T)) : Type 0 where
+  pub record GoesOn (number : ℕ) (seen mine history : List (LockEntry T)) : Type 0 where
     pub others : List (LockEntry T)
-    pub longer : history ≡ others ++ known.seen
-    pub foreign : made_by known.number others ≡ []
-    pub all_mine : made_by known.number history ≡ known.mine
+    pub longer : history ≡ others ++ seen
+    pub foreign : made_by number others ≡ []
+    pub all_mine : made_by number history ≡ mine
     pub legal : IsLegalLock history
+
+  abbrev pub Goes : Known T → List (LockEntry T) → Type 0
+  Goes known history = GoesOn known.number known.seen known.mine history

@@ -6,3 +6,5 @@ pub mod Rule
 pub mod Known
 pub mod Seats
 pub mod Plays
+pub mod Opening
+pub mod Passes

@@ -9,7 +9,7 @@ use Rattle.co_mutex.specs.declared.slot.Slot.TheVariants.{Value}
 use Rattle.co_mutex.specs.LockWords.{locked_at, handoff_at, head_at}
 use Rattle.co_mutex.specs.Places.{Side, Locking, Unlocking, Place, ToPop, Walking, Nobody, Granting, AtRest, Counted, Named, HeadLoaded, Linked, Pushed, Loaded, Queued, SelfGranted, Holds, OnDuty, Published, Found, after_grant}
 use Rattle.co_mutex.specs.Rule.{Popped}
-use Rattle.co_mutex.specs.Known.{Kind, LockedCompare, LockedFetchAdd, LockedFetchSub, WhoStore, HeadLoad, NextStore, HeadCompare, HeadSwap, NextLoad, WhoLoad, GrantStore, GrantSwap, HandoffLoad, HandoffStore, HandoffCompare, SecondLook, Done, Known, moves, learns, makes, GoesOn}
+use Rattle.co_mutex.specs.Known.{Kind, LockedCompare, LockedFetchAdd, LockedFetchSub, WhoStore, HeadLoad, NextStore, HeadCompare, HeadSwap, NextLoad, WhoLoad, GrantStore, GrantSwap, HandoffLoad, HandoffStore, HandoffCompare, SecondLook, Done, Known, moves, learns, makes, Goes}
 
 abbrev pub done : Kind → ℕ → ℕ → Done
 done kind word found = record { kind = kind; word = word; found = found }
@@ -21,7 +21,7 @@ module _ {T : Type 0} where
   -- A pass makes an entry over this history.
   pub record Makes (entry : LockEntry T) (place : Place) (done : Done) (older : List (LockEntry T)) (hand : List (ℕ × Slot T)) (before : Known T) (after : Me (Slot T) (Known T)) : Type 0 where
     pub is : after ≡ (makes before place done older entry, hand)
-    pub goes : GoesOn before older
+    pub goes : Goes before older
     pub legal : IsLegalLock (entry ∷ older)
 
   -- The sub: at 1 the pass is at rest, and else it has the duty, and the popped list in hand.
@@ -172,7 +172,7 @@ module _ {T N : Type 0} (note : T → ℕ → N) where
   pub record FindsGrant (at : ℕ) (built : T) (before after : Me (Slot T) (Known T)) : Type 0 where
     pub all : List (LockEntry T)
     pub is : after ≡ (learns before.0 Holds (done GrantSwap at 1) all, (0, Value (value_of built all)) ∷ [])
-    pub goes : GoesOn before.0 all
+    pub goes : Goes before.0 all
     pub owner : owner_of all ≡ Some before.0.number
     pub noted : IsNoted note built all
 

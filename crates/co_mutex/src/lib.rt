@@ -1,6 +1,11 @@
 //! A lock of coroutines.
 #![tactic(auto)]
 
+mod lock;
+mod plays;
 mod popped;
+mod rule;
 mod slot;
+mod steps;
 mod view;
+mod words;

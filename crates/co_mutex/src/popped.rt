@@ -1,9 +1,10 @@
 //! The popped waiters, the first to be granted on top.
-ghost use Rattle.std.specs.Prelude.{◌≡◌, ◌≢◌, ◌<◌, ◌≤◌, ◌∷◌, [], List, length, MatchOption};
+ghost use Rattle.std.specs.Prelude.{◌≡◌, ◌≢◌, ◌<◌, ◌≤◌, ◌∷◌, [], List, length, IfOk, MatchOption};
 
-use std::alloc::Global;
+use std::alloc::{AllocError, Global};
 use std::marker::Model;
 
+/// The waiters that were taken off the pushed list, oldest first, and the last number that was published.
 #[derive(Drop)]
 pub struct Popped {
     list: Vec<u32>,
@@ -20,20 +21,30 @@ impl Model for Popped {
 }
 
 impl Popped {
-    pub fn take_first(&mut self) -> Option<u32>
+    pub(crate) fn with_room(alloc: Global) -> Result<Popped, AllocError>
+        ensures { IfOk result (λ list. list ≡ record { waiting = []; last = 0; room = 64 }) }
+    {
+        Ok(Popped {
+            list: Vec::with_capacity(alloc, 64)?,
+            last: 0,
+        })
+    }
+
+    pub(crate) fn take_first(&mut self) -> Option<u32>
         ensures first { MatchOption result ((self.old.waiting ≡ []) × (self.new ≡ self.old)) (λ q. (self.old.waiting ≡ q ∷ self.new.waiting) × (self.new.last ≡ self.old.last) × (self.new.room ≡ self.old.room)) }
     {
         self.list.pop()
     }
 
-    pub fn put_first(&mut self, q: u32)
+    pub(crate) fn put_first(&mut self, q: u32)
         requires { length self.old.waiting < self.old.room }
         ensures { self.new ≡ record self.old { waiting = q ∷ self.old.waiting } }
     {
         self.list.push_reserved(q);
     }
 
-    pub fn next_number(&mut self) -> u64
+    /// The next number to publish: it counts up from 1, and after the greatest comes 1.
+    pub(crate) fn next_number(&mut self) -> u64
         ensures some { result ≢ 0 }
         ensures list { self.new ≡ record self.old { last = result } }
     {
