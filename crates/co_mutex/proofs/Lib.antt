@@ -18,3 +18,8 @@ pub mod StepForms
 pub mod LockSteps
 pub mod WakeSteps
 pub mod OwnerSteps
+pub mod Codes
+pub mod WakeCodes
+pub mod WalkLoop
+pub mod Offering
+pub mod Calls

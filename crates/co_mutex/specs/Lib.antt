@@ -8,3 +8,4 @@ pub mod Seats
 pub mod Plays
 pub mod Opening
 pub mod Passes
+pub mod Waking

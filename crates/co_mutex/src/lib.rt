@@ -8,4 +8,6 @@ mod rule;
 mod slot;
 mod steps;
 mod view;
+mod wake_steps;
+mod waking;
 mod words;
