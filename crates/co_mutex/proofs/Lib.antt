@@ -23,3 +23,6 @@ pub mod WakeCodes
 pub mod WalkLoop
 pub mod Offering
 pub mod Calls
+pub mod Holding
+pub mod PushLoop
+pub mod WakeOne

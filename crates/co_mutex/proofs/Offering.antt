@@ -16,7 +16,7 @@ module _ {T : Type 0} (v : Known T) (put stored looked : M T) (number found : �
   -- nobody was pushed
   pub offered_none : found ≡ 0 → Offered false v looked
   offered_none e =
-      record { steps = done SecondLook head_at found ∷ done HandoffStore handoff_at number ∷ []; kinds = (refl, refl, tt); is = looked_is ∙ ap (λ b. (advances v (cond b AtRest (Found number)) (done SecondLook head_at found ∷ done HandoffStore handoff_at number ∷ []), [])) (eq-eqb found 0 e) }
+      record { steps = done SecondLook head_at found ∷ done HandoffStore handoff_at number ∷ []; kinds = (refl, (refl, tt)); is = looked_is ∙ ap (λ b. (advances v (cond b AtRest (Found number)) (done SecondLook head_at found ∷ done HandoffStore handoff_at number ∷ []), [])) (eq-eqb found 0 e) }
 
   pub looked_found : found ≢ 0 → looked ≡ (advances v (Found number) (done SecondLook head_at found ∷ done HandoffStore handoff_at number ∷ []), [])
   looked_found ne =
@@ -31,6 +31,6 @@ module _ {T : Type 0} (v : Known T) (put stored looked : M T) (number found : �
 
       by : (b : Bool) → MatchBool b (TakesDuty Unlocking there looked.0 after) (after ≡ (moves looked.0 AtRest (done HandoffCompare handoff_at there), [])) → Offered b v after
       by true t =
-          record { steps = done HandoffCompare handoff_at there ∷ done SecondLook head_at found ∷ done HandoffStore handoff_at number ∷ []; kinds = (refl, refl, refl, tt); is = (t.last, t.is ∙ ap (λ (z : Known T). (moves z (Rattle.co_mutex.specs.Places.OnDuty Unlocking (Rattle.co_mutex.specs.Places.ToPop [])) (done HandoffCompare handoff_at there), (1, Rattle.co_mutex.specs.Rule.Popped [] t.last) ∷ [])) known_is) }
+          record { steps = done HandoffCompare handoff_at there ∷ done SecondLook head_at found ∷ done HandoffStore handoff_at number ∷ []; kinds = (refl, (refl, (refl, tt))); is = (t.last, t.is ∙ ap (λ (z : Known T). (moves z (Rattle.co_mutex.specs.Places.OnDuty Unlocking (Rattle.co_mutex.specs.Places.ToPop [])) (done HandoffCompare handoff_at there), (1, Rattle.co_mutex.specs.Rule.Popped [] t.last) ∷ [])) known_is) }
       by false t =
-          record { steps = done HandoffCompare handoff_at there ∷ done SecondLook head_at found ∷ done HandoffStore handoff_at number ∷ []; kinds = (refl, refl, refl, tt); is = t ∙ ap (λ (z : Known T). (moves z AtRest (done HandoffCompare handoff_at there), [])) known_is }
+          record { steps = done HandoffCompare handoff_at there ∷ done SecondLook head_at found ∷ done HandoffStore handoff_at number ∷ []; kinds = (refl, (refl, (refl, tt))); is = t ∙ ap (λ (z : Known T). (moves z AtRest (done HandoffCompare handoff_at there), [])) known_is }

@@ -38,7 +38,7 @@ pred_of : (k : ℕ) → 0 < k → (l : ℕ) × (k ≡ l + 1)
 pred_of zero e = absurd (omega (arith, e))
 pred_of (suc l) e = (l, omega arith)
 
-value_same : {T : Type 0} (x y : T) → Value x ≡ Value y → x ≡ y
+pub value_same : {T : Type 0} (x y : T) → Value x ≡ Value y → x ≡ y
 value_same x y e = cc
 
 module _ {T : Type 0} where

@@ -9,3 +9,4 @@ pub mod Plays
 pub mod Opening
 pub mod Passes
 pub mod Waking
+pub mod Calls

@@ -9,7 +9,7 @@ use Rattle.co_mutex.specs.declared.slot.Slot.TheVariants.{Out}
 use Rattle.co_mutex.specs.LockWords.{locked_at, handoff_at, head_at, grant_at, who_at}
 use Rattle.co_mutex.specs.Places.{Side, Locking, Unlocking, Place, ToPop, AtRest, Pushed, Queued, OnDuty, after_grant}
 use Rattle.co_mutex.specs.Rule.{Popped}
-use Rattle.co_mutex.specs.Known.{Kind, LockedFetchSub, HeadLoad, NextStore, HeadCompare, HeadSwap, NextLoad, WhoLoad, GrantStore, HandoffStore, HandoffCompare, SecondLook, Done, Known, advances, Goes}
+use Rattle.co_mutex.specs.Known.{Kind, LockedFetchSub, WhoStore, HeadLoad, NextStore, HeadCompare, HeadSwap, NextLoad, WhoLoad, GrantStore, HandoffLoad, HandoffStore, HandoffCompare, SecondLook, Done, Known, advances, Goes}
 use Rattle.co_mutex.specs.Plays.{done, Makes}
 
 -- the kinds of step by which a pass looks for a waiter
@@ -23,10 +23,17 @@ looks_for _ = false
 
 -- the kinds of step by which a pass pushes
 abbrev pub pushes : Kind → Bool
+pushes WhoStore = true
 pushes HeadLoad = true
 pushes NextStore = true
 pushes HeadCompare = true
 pushes _ = false
+
+-- the kinds of step by which a pushed pass looks at the hand-off
+abbrev pub takes_up : Kind → Bool
+takes_up HandoffLoad = true
+takes_up HandoffCompare = true
+takes_up _ = false
 
 abbrev pub AllOf : (Kind → Bool) → List Done → Type 0
 AllOf test [] = Unit {0}
@@ -43,6 +50,12 @@ module _ {T : Type 0} where
     pub steps : List Done
     pub kinds : AllOf looks_for steps
     pub is : MatchBool taken ((last : ℕ) × (after ≡ (advances v (OnDuty Unlocking (ToPop [])) steps, (1, Popped [] last) ∷ []))) (after ≡ (advances v AtRest steps, []))
+
+  -- a pushed pass looked at the hand-off: it took it, or is queued
+  pub record LookedAt (taken : Bool) (v : Known T) (after : Me (Slot T) (Known T)) : Type 0 where
+    pub steps : List Done
+    pub kinds : AllOf takes_up steps
+    pub is : MatchBool taken ((last : ℕ) × (after ≡ (advances v (OnDuty Locking (ToPop [])) steps, (1, Popped [] last) ∷ []))) (after ≡ (advances v Queued steps, []))
 
   -- the pushed list was walked, and the first of the waiters is a pass
   pub record Walked (side : Side) (v : Known T) (waiting : List ℕ) (after : Me (Slot T) (Known T)) : Type 0 where
@@ -61,3 +74,9 @@ module _ {T : Type 0} where
     pub steps : List Done
     pub kinds : AllOf pushes steps
     pub makes : Makes (Wait v.number who) Pushed (done HeadCompare head_at found) older [] (advances v v.place steps) after
+
+  -- a locker with the duty granted q, as the first of all who wait
+  pub record Woke (q who : ℕ) (v : Known T) (after : Me (Slot T) (Known T)) : Type 0 where
+    pub steps : List Done
+    pub kinds : AllOf looks_for steps
+    pub granted : Granted Locking q who (advances v v.place steps) after

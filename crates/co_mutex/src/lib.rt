@@ -1,9 +1,13 @@
 //! A lock of coroutines.
 #![tactic(auto)]
 
+mod answers;
+mod ids;
 mod lock;
+mod locking;
 mod plays;
 mod popped;
+mod queuing;
 mod rule;
 mod slot;
 mod steps;
