@@ -26,3 +26,4 @@ pub mod Calls
 pub mod Holding
 pub mod PushLoop
 pub mod WakeOne
+pub mod Finishing

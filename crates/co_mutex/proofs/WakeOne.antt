@@ -8,7 +8,7 @@ use Rattle.co_mutex.specs.LockWords.{head_at, grant_at, who_at}
 use Rattle.co_mutex.specs.Places.{Side, Locking, Unlocking, Place, ToPop, Walking, Nobody, OnDuty, side_of, after_grant}
 use Rattle.co_mutex.specs.Known.{HeadSwap, WhoLoad, GrantStore, Done, Known, moves, advances, Goes}
 use Rattle.co_mutex.specs.Plays.{done, Is, Makes, Swaps}
-use Rattle.co_mutex.specs.Waking.{looks_for, AllOf, Granted, Walked, Woke}
+use Rattle.co_mutex.specs.Waking.{walks, AllOf, Granted, Walked, Woke}
 use Rattle.co_mutex.proofs.Codes.{M}
 
 pub all_append : (test : Rattle.co_mutex.specs.Known.Kind → Rattle.std.proofs.Common.Bool) (xs ys : List Done) → AllOf test xs → AllOf test ys → AllOf test (xs ++ ys)
@@ -33,7 +33,7 @@ module _ {T : Type 0} where
   woke v taken swapped walked after side2 place waiting head q who same swap w g =
       let steps = w.steps ++ done HeadSwap head_at head ∷ [] in
       let is : walked.0 ≡ advances v (OnDuty side2 (ToPop waiting)) (w.steps ++ done HeadSwap head_at head ∷ []) = ap (λ (z : M T). z.0) w.is ∙ ap (λ (z : Known T). advances z (OnDuty side2 (ToPop waiting)) w.steps) (swap ∙ ap (λ (z : Known T). moves z place (done HeadSwap head_at head)) same) ∙ ap (λ (l : List Done). record v { place = OnDuty side2 (ToPop waiting); did = l }) (sym (Rattle.std.proofs.Common.append_assoc w.steps (done HeadSwap head_at head ∷ []) v.did)) in
-      record { steps = steps; kinds = all_append looks_for w.steps (done HeadSwap head_at head ∷ []) w.kinds (refl, tt); granted = granted_over Locking q who v walked.0 (OnDuty side2 (ToPop waiting)) steps after is g }
+      record { steps = steps; kinds = all_append walks w.steps (done HeadSwap head_at head ∷ []) w.kinds (refl, tt); granted = granted_over Locking q who v walked.0 (OnDuty side2 (ToPop waiting)) steps after is g }
 
   -- the side stays through the swap and the walk
   pub walked_side : (side : Side) (before : M T) (found : ℕ) (after : M T) → Swaps side before found after → (side2 : Side) (waiting : List ℕ) (walked : M T) → side2 ≡ side_of after.0.place → Walked side2 after.0 waiting walked → side_of walked.0.place ≡ side

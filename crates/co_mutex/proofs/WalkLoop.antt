@@ -11,7 +11,7 @@ use Rattle.co_mutex.specs.Places.{Side, ToPop, Walking, OnDuty, side_of}
 use Rattle.co_mutex.specs.Known.{NextLoad, Done, Known, moves, advances}
 use Rattle.co_mutex.specs.Plays.{done, Is, Loads}
 use Rattle.co_mutex.specs.Passes.{IsOf, known, carried}
-use Rattle.co_mutex.specs.Waking.{looks_for, AllOf, Walked}
+use Rattle.co_mutex.specs.Waking.{walks, AllOf, Walked}
 use Rattle.co_mutex.proofs.Codes.{M}
 
 module _ {P T N : Type 0} where
@@ -24,7 +24,7 @@ module _ {P T N : Type 0} where
     pub low : word ≤ (known start).passes
     pub left : List ℕ
     pub steps : List Done
-    pub kinds : AllOf looks_for steps
+    pub kinds : AllOf walks steps
     pub is : now.seat.me ≡ (advances (known start) (OnDuty (side start) (Walking word left list.waiting)) steps, (1, Out) ∷ [])
     pub each : Each (λ k. k < (known start).passes) list.waiting
     pub room : list.room ≡ 64

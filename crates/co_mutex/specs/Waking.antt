@@ -21,6 +21,12 @@ looks_for SecondLook = true
 looks_for HandoffCompare = true
 looks_for _ = false
 
+-- those of a locker, which never publishes
+abbrev pub walks : Kind → Bool
+walks HeadSwap = true
+walks NextLoad = true
+walks _ = false
+
 -- the kinds of step by which a pass pushes
 abbrev pub pushes : Kind → Bool
 pushes WhoStore = true
@@ -60,7 +66,7 @@ module _ {T : Type 0} where
   -- the pushed list was walked, and the first of the waiters is a pass
   pub record Walked (side : Side) (v : Known T) (waiting : List ℕ) (after : Me (Slot T) (Known T)) : Type 0 where
     pub steps : List Done
-    pub kinds : AllOf looks_for steps
+    pub kinds : AllOf walks steps
     pub q : ℕ
     pub rest : List ℕ
     pub some_one : waiting ≡ q ∷ rest
@@ -78,5 +84,5 @@ module _ {T : Type 0} where
   -- a locker with the duty granted q, as the first of all who wait
   pub record Woke (q who : ℕ) (v : Known T) (after : Me (Slot T) (Known T)) : Type 0 where
     pub steps : List Done
-    pub kinds : AllOf looks_for steps
+    pub kinds : AllOf walks steps
     pub granted : Granted Locking q who (advances v v.place steps) after
