@@ -27,3 +27,5 @@ pub mod Holding
 pub mod PushLoop
 pub mod WakeOne
 pub mod Finishing
+pub mod UnlockLoop
+pub mod LockCalls

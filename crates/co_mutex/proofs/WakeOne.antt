@@ -43,3 +43,10 @@ module _ {T : Type 0} where
       by : (b : Rattle.std.proofs.Common.Bool) → MatchBool b ((side ≡ Unlocking) × Is after (moves before.0 (OnDuty side Nobody) (done HeadSwap head_at found), before.1)) ((left : List ℕ) × Is after (moves before.0 (OnDuty side (Walking found left [])) (done HeadSwap head_at found), before.1)) → side_of after.0.place ≡ side
       by true is = ap (λ (z : M T). side_of z.0.place) is.1
       by false is = ap (λ (z : M T). side_of z.0.place) is.1
+
+  pub swapped_side : (side : Side) (before : M T) (found : ℕ) (after : M T) → Swaps side before found after → side_of after.0.place ≡ side
+  swapped_side side before found after told = by (eqb found 0) told.is
+    where
+      by : (b : Rattle.std.proofs.Common.Bool) → MatchBool b ((side ≡ Unlocking) × Is after (moves before.0 (OnDuty side Nobody) (done HeadSwap head_at found), before.1)) ((left : List ℕ) × Is after (moves before.0 (OnDuty side (Walking found left [])) (done HeadSwap head_at found), before.1)) → side_of after.0.place ≡ side
+      by true is = ap (λ (z : M T). side_of z.0.place) is.1
+      by false is = ap (λ (z : M T). side_of z.0.place) is.1

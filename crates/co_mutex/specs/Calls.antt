@@ -41,6 +41,12 @@ finishes GrantStore = true
 finishes GrantSwap = true
 finishes _ = false
 
+-- those of `lock`
+abbrev pub locks : Kind → Bool
+locks LockedCompare = true
+locks LockedFetchAdd = true
+locks kind = finishes kind
+
 -- the kinds of step of a wake
 abbrev pub wakes : Kind → Bool
 wakes HeadSwap = true

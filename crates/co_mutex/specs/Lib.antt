@@ -10,3 +10,4 @@ pub mod Opening
 pub mod Passes
 pub mod Waking
 pub mod Calls
+pub mod Lent

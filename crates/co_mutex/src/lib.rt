@@ -3,6 +3,7 @@
 
 mod answers;
 mod ids;
+mod lends;
 mod lock;
 mod locking;
 mod plays;
@@ -11,6 +12,7 @@ mod queuing;
 mod rule;
 mod slot;
 mod steps;
+mod unlocking;
 mod view;
 mod wake_steps;
 mod waking;

@@ -4,7 +4,7 @@ ghost use Rattle.co_mutex.specs.Places.{Locking, ToPop, AtRest, Counted, Pushed,
 ghost use Rattle.co_mutex.specs.Rule.{Popped as Listed};
 ghost use Rattle.co_mutex.specs.Passes.{IsOf, IsPassOf, built_of, known, carried};
 ghost use Rattle.co_mutex.specs.Waking.{PushedFor, LookedAt, Woke};
-ghost use Rattle.co_mutex.specs.Calls.{word_of as number_of, finishes, Did, Finishes, Locks};
+ghost use Rattle.co_mutex.specs.Calls.{word_of as number_of, finishes, locks, Did, Finishes, Locks};
 
 use crate::answers::{Begun, Lock};
 use crate::ids::{co_of, word_of};
@@ -93,5 +93,19 @@ impl<P: LockRule> CoMutex<P> {
         self.swap_own_grant(pass);
         let value = self.take_value(pass);
         Lock::Held(Guard { value })
+    }
+
+    /// Takes the lock, or queues the pass for this coroutine: `begin_lock`, and `finish_lock` where the lock wasn't free.
+    pub fn lock<R: Wait>(&self, rt: &R, pass: &mut Pass<P>, co: CoId) -> Lock<P>
+        requires pass { IsPassOf self.now pass.old }
+        requires rest { (known pass.old).place ≡ AtRest }
+        ensures pass { IsPassOf self.now pass.new }
+        ensures lock { Locks P.note (built_of self.now) (number_of co) (known pass.old) result (known pass.new) }
+        ensures steps { Did locks (known pass.old).did (known pass.new).did }
+    {
+        match self.begin_lock(pass) {
+            Begun::Held(guard) => Lock::Held(guard),
+            Begun::Later(waiting) => self.finish_lock(rt, pass, waiting, co),
+        }
     }
 }
