@@ -1,6 +1,6 @@
 -- The history of a lock of coroutines, newest first: who owns it, who waits in order of pushing, which value it holds, and
 -- what is legal. A coroutine is named by one number, that of its own times 2^32 and its home's.
-use Rattle.std.specs.Prelude.{◌≡◌, ◌≢◌, ℕ, ◌==◌, cond, Option, None, Some, List, [], ◌∷◌, ◌++◌, ◌⊎◌}
+use Rattle.std.specs.Prelude.{◌≡◌, ◌≢◌, ℕ, ◌<◌, ◌==◌, cond, Option, None, Some, List, [], ◌∷◌, ◌++◌, ◌⊎◌}
 
 pub data LockEntry (T : Type 0) : Type 0 where
   -- the pass found the lock free and owns it
@@ -77,3 +77,8 @@ module _ {T : Type 0} where
   abbrev pub made_by : ℕ → List (LockEntry T) → List (LockEntry T)
   made_by p [] = []
   made_by p (entry ∷ older) = cond (maker_of entry == p) (entry ∷ made_by p older) (made_by p older)
+
+  -- each entry was made by one of so many passes
+  abbrev pub AreBelow : ℕ → List (LockEntry T) → Type 0
+  AreBelow passes [] = Unit {0}
+  AreBelow passes (entry ∷ older) = (maker_of entry < passes) × AreBelow passes older

@@ -29,3 +29,5 @@ pub mod WakeOne
 pub mod Finishing
 pub mod UnlockLoop
 pub mod LockCalls
+pub mod Deals
+pub mod Dealing

@@ -1,5 +1,5 @@
 -- The rule after a step that makes no entry, and after one that makes one.
-use Rattle.std.proofs.Common.{◌≡◌, ◌≢◌, ℕ, true, false, List, ◌∷◌, slice_index, set, refl, sym, ap, ◌∙◌, subst, zero, suc}
+use Rattle.std.proofs.Common.{◌≡◌, ◌≢◌, ℕ, ◌<◌, true, false, List, ◌∷◌, slice_index, set, refl, sym, ap, ◌∙◌, subst, zero, suc}
 use Rattle.std.proofs.Common.{[]}
 use mathlib.Core.Option.{some}
 use lib.ListN.{get_elem?}
@@ -12,6 +12,7 @@ use Rattle.co_mutex.specs.Rule.{Baton, Stands}
 use Rattle.co_mutex.specs.Known.{Done, Known, moves, learns, makes, Goes}
 use Rattle.co_mutex.specs.Seats.{IsSeat, Kept}
 use Rattle.co_mutex.specs.Plays.{Makes}
+use Rattle.co_mutex.proofs.QuietSteps.{at_low}
 use Rattle.co_mutex.proofs.SeatSteps.{goes_on, ValueStays, seats_make, seats_learn, seats_move}
 
 pub set_back : (words : List ℕ) (k : ℕ) → set words k (slice_index words k) ≡ words
@@ -45,19 +46,19 @@ module _ {T N : Type 0} (note : T → ℕ → N) (n : ℕ) (built : T) (id : ℕ
     module _ (new : Place) (d : Done) (k x : ℕ) (c : List (ℕ × S)) (a : Act S) (b : Baton) (stack : List ℕ) where
       pub kept_move : is_owning new ≡ false → Stands n built r.history (set s.words k x) (homes_after s.homes c a) (set r.places v.number new) b stack → Kept note n built (stepped s k x id c (moves v new d) a)
       kept_move isnt lock =
-          record { history = r.history; places = set r.places v.number new; baton = b; stack = stack; seat = r.seat; lock = lock; seats = seats_move built r.history r.places r.seat s.views id v r.seats at live new d (λ e. isnt_owning new isnt e); noted = r.noted; few = r.few }
+          record { history = r.history; places = set r.places v.number new; baton = b; stack = stack; seat = r.seat; lock = lock; seats = seats_move built r.history r.places r.seat s.views id v r.seats at live new d (λ e. isnt_owning new isnt e); noted = r.noted; makers = r.makers; few = r.few }
 
       pub kept_own : (value_of built v.seen ≡ value_of built r.history) → Stands n built r.history (set s.words k x) (homes_after s.homes c a) (set r.places v.number new) b stack → Kept note n built (stepped s k x id c (moves v new d) a)
       kept_own value lock =
-          record { history = r.history; places = set r.places v.number new; baton = b; stack = stack; seat = r.seat; lock = lock; seats = seats_move built r.history r.places r.seat s.views id v r.seats at live new d (λ e. value); noted = r.noted; few = r.few }
+          record { history = r.history; places = set r.places v.number new; baton = b; stack = stack; seat = r.seat; lock = lock; seats = seats_move built r.history r.places r.seat s.views id v r.seats at live new d (λ e. value); noted = r.noted; makers = r.makers; few = r.few }
 
       pub kept_learn : Stands n built r.history (set s.words k x) (homes_after s.homes c a) (set r.places v.number new) b stack → Kept note n built (stepped s k x id c (learns v new d r.history) a)
       kept_learn lock =
-          record { history = r.history; places = set r.places v.number new; baton = b; stack = stack; seat = r.seat; lock = lock; seats = seats_learn built r.history r.places r.seat s.views id v r.seats at live new d; noted = r.noted; few = r.few }
+          record { history = r.history; places = set r.places v.number new; baton = b; stack = stack; seat = r.seat; lock = lock; seats = seats_learn built r.history r.places r.seat s.views id v r.seats at live new d; noted = r.noted; makers = r.makers; few = r.few }
 
       pub kept_make : (e : LockEntry T) → maker_of e ≡ v.number → IsNoted note built (e ∷ r.history) → ValueStays built r.history r.places r.seat s.views id v r.seats at live new (e ∷ r.history) → Stands n built (e ∷ r.history) (set s.words k x) (homes_after s.homes c a) (set r.places v.number new) b stack → Kept note n built (stepped s k x id c (makes v new d r.history e) a)
       kept_make e by_it noted stays lock =
-          record { history = e ∷ r.history; places = set r.places v.number new; baton = b; stack = stack; seat = r.seat; lock = lock; seats = seats_make built r.history r.places r.seat s.views id v r.seats at live new e d by_it stays; noted = noted; few = r.few }
+          record { history = e ∷ r.history; places = set r.places v.number new; baton = b; stack = stack; seat = r.seat; lock = lock; seats = seats_make built r.history r.places r.seat s.views id v r.seats at live new e d by_it stays; noted = noted; makers = (subst (λ z. z < n) (sym by_it) (subst (λ z. v.number < z) r.lock.each (at_low r.places v.number v.place seat_is.placed)), r.makers); few = r.few }
 
       pub makes_told : (e : LockEntry T) (hand : List (ℕ × S)) → IsLegalLock (e ∷ r.history) → Makes e new d r.history hand v (makes v new d r.history e, hand)
       makes_told e hand legal = record { is = refl; goes = history_goes; legal = legal }

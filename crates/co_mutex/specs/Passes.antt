@@ -5,7 +5,7 @@ use Rattle.co_mutex.specs.declared.slot.Slot.TheVariants.{Out}
 use Rattle.co_mutex.specs.declared.lock.CoMutex.{CoMutex}
 use Rattle.co_mutex.specs.declared.lock.Pass.{Pass}
 use Rattle.co_mutex.specs.Places.{Place, Holds}
-use Rattle.co_mutex.specs.Known.{Known}
+use Rattle.co_mutex.specs.Known.{Known, new_known}
 
 module _ {P T N : Type 0} where
   -- the value that the lock was built with
@@ -41,3 +41,8 @@ module _ {P T N : Type 0} where
   pub record IsPassOf (m : CoMutex P T N) (p : Pass P T N) : Type 0 where
     pub of : IsOf m p
     pub hand : p.seat.me.1 ≡ hand_of p.seat.me.0.place
+
+  -- pass k of the lock, which has made no call
+  pub record IsNew (m : CoMutex P T N) (k : ℕ) (p : Pass P T N) : Type 0 where
+    pub is : IsPassOf m p
+    pub known_is : known p ≡ new_known (Some (built_of m)) (passes_of m) k []

@@ -3,7 +3,7 @@ use Rattle.std.specs.Prelude.{◌≡◌, ◌≢◌, ℕ, ◌≤◌, true, Some, 
 use mathlib.Core.Option.{some}
 use lib.ListN.{get_elem?}
 use Rattle.atomic_table.specs.Table.{State}
-use Rattle.aio_model.specs.LockHistory.{LockEntry, made_by, value_of}
+use Rattle.aio_model.specs.LockHistory.{LockEntry, made_by, value_of, AreBelow}
 use Rattle.aio_model.specs.LockNotes.{IsNoted}
 use Rattle.co_mutex.specs.Places.{Place, AtRest, is_owning}
 use Rattle.co_mutex.specs.declared.slot.Slot.{Slot}
@@ -43,4 +43,5 @@ module _ {T N : Type 0} (note : T → ℕ → N) where
     pub lock : Stands passes built history state.words state.homes places baton stack
     pub seats : SeatsStand built history places seat state.views
     pub noted : IsNoted note built history
+    pub makers : AreBelow passes history
     pub few : passes ≤ 64

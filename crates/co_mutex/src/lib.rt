@@ -2,6 +2,7 @@
 #![tactic(auto)]
 
 mod answers;
+mod built;
 mod ids;
 mod lends;
 mod lock;

@@ -54,3 +54,9 @@ pub struct Waiting {
 pub struct Busy {
     pub locked: u64,
 }
+
+/// There was no memory. The value comes back.
+#[derive(Drop)]
+pub struct Unmade<T> {
+    pub back: T,
+}
