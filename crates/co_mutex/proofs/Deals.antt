@@ -15,13 +15,11 @@ use Rattle.co_mutex.specs.LockWords.{word_count}
 use Rattle.co_mutex.specs.Rule.{Popped, Free}
 use Rattle.co_mutex.specs.Known.{Part, Known, new_known, spent_known}
 use Rattle.co_mutex.specs.Seats.{IsPart, IsSeat, SeatsStand, Kept}
+use Rattle.co_mutex.specs.Closing.{In}
 use Rattle.co_mutex.specs.Opening.{new_parts, first_of, part_of, parts_of, joined}
 use Rattle.co_mutex.proofs.Ends.{start_stands, all_rest}
 
 module _ {A : Type 0} where
-  abbrev pub In : A → List A → Type 0
-  In a xs = (k : ℕ) × (get_elem? xs k ≡ some a)
-
   pub at_append : (xs ys : List A) (k : ℕ) (a : A) → get_elem? (xs ++ ys) k ≡ some a → In a xs ⊎ In a ys
   at_append [] ys k a e = inr (k, e)
   at_append (x ∷ xs) ys zero a e = inl (0, e)
@@ -63,12 +61,12 @@ module _ {T : Type 0} where
       let less = t.1 in
       (t.0 ∙ ap (λ z. record { number = z; seen = []; mine = [] }) same, omega (arith, less))
 
-  reseat : (h : List (LockEntry T)) (seat other : ℕ → ℕ) (j k number : ℕ) (seen mine : List (LockEntry T)) → IsPart h seat j number seen mine → other number ≡ k → IsPart h other k number seen mine
+  pub reseat : (h : List (LockEntry T)) (seat other : ℕ → ℕ) (j k number : ℕ) (seen mine : List (LockEntry T)) → IsPart h seat j number seen mine → other number ≡ k → IsPart h other k number seen mine
   reseat h seat other j k number seen mine is e =
       record { sits = e; rest = is.rest; longer = is.longer; none_missed = is.none_missed; mine_is = is.mine_is }
 
   -- a seat whose parts all sit elsewhere now
-  moved_seat : (built : T) (h : List (LockEntry T)) (places : List Place) (seat other : ℕ → ℕ) (j k : ℕ) (u : Known T) → ((number : ℕ) → seat number ≡ j → (number ≡ u.number) ⊎ (number ≢ u.number) → other number ≡ k) → IsSeat built h places seat j u → IsSeat built h places other k u
+  pub moved_seat : (built : T) (h : List (LockEntry T)) (places : List Place) (seat other : ℕ → ℕ) (j k : ℕ) (u : Known T) → ((number : ℕ) → seat number ≡ j → (number ≡ u.number) ⊎ (number ≢ u.number) → other number ≡ k) → IsSeat built h places seat j u → IsSeat built h places other k u
   moved_seat built h places seat other j k u same is =
       record { opens = is.opens; sized = is.sized; placed = is.placed; part = reseat h seat other j k u.number u.seen u.mine is.part (same u.number is.part.sits (inl refl)); value = is.value; others = λ i x atx. (let t = is.others i x atx in (reseat h seat other j k x.number x.seen x.mine t.0 (same x.number t.0.sits (inr t.2)), t.1, t.2)) }
 

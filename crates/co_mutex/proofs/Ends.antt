@@ -72,6 +72,16 @@ module _ {T : Type 0} (n : ℕ) (built : T) (h : List (LockEntry T)) (words : Li
       empty [] e = refl
       empty (x ∷ xs) e = absurd (omega (arith, e))
 
+  -- the popped list is at home then
+  pub list_rests : Stands n built h words homes places b stack → EachPlace (λ p place. place ≡ AtRest) places → (popped : List ℕ) × (last : ℕ) × (get_elem? homes 1 ≡ some (some (Popped popped last)))
+  list_rests s rests =
+      let line = s.counts.line in
+      let none_in = count_none is_in_line places (λ p place at. ap is_in_line (rests p place at)) in
+      let found : slice_index words locked_at ≡ 0 = omega (arith, line, none_in) in
+      let free : b ≡ Free = free_at_zero b _ _ s.baton_stands.fit found in
+      let list = subst (λ k. Rattle.co_mutex.specs.Rule.ListIs k h words homes places stack) free s.lists.list in
+      (list.popped, list.last, list.there)
+
   -- the add never wraps, and the popped list never outgrows its room
   pub bounds : Stands n built h words homes places b stack → (slice_index words locked_at ≤ n) × (length (waiters_of h) ≤ n)
   bounds s =

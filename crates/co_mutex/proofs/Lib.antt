@@ -31,3 +31,4 @@ pub mod UnlockLoop
 pub mod LockCalls
 pub mod Deals
 pub mod Dealing
+pub mod Gathering

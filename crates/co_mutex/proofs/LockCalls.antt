@@ -1,5 +1,5 @@
 -- A lock is what begins it, and what finishes it.
-use Rattle.std.proofs.Common.{◌≡◌, ◌≢◌, ℕ, true, Some, None, List, [], ◌∷◌, ◌++◌, inl, inr, refl, sym, ap, ◌∙◌, subst}
+use Rattle.std.proofs.Common.{◌≡◌, ◌≢◌, ℕ, true, Some, None, List, [], ◌∷◌, ◌++◌, ◌⊎◌, ⊎_elim, inl, inr, refl, sym, ap, ◌∙◌, subst}
 use Rattle.aio_model.specs.LockHistory.{LockEntry, Got}
 use Rattle.co_mutex.specs.declared.lock.Guard.{Guard}
 use Rattle.co_mutex.specs.declared.answers.Lock.{Lock}
@@ -47,3 +47,10 @@ module _ {P T N : Type 0} (note : T → ℕ → N) (built : T) where
       by (Waits None) c = comes_from _ Counted _ v w steps c
       by (Waits (Some co)) c =
           (c.0, c.1, comes_from _ Counted _ v w steps c.2, record { older = c.3.older; last = c.3.last; named = c.3.named })
+
+pub did_begun : (before after : List Done) → (after ≡ done LockedCompare locked_at 0 ∷ before) ⊎ ((w : ℕ) × (w ≢ 0) × (after ≡ done LockedFetchAdd locked_at 0 ∷ done LockedCompare locked_at w ∷ before)) → Did locks before after
+did_begun before after told =
+    ⊎_elim
+    (λ e. record { steps = done LockedCompare locked_at 0 ∷ []; is = e; kinds = (refl, tt) })
+    (λ t. record { steps = done LockedFetchAdd locked_at 0 ∷ done LockedCompare locked_at t.0 ∷ []; is = t.2; kinds = (refl, (refl, tt)) })
+    told

@@ -11,3 +11,4 @@ pub mod Passes
 pub mod Waking
 pub mod Calls
 pub mod Lent
+pub mod Closing

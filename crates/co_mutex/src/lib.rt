@@ -3,6 +3,7 @@
 
 mod answers;
 mod built;
+mod closed;
 mod ids;
 mod lends;
 mod lock;
