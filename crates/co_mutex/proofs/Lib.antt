@@ -1,7 +1,7 @@
 pub mod Counting
 pub mod ListSteps
 pub mod Frames
-pub mod Waiting
+pub mod WaitLists
 pub mod Quiet
 pub mod QuietSteps
 pub mod Laws
@@ -32,3 +32,4 @@ pub mod LockCalls
 pub mod Deals
 pub mod Dealing
 pub mod Gathering
+pub mod TwoPasses

@@ -18,7 +18,7 @@ use Rattle.co_mutex.specs.Known.{LockedFetchSub, GrantSwap, Known, moves, learns
 use Rattle.co_mutex.specs.Seats.{Kept}
 use Rattle.co_mutex.specs.Plays.{done, Is, LeftAlone, LeftOthers, subbed, FindsGrant, TakesOwn, finds_at, swapped_grant}
 use Rattle.co_mutex.proofs.Frames.{owned_same}
-use Rattle.co_mutex.proofs.Waiting.{waits_front}
+use Rattle.co_mutex.proofs.WaitLists.{waits_front}
 use Rattle.co_mutex.proofs.BatonSteps.{mine, home, sub_last, sub_more}
 use Rattle.co_mutex.proofs.GrantSteps.{swapped}
 use Rattle.co_mutex.proofs.Histories.{noted_rest}

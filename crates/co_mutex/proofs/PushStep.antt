@@ -12,7 +12,7 @@ use Rattle.co_mutex.specs.LockWords.{locked_at, handoff_at, head_at, grant_at, w
 use Rattle.co_mutex.specs.declared.slot.Slot.{Slot}
 use Rattle.co_mutex.specs.Rule.{Baton, Free, Owned, Duty, Offered, Fit, IsAt, IsApart, grant_word, ListIs, IsLinked, IsNamed, Stands}
 use Rattle.co_mutex.proofs.Frames.{read_here, read_else, each_set, linked_kept, counts_after, is_at_kept}
-use Rattle.co_mutex.proofs.Waiting.{waits_front, waits_back, waits_either}
+use Rattle.co_mutex.proofs.WaitLists.{waits_front, waits_back, waits_either}
 use Rattle.co_mutex.proofs.ListSteps.{pushed_last}
 use Rattle.co_mutex.proofs.Quiet.{grant_same, value_kept, list_kept}
 use Rattle.std.proofs.Common.{length-append}

@@ -13,7 +13,7 @@ use Rattle.co_mutex.specs.declared.slot.Slot.{Slot}
 use Rattle.co_mutex.specs.Rule.{Baton, Free, Owned, Duty, Offered, EachPlace, IsAt, IsApart, one_if, Counts, BatonStands, grant_word, GrantsStand, ValueStands, IsTask, IsHome, IsWith, ListIs, IsLinked, ListsStand, IsNamed, NamesStand, LooksStand, Stands}
 use Rattle.co_mutex.proofs.Counting.{bit}
 use Rattle.co_mutex.proofs.Frames.{each_set, linked_kept, counts_after}
-use Rattle.co_mutex.proofs.Waiting.{stack_waits, left_waits}
+use Rattle.co_mutex.proofs.WaitLists.{stack_waits, left_waits}
 
 abbrev pub is_duty : Place → Bool
 is_duty (OnDuty side task) = true

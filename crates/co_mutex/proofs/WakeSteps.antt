@@ -16,7 +16,7 @@ use Rattle.co_mutex.specs.Rule.{Popped, Offered, Owned, Stands}
 use Rattle.co_mutex.specs.Known.{HeadSwap, NextLoad, WhoLoad, GrantStore, HandoffStore, SecondLook, Done, Known, moves, makes}
 use Rattle.co_mutex.specs.Seats.{Kept}
 use Rattle.co_mutex.specs.Plays.{done, Is, Swaps, swaps_at, swapped_head, Loads, loads_at, loaded_next, names_at, loaded_who, Grants, grants_at, stored_grant, stored_number, looks_at, looked}
-use Rattle.co_mutex.proofs.Waiting.{waits_front, waits_back}
+use Rattle.co_mutex.proofs.WaitLists.{waits_front, waits_back}
 use Rattle.co_mutex.proofs.DutySteps.{Steps, swap_found, swap_empty, swap_finds, next_loaded, who_loaded, waiters_now}
 use Rattle.co_mutex.proofs.GrantSteps.{unlock_grants, lock_grants, lock_grants_itself}
 use Rattle.co_mutex.proofs.BatonSteps.{published}
