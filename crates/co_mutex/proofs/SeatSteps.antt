@@ -1,0 +1,73 @@
+-- What the passes know after a step of one of them.
+use Rattle.std.proofs.Common.{◌≡◌, ◌≢◌, ℕ, ◌<◌, ⊎_elim, true, List, [], ◌∷◌, ◌++◌, set, length, length-set, refl, sym, ap, ◌∙◌, subst}
+use mathlib.Core.Option.{some}
+use lib.ListN.{get_elem?}
+use Rattle.atomic_table.proofs.Lists.{at_set, set_here, set_else}
+use Rattle.aio_model.specs.LockHistory.{LockEntry, maker_of, made_by, value_of, IsLegalLock}
+use Rattle.co_mutex.specs.Places.{Place, AtRest, is_owning}
+use Rattle.co_mutex.specs.Known.{Part, Done, Known, moves, learns, makes, Goes}
+use Rattle.co_mutex.specs.Seats.{IsPart, IsSeat, SeatsStand}
+use Rattle.co_mutex.proofs.QuietSteps.{at_low}
+use Rattle.co_mutex.proofs.Histories.{made_by-append, made_more, made_else}
+
+module _ {T : Type 0} where
+  pub made_whole : (h : List (LockEntry T)) (seat : ℕ → ℕ) (id number : ℕ) (seen mine : List (LockEntry T)) → IsPart h seat id number seen mine → made_by number h ≡ mine
+  made_whole h seat id number seen mine is =
+      ap (made_by number) is.longer ∙ made_by-append number is.rest seen ∙ ap (λ (l : List (LockEntry T)). l ++ made_by number seen) is.none_missed ∙ is.mine_is
+
+  part_made : (h : List (LockEntry T)) (seat : ℕ → ℕ) (e : LockEntry T) (id number : ℕ) (seen mine : List (LockEntry T)) → maker_of e ≢ number → IsPart h seat id number seen mine → IsPart (e ∷ h) seat id number seen mine
+  part_made h seat e id number seen mine ne is =
+      record { sits = is.sits; rest = e ∷ is.rest; longer = ap (λ (l : List (LockEntry T)). e ∷ l) is.longer; none_missed = made_else number e is.rest ne ∙ is.none_missed; mine_is = is.mine_is }
+
+  module _ (built : T) (h : List (LockEntry T)) (places : List Place) (seat : ℕ → ℕ) (views : List (Known T)) (id : ℕ) (v : Known T) (s : SeatsStand built h places seat views) (at : get_elem? views id ≡ some v) (live : v.live ≡ true) (new : Place) where
+    me : IsSeat built h places seat id v
+    me = s id v at live
+
+    pub goes_on : IsLegalLock h → Goes v h
+    goes_on legal =
+        record { others = me.part.rest; longer = me.part.longer; foreign = me.part.none_missed; all_mine = made_whole h seat id v.number v.seen v.mine me.part; legal = legal }
+
+    low : v.number < length places
+    low = at_low places v.number v.place me.placed
+
+    abbrev Keeps : List (LockEntry T) → Type 0
+    Keeps g = (j number : ℕ) (seen mine : List (LockEntry T)) → number ≢ v.number → IsPart h seat j number seen mine → IsPart g seat j number seen mine
+
+    keeps_made : (e : LockEntry T) → maker_of e ≡ v.number → Keeps (e ∷ h)
+    keeps_made e by_it j number seen mine ne is = part_made h seat e j number seen mine (λ q. ne (sym q ∙ by_it)) is
+
+    keeps_same : Keeps h
+    keeps_same j number seen mine ne is = is
+
+    abbrev pub ValueStays : List (LockEntry T) → Type 0
+    ValueStays g = (j : ℕ) (u : Known T) → j ≢ id → get_elem? views j ≡ some u → u.live ≡ true → is_owning u.place ≡ true → value_of built g ≡ value_of built h
+
+    my_others : (g : List (LockEntry T)) → Keeps g → (k : ℕ) (x : Part T) → get_elem? v.others k ≡ some x → IsPart g seat id x.number x.seen x.mine × (get_elem? (set places v.number new) x.number ≡ some AtRest) × (x.number ≢ v.number)
+    my_others g keep k x atk =
+        let t = me.others k x atk in
+        (keep id x.number x.seen x.mine t.2 t.0, set_else places v.number x.number new t.2 ∙ t.1, t.2)
+
+    seats_set : (g : List (LockEntry T)) (w : Known T) → Keeps g → ValueStays g → IsSeat built g (set places v.number new) seat id w → SeatsStand built g (set places v.number new) seat (set views id w)
+    seats_set g w keep stays mine j u atj lives =
+        ⊎_elim
+        (λ a. subst (λ z. IsSeat built g (set places v.number new) seat z u) (sym a.0) (subst (IsSeat built g (set places v.number new) seat id) a.1 mine))
+        (λ a. other a.0 a.1)
+        (at_set views id j w u atj)
+      where
+        other : j ≢ id → get_elem? views j ≡ some u → IsSeat built g (set places v.number new) seat j u
+        other ne atu =
+            let o = s j u atu lives in
+            let differs : u.number ≢ v.number = λ e. ne (sym o.part.sits ∙ ap seat e ∙ me.part.sits) in
+            record { opens = o.opens; sized = o.sized ∙ sym (length-set places v.number new); placed = set_else places v.number u.number new differs ∙ o.placed; part = keep j u.number u.seen u.mine differs o.part; value = λ owns. o.value owns ∙ sym (stays j u ne atu lives owns); others = λ k x atk. (let t = o.others k x atk in let far : x.number ≢ v.number = λ e. ne (sym t.0.sits ∙ ap seat e ∙ me.part.sits) in (keep j x.number x.seen x.mine far t.0, set_else places v.number x.number new far ∙ t.1, t.2)) }
+
+    pub seats_make : (e : LockEntry T) (d : Done) → maker_of e ≡ v.number → ValueStays (e ∷ h) → SeatsStand built (e ∷ h) (set places v.number new) seat (set views id (makes v new d h e))
+    seats_make e d by_it stays =
+        seats_set (e ∷ h) (makes v new d h e) (keeps_made e by_it) stays record { opens = me.opens; sized = me.sized ∙ sym (length-set places v.number new); placed = set_here places v.number new low; part = record { sits = me.part.sits; rest = []; longer = refl; none_missed = refl; mine_is = made_more v.number e h by_it ∙ ap (λ (l : List (LockEntry T)). e ∷ l) (made_whole h seat id v.number v.seen v.mine me.part) }; value = λ owns. refl; others = my_others (e ∷ h) (keeps_made e by_it) }
+
+    pub seats_learn : (d : Done) → SeatsStand built h (set places v.number new) seat (set views id (learns v new d h))
+    seats_learn d =
+        seats_set h (learns v new d h) keeps_same (λ j u ne atu lives owns. refl) record { opens = me.opens; sized = me.sized ∙ sym (length-set places v.number new); placed = set_here places v.number new low; part = record { sits = me.part.sits; rest = []; longer = refl; none_missed = refl; mine_is = made_whole h seat id v.number v.seen v.mine me.part }; value = λ owns. refl; others = my_others h keeps_same }
+
+    pub seats_move : (d : Done) → (is_owning new ≡ true → value_of built v.seen ≡ value_of built h) → SeatsStand built h (set places v.number new) seat (set views id (moves v new d))
+    seats_move d value =
+        seats_set h (moves v new d) keeps_same (λ j u ne atu lives owns. refl) record { opens = me.opens; sized = me.sized ∙ sym (length-set places v.number new); placed = set_here places v.number new low; part = me.part; value = value; others = my_others h keeps_same }

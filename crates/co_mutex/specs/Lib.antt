@@ -1,0 +1,14 @@
+pub mod Lists
+pub mod PoppedList
+pub mod Places
+pub mod LockWords
+pub mod Rule
+pub mod Known
+pub mod Seats
+pub mod Plays
+pub mod Opening
+pub mod Passes
+pub mod Waking
+pub mod Calls
+pub mod Lent
+pub mod Closing
