@@ -1,5 +1,5 @@
 -- Two seats that are joined keep the facts of all seats, and what each had seen is a part of the one history.
-use Rattle.std.proofs.Common.{◌≡◌, ◌≢◌, ℕ, ◌+◌, ◌<◌, ◌≤◌, Bool, true, false, cond, ltb, Some, List, [], ◌∷◌, ◌++◌, length, set, inl, inr, refl, sym, ap, ◌∙◌, subst, ⊎_elim, ◌⊎◌, arith, append-nil, length-append}
+use Rattle.std.proofs.Common.{◌≡◌, ◌≢◌, ℕ, ◌+◌, ◌≤◌, Bool, true, false, cond, ltb, Some, List, [], ◌∷◌, ◌++◌, length, set, inl, inr, refl, sym, ap, ◌∙◌, subst, ⊎_elim, ◌⊎◌, arith, append-nil, length-append}
 use Rattle.std.proofs.lemmas.Bool.{and_parts, and_from, not_from_false, not-true, lt-ltb, le-ltb, ltb-true, ltb-false, false_from_ne_true, cases_lt, cond-false}
 use mathlib.Core.Option.{some}
 use lib.ListN.{get_elem?}
@@ -116,6 +116,7 @@ module _ {E : Type 0} (seat_of : E → ℕ) where
             by_staying = rw less (sym a.mine_is);
             by_joining = rw less (own_behind (numbers_in w) a.rest mid.0 w.seen v.seen w.mine (subst (λ l. own_entries seat_of (numbers_in w) l ≡ []) mid.1 b.none_missed) mid.2 b.mine_is);
           }
+
   -- the longer one's rest has no entry of the two
   joined_seen : (h : List E) (v w : Part E) → w.first ≡ v.first + v.count → IsSeat seat_of h v → IsSeat seat_of h w → (rest : List E) × (h ≡ rest ++ longer_of v.seen w.seen) × (own_entries seat_of (both_numbers (numbers_in v) (numbers_in w)) rest ≡ [])
   joined_seen h v w next is theirs = by (ltb (length v.seen) (length w.seen)) refl
