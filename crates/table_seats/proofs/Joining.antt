@@ -1,5 +1,5 @@
 -- Two seats that are joined keep the facts of all seats, and what each had seen is a part of the one history.
-use Rattle.std.proofs.Common.{◌≡◌, ◌≢◌, ℕ, ◌+◌, ◌<◌, ◌≤◌, Bool, true, false, cond, ltb, Some, List, [], ◌∷◌, ◌++◌, length, set, inl, inr, refl, sym, ap, ◌∙◌, subst, ⊎_elim, ◌⊎◌, arith, append-nil, length-append}
+use Rattle.std.proofs.Common.{◌≡◌, ◌≢◌, ℕ, ◌+◌, ◌≤◌, Bool, true, false, cond, ltb, Some, List, [], ◌∷◌, ◌++◌, length, set, inl, inr, refl, sym, ap, ◌∙◌, subst, ⊎_elim, ◌⊎◌, arith, append-nil, length-append}
 use Rattle.std.proofs.lemmas.Bool.{and_parts, and_from, not_from_false, not-true, lt-ltb, le-ltb, ltb-true, ltb-false, false_from_ne_true, cases_lt, cond-false}
 use mathlib.Core.Option.{some}
 use lib.ListN.{get_elem?}

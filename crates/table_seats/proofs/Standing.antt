@@ -1,5 +1,5 @@
 -- A call that made entries stands in the history.
-use Rattle.std.proofs.Common.{◌≡◌, ℕ, ◌+◌, ◌<◌, Bool, true, false, cond, eqb, List, [], ◌∷◌, ◌++◌, refl, sym, ap, ◌∙◌, subst, append_assoc}
+use Rattle.std.proofs.Common.{◌≡◌, ℕ, ◌<◌, Bool, true, false, cond, eqb, List, [], ◌∷◌, ◌++◌, refl, sym, ap, ◌∙◌, subst, append_assoc}
 use Rattle.std.proofs.lemmas.Bool.{cond-true, eq-eqb, eqb-true}
 use Rattle.table_seats.specs.Seats.{Numbers, Part, numbers_in, owns, entries_of, own_entries, Makes}
 use Rattle.table_seats.specs.Calls.{EndsWith, StandsInHistory}

@@ -1,5 +1,5 @@
 -- How the part of a view that is about numbers is cut in two, and put together.
-use Rattle.std.specs.Prelude.{ℕ, ◌+◌, ◌-◌, ◌/◌, List, [], None, Some}
+use Rattle.std.specs.Prelude.{ℕ, ◌+◌, ◌-◌, ◌/◌, [], None, Some}
 use Rattle.table_seats.specs.Seats.{Numbers, Told, Part, numbers_in, longer_of, own_entries}
 
 -- the first numbers, so many, and the others
