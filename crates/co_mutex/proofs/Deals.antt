@@ -114,9 +114,9 @@ module _ {T N : Type 0} (note : T → ℕ → N) (n : ℕ) (built : T) where
       seats j u atj lives =
           ⊎_elim
           (λ a. ⊎_elim
-              (λ b. subst (λ z. IsSeat built r.history r.places seat z u) (sym b.0) (subst (IsSeat built r.history r.places seat id) b.1 left_seat))
-              (λ b. old j u b.0 b.1 lives)
-              (at_set s.views id j left u a))
+          (λ b. subst (λ z. IsSeat built r.history r.places seat z u) (sym b.0) (subst (IsSeat built r.history r.places seat id) b.1 left_seat))
+          (λ b. old j u b.0 b.1 lives)
+          (at_set s.views id j left u a))
           (λ a. subst (λ z. IsSeat built r.history r.places seat z u) (sym (a.0 ∙ length-set s.views id left)) (subst (IsSeat built r.history r.places seat (length s.views)) a.1 front_seat))
           (at_snoc_index (set s.views id left) (new_known o size p []) u j atj)
 

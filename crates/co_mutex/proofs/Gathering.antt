@@ -73,9 +73,9 @@ module _ {T N : Type 0} (note : T → ℕ → N) (n : ℕ) (built : T) where
           ⊎_elim
           (λ a. absurd (let dead : false ≡ true = ap (λ (z : Known T). z.live) a.1 ∙ living in cc))
           (λ a. ⊎_elim
-              (λ b. subst (λ z. IsSeat built r.history r.places seat z u) (sym b.0) (subst (IsSeat built r.history r.places seat id) b.1 both))
-              (λ b. moved_seat built r.history r.places r.seat seat j j u (λ number sits which. stays number j a.0 sits) (r.seats j u b.1 living))
-              (at_set s.views id j (joined v w) u a.1))
+          (λ b. subst (λ z. IsSeat built r.history r.places seat z u) (sym b.0) (subst (IsSeat built r.history r.places seat id) b.1 both))
+          (λ b. moved_seat built r.history r.places r.seat seat j j u (λ number sits which. stays number j a.0 sits) (r.seats j u b.1 living))
+          (at_set s.views id j (joined v w) u a.1))
           (at_set (set s.views id (joined v w)) other j spent_known u atj)
 
   -- what the rule tells at the end of all passes of one seat

@@ -20,11 +20,7 @@ impl LockRule for Number {
 }
 
 /// A lock with this value, and its two passes.
-fn two<R: Abort>(
-    rt: &R,
-    alloc: Global,
-    value: u64,
-) -> (CoMutex<Number>, Pass<Number>, Pass<Number>)
+fn two<R: Abort>(rt: &R, alloc: Global, value: u64) -> (CoMutex<Number>, Pass<Number>, Pass<Number>)
     ensures size { passes_of result.0 ≡ 2 }
     ensures first { IsNew result.0 0 result.1 }
     ensures second { IsNew result.0 1 result.2 }

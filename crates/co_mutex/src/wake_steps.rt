@@ -128,9 +128,7 @@ impl<P: LockRule> CoMutex<P> {
         ensures pass { IsOf self.now pass.new }
         ensures step { pass.new.seat.me ≡ (moves (known pass.old) (cond (result == 0) AtRest (Found number)) (done SecondLook head_at result), []) }
     {
-        self.table
-            .shared
-            .load::<LookAgain>(&mut pass.seat, HEAD)
+        self.table.shared.load::<LookAgain>(&mut pass.seat, HEAD)
     }
 
     pub(crate) fn take_back(&self, pass: &mut Pass<P>, number: u64) -> u64
