@@ -32,4 +32,3 @@ pub mod LockCalls
 pub mod Deals
 pub mod Dealing
 pub mod Gathering
-pub mod TwoPasses

@@ -26,8 +26,6 @@ mod queuing;
 mod rule;
 mod slot;
 mod steps;
-#[cfg(test)]
-mod tests;
 mod unlocking;
 mod view;
 mod wake_steps;
