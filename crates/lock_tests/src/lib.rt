@@ -1,0 +1,10 @@
+//! Tests of the lock of coroutines, by the public calls of `co_mutex` alone.
+#![tactic(auto)]
+
+mod hand;
+mod number;
+mod player;
+
+pub use hand::{Answer, Hand, Turn};
+pub use number::Number;
+pub use player::Player;
