@@ -1,6 +1,9 @@
 //! Tests of the lock of coroutines, by the public calls of `co_mutex` alone.
 #![tactic(auto)]
 
+#[cfg(test)]
+mod adders;
+mod closing;
 mod hand;
 mod number;
 mod player;
