@@ -4,6 +4,7 @@
 #[cfg(test)]
 mod adders;
 mod closing;
+mod crew;
 mod hand;
 mod number;
 mod player;
