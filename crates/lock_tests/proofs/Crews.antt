@@ -7,6 +7,7 @@ use Rattle.co_mutex.proofs.Deals.{at_snoc_index}
 use Rattle.lock_tests.specs.declared.number.Number.{Number}
 use Rattle.lock_tests.specs.declared.player.Player.{Player}
 use Rattle.lock_tests.specs.Crews.{IsPlayerOf, AreOf}
+use Rattle.lock_tests.proofs.Decks.{at_front, at_end}
 
 module _ {A : Type 0} where
   pub at_index : (xs : List A) (k : ℕ) (d : A) → k < length xs → get_elem? xs k ≡ some (slice_index_or xs k d)
@@ -50,3 +51,18 @@ module _ (m : CoMutex Number ℕ ℕ) (n : ℕ) where
   pub was_there : (xs : List (Option Player)) (k : ℕ) (d found : Option Player) (q : Player) → AreOf m n xs → k < length xs → found ≡ slice_index_or xs k d → Some q ≡ found → IsPlayerOf m n k q
   was_there xs k d found q each low is here =
       each k q (at_index xs k d low ∙ ap some (sym is ∙ sym here))
+
+  -- one comes behind all
+  pub comes_behind : (old new : List (Option Player)) (q : Player) → new ≡ old ++ Some q ∷ [] → AreOf m n old → IsPlayerOf m n (length old) q → AreOf m n new
+  comes_behind old new q e each last k p at =
+      ⊎_elim (λ t. each k p t) (λ t. subst (λ z. IsPlayerOf m n z p) (sym t.0) (subst (IsPlayerOf m n (length old)) (ap (player_in q) t.1) last)) (at_snoc_index old (Some q) (Some p) k (subst (λ (l : List (Option Player)). get_elem? l k ≡ some (Some p)) e at))
+
+  -- the last one
+  pub was_last : (old new : List (Option Player)) (q : Player) → old ≡ new ++ Some q ∷ [] → AreOf m n old → IsPlayerOf m n (length new) q
+  was_last old new q e each =
+      each (length new) q (subst (λ (l : List (Option Player)). get_elem? l (length new) ≡ some (Some q)) (sym e) (at_end new (Some q)))
+
+  -- and those before it
+  pub were_before : (old new : List (Option Player)) (seat : Option Player) → old ≡ new ++ seat ∷ [] → AreOf m n old → AreOf m n new
+  were_before old new seat e each k q at =
+      each k q (subst (λ (l : List (Option Player)). get_elem? l k ≡ some (Some q)) (sym e) (at_front new seat (Some q) k at))

@@ -15,6 +15,16 @@ there_is [] k low = absurd (omega (arith, low))
 there_is (x ∷ xs) zero low = (x, refl)
 there_is (x ∷ xs) (suc k) low = there_is xs k (omega (arith, low))
 
+module _ {A : Type 0} where
+  pub at_front : (xs : List A) (p q : A) (k : ℕ) → get_elem? xs k ≡ some q → get_elem? (xs ++ p ∷ []) k ≡ some q
+  at_front [] p q k at = absurd (some-ne-none q (sym at))
+  at_front (x ∷ xs) p q zero at = at
+  at_front (x ∷ xs) p q (suc k) at = at_front xs p q k at
+
+  pub at_end : (xs : List A) (p : A) → get_elem? (xs ++ p ∷ []) (length xs) ≡ some p
+  at_end [] p = refl
+  at_end (x ∷ xs) p = at_end xs p
+
 module _ {P T N : Type 0} (m : CoMutex P T N) where
   pub new_rest : (k : ℕ) (p : Pass P T N) → IsNew m k p → IsResting m k p
   new_rest k p new =
@@ -31,15 +41,6 @@ module _ {P T N : Type 0} (m : CoMutex P T N) where
   pub one_more : (old new : List (Pass P T N)) (p : Pass P T N) → new ≡ old ++ p ∷ [] → AreResting m old → IsResting m (length old) p → AreResting m new
   one_more old new p e each last k q at =
       ⊎_elim (λ t. each k q t) (λ t. subst (λ z. IsResting m z q) (sym t.0) (subst (IsResting m (length old)) t.1 last)) (at_snoc_index old p q k (subst (λ (l : List (Pass P T N)). get_elem? l k ≡ some q) e at))
-
-  at_front : (xs : List (Pass P T N)) (p q : Pass P T N) (k : ℕ) → get_elem? xs k ≡ some q → get_elem? (xs ++ p ∷ []) k ≡ some q
-  at_front [] p q k at = absurd (some-ne-none q (sym at))
-  at_front (x ∷ xs) p q zero at = at
-  at_front (x ∷ xs) p q (suc k) at = at_front xs p q k at
-
-  at_end : (xs : List (Pass P T N)) (p : Pass P T N) → get_elem? (xs ++ p ∷ []) (length xs) ≡ some p
-  at_end [] p = refl
-  at_end (x ∷ xs) p = at_end xs p
 
   -- the last one, and those before it
   pub last_one : (old new : List (Pass P T N)) (p : Pass P T N) → old ≡ new ++ p ∷ [] → AreResting m old → IsResting m (length new) p

@@ -14,6 +14,13 @@ use std::mem;
 use std::process::Abort;
 use std::sync::Wait;
 
+fn number_of<R: Abort>(rt: &R, count: usize) -> u32 {
+    match u32::try_from(count) {
+        Ok(number) => number,
+        Err(_) => panic!(rt; "{count} is no number of a pass"),
+    }
+}
+
 /// A player for each pass, the last pass first. The coroutine of each has its number.
 pub fn dealt<R: Abort>(
     rt: &R,
@@ -32,7 +39,7 @@ pub fn dealt<R: Abort>(
     };
     while let Some(pass) = passes.pop() {
         let co = CoId {
-            co: passes.len() as u32,
+            co: number_of(rt, passes.len()),
             home: 0,
         };
         players.push_reserved(Some(Player::of(pass, co)));

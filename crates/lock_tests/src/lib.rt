@@ -8,6 +8,8 @@ mod crew;
 mod hand;
 mod number;
 mod player;
+#[cfg(test)]
+mod rows;
 
 pub use hand::{Answer, Hand, Turn};
 pub use number::Number;
