@@ -131,3 +131,50 @@ fn who_is_counted_takes_the_hand_off(rt: HostRuntime) {
     assert_eq!(rt; after_rows(&rt, rt.alloc(), 3, &OVERTAKEN), 8);
     assert_eq!(rt; after_rows(&rt, rt.alloc(), 3, &TWO_LATER), 8);
 }
+
+/// The first pass holds, and all others queue behind it.
+fn all_queue<R: Wait + Abort>(rt: &R, lock: &CoMutex<Number>, players: &mut Vec<Option<Player>>)
+    requires each { AreOf lock.now (vec_len players.old) players.old.items }
+    ensures each { AreOf lock.now (vec_len players.new) players.new.items }
+    ensures count { vec_len players.new ≡ vec_len players.old }
+{
+    assert_eq!(rt; play(rt, lock, players, 0, Turn::Lock), Answer::Held(5));
+    for number in 1..64usize {
+        let answer = play(rt, lock, players, number, Turn::Lock);
+        assert_eq!(rt; answer, Answer::Queued(None), "of pass {number}");
+    }
+}
+
+/// Each pass adds 1 and unlocks, which names the next.
+fn all_take<R: Wait + Abort>(rt: &R, lock: &CoMutex<Number>, players: &mut Vec<Option<Player>>)
+    requires each { AreOf lock.now (vec_len players.old) players.old.items }
+    ensures each { AreOf lock.now (vec_len players.new) players.new.items }
+    ensures count { vec_len players.new ≡ vec_len players.old }
+{
+    for next in 1..64u32 {
+        let number = next as usize;
+        let named = CoId { co: next, home: 0 };
+        let answer = play(rt, lock, players, number - 1, Turn::Unlock(1));
+        assert_eq!(rt; answer, Answer::Unlocked(Some(named)), "before {number}");
+        let answer = play(rt, lock, players, number, Turn::Resumed);
+        assert_eq!(rt;
+            answer,
+            Answer::Held(u64::from(next) + 5),
+            "of pass {number}"
+        );
+    }
+    assert_eq!(rt;
+        play(rt, lock, players, 63, Turn::Unlock(1)),
+        Answer::Unlocked(None)
+    );
+}
+
+#[test]
+fn each_of_64_passes_is_named_in_its_turn(rt: HostRuntime) {
+    let (lock, passes) = built(&rt, rt.alloc(), 5, 64);
+    let mut players = dealt(&rt, rt.alloc(), &lock, passes);
+    all_queue(&rt, &lock, &mut players);
+    all_take(&rt, &lock, &mut players);
+    let passes = returned(&rt, rt.alloc(), &lock, players);
+    assert_eq!(rt; closed(lock, passes), 69);
+}
