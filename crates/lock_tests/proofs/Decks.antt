@@ -4,9 +4,8 @@ use mathlib.Core.Option.{some, some-ne-none}
 use lib.ListN.{get_elem?}
 use Rattle.co_mutex.specs.declared.lock.CoMutex.{CoMutex}
 use Rattle.co_mutex.specs.declared.lock.Pass.{Pass}
-use Rattle.co_mutex.specs.Places.{AtRest}
-use Rattle.co_mutex.specs.Passes.{IsPassOf, IsNew, passes_of, known}
-use Rattle.co_mutex.specs.Closing.{In, AreAll}
+use Rattle.co_mutex.specs.Passes.{IsNew, passes_of}
+use Rattle.co_mutex.specs.Closing.{AreAll}
 use Rattle.co_mutex.proofs.Deals.{at_snoc_index}
 use Rattle.lock_tests.specs.Decks.{IsResting, AreResting}
 

@@ -1,5 +1,5 @@
 use Rattle.std.proofs.Common.{◌≡◌, ◌+◌, vec_len, length, subst, arith}
-use Rattle.lock_tests.specs.Decks.{IsResting, AreResting}
+use Rattle.lock_tests.specs.Decks.{IsResting}
 use Rattle.lock_tests.proofs.Decks.{last_one, before_it}
 use Rattle.lock_tests.proofs.adders.pair.Goals as goal
 

@@ -29,5 +29,5 @@ loop-pass-preserved g c =
       before_it m c.loop-pass.passes.items c.pop.new.self.items c.in-Some.pass last inv.0,
       omega (arith, all, less, longer),
       omega (arith, room, same),
-      comes_behind m n c.loop-pass.players.items _ c.of.result c.push_reserved.ensures.items inv.3 fit,
+      comes_behind m n c.loop-pass.players.items c.push_reserved.new.self.items c.of.result c.push_reserved.ensures.items inv.3 fit,
     )

@@ -1,4 +1,4 @@
-use Rattle.std.proofs.Common.{◌≡◌, ℕ, ◌+◌, ◌-◌, ◌<◌, length, slice_set, refl, sym, ap, ◌∙◌, subst, arith}
+use Rattle.std.proofs.Common.{◌+◌, ◌<◌, length, slice_set, ap, ◌∙◌, arith}
 use Rattle.lock_tests.specs.Crews.{IsPlayerOf}
 use Rattle.lock_tests.proofs.Crews.{goes, comes, was_there}
 use Rattle.lock_tests.proofs.crew.play.Goals as goal

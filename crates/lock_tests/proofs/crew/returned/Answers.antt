@@ -22,7 +22,7 @@ loop-seat-preserved g c =
     let number = there.1 in
     let at : (known c.in-Some-seat.player.pass).number ≡ length c.loop-seat.passes.items = omega (arith, number, all, less, a, b) in
     let fit : IsResting m (length c.loop-seat.passes.items) c.into_pass.result = (subst (IsPassOf m) (sym c.into_pass.ensures.pass) there.0, c.into_pass.ensures.rest, ap (λ p. (known p).number) c.into_pass.ensures.pass ∙ at) in (
-      one_more m c.loop-seat.passes.items _ c.into_pass.result c.push_reserved.ensures.items inv.0 fit,
+      one_more m c.loop-seat.passes.items c.push_reserved.new.self.items c.into_pass.result c.push_reserved.ensures.items inv.0 fit,
       omega (arith, all, less, longer),
       omega (arith, room, same),
       were_before m n c.loop-seat.players.items c.pop.new.self.items c.in-Some.seat last inv.3,
