@@ -11,6 +11,7 @@ use co_state::CoId;
 use std::process::Abort;
 use std::sync::Wait;
 use std::sync::atomic::{AtomicU64, Ordering};
+use std::test::Fail;
 use std::thread::{Threads, join, yield_now};
 
 /// The bell of each coroutine: how often it was woken.
@@ -187,7 +188,7 @@ fn put_back<R: Abort>(
 }
 
 #[test]
-fn four_threads_add_forty_thousand(rt: HostRuntime) {
+fn four_threads_add_forty_thousand(rt: HostRuntime) -> Result<(), Fail> {
     let (lock, mut passes) = built(&rt, rt.alloc(), 0, 4);
     let high = pair(&rt, &lock, &mut passes);
     let low = pair(&rt, &lock, &mut passes);
@@ -201,4 +202,12 @@ fn four_threads_add_forty_thousand(rt: HostRuntime) {
     put_back(&rt, &lock, &mut passes, low);
     put_back(&rt, &lock, &mut passes, high);
     assert_eq!(rt; closed(lock, passes), 40_000);
+    let low = bells[0]
+        .load(Ordering::SeqCst)
+        .wrapping_add(bells[1].load(Ordering::SeqCst));
+    let high = bells[2]
+        .load(Ordering::SeqCst)
+        .wrapping_add(bells[3].load(Ordering::SeqCst));
+    println!(rt; "{} of 40000 locks slept", low.wrapping_add(high))?;
+    Ok(())
 }
