@@ -14,13 +14,28 @@ use std::sync::atomic::{AtomicU64, Ordering};
 use std::test::Fail;
 use std::thread::{Threads, join, yield_now};
 
-/// The bell of each coroutine: how often it was woken.
-pub type Bells = [AtomicU64; 4];
+/// The bell of each coroutine, which tells how often it was woken, and how many threads have begun.
+#[derive(Drop)]
+pub struct Bells {
+    rung: [AtomicU64; 4],
+    begun: AtomicU64,
+}
+
+/// Waits until all four threads have begun.
+fn begin<R: Wait>(rt: &R, bells: &Bells) {
+    bells.begun.fetch_add(1, Ordering::SeqCst);
+    for _ in rt.forever() {
+        if bells.begun.load(Ordering::SeqCst) >= 4 {
+            return;
+        }
+        yield_now();
+    }
+}
 
 /// Rings the bell of the coroutine that was named.
 fn wake(bells: &Bells, named: Option<CoId>) {
     if let Some(co) = named {
-        if let Some(bell) = bells.get(co.co as usize) {
+        if let Some(bell) = bells.rung.get(co.co as usize) {
             bell.fetch_add(1, Ordering::SeqCst);
         }
     }
@@ -29,7 +44,7 @@ fn wake(bells: &Bells, named: Option<CoId>) {
 /// Sleeps until the bell of this coroutine was rung once more.
 fn sleep<R: Wait>(rt: &R, bells: &Bells, co: CoId, woken: u64) {
     for _ in rt.forever() {
-        if let Some(bell) = bells.get(co.co as usize) {
+        if let Some(bell) = bells.rung.get(co.co as usize) {
             if bell.load(Ordering::SeqCst) > woken {
                 return;
             }
@@ -83,6 +98,7 @@ fn add_all<R: Wait + Abort>(
         co: number,
         home: 0,
     };
+    begin(rt, bells);
     let mut pass = pass;
     let mut woken = 0u64;
     for _ in 0..times {
@@ -192,22 +208,25 @@ fn four_threads_add_forty_thousand(rt: HostRuntime) -> Result<(), Fail> {
     let (lock, mut passes) = built(&rt, rt.alloc(), 0, 4);
     let high = pair(&rt, &lock, &mut passes);
     let low = pair(&rt, &lock, &mut passes);
-    let bells = [
-        AtomicU64::new(0),
-        AtomicU64::new(0),
-        AtomicU64::new(0),
-        AtomicU64::new(0),
-    ];
+    let bells = Bells {
+        rung: [
+            AtomicU64::new(0),
+            AtomicU64::new(0),
+            AtomicU64::new(0),
+            AtomicU64::new(0),
+        ],
+        begun: AtomicU64::new(0),
+    };
     let (low, high) = four_add(&rt, &lock, low, high, &bells, 10_000);
     put_back(&rt, &lock, &mut passes, low);
     put_back(&rt, &lock, &mut passes, high);
     assert_eq!(rt; closed(lock, passes), 40_000);
-    let low = bells[0]
+    let low = bells.rung[0]
         .load(Ordering::SeqCst)
-        .wrapping_add(bells[1].load(Ordering::SeqCst));
-    let high = bells[2]
+        .wrapping_add(bells.rung[1].load(Ordering::SeqCst));
+    let high = bells.rung[2]
         .load(Ordering::SeqCst)
-        .wrapping_add(bells[3].load(Ordering::SeqCst));
+        .wrapping_add(bells.rung[3].load(Ordering::SeqCst));
     println!(rt; "{} of 40000 locks slept", low.wrapping_add(high))?;
     Ok(())
 }
