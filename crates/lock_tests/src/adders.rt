@@ -1,0 +1,232 @@
+//! Threads that each take the lock over and over and add 1, and wake each coroutine that is named.
+ghost use Rattle.std.specs.Prelude.{◌≡◌, ◌<◌, ◌+◌, vec_len};
+ghost use Rattle.co_mutex.specs.Places.{AtRest, Holds};
+ghost use Rattle.co_mutex.specs.Passes.{IsPassOf, known};
+ghost use Rattle.lock_tests.specs.Decks.{IsResting, AreResting};
+
+use crate::closing::{built, closed};
+use crate::number::Number;
+use co_mutex::{CoMutex, Guard, Lock, Pass};
+use co_state::CoId;
+use std::process::Abort;
+use std::sync::Wait;
+use std::sync::atomic::{AtomicU64, Ordering};
+use std::test::Fail;
+use std::thread::{Threads, join, yield_now};
+
+/// The bell of each coroutine, which tells how often it was woken, and how many threads have begun.
+#[derive(Drop)]
+pub struct Bells {
+    rung: [AtomicU64; 4],
+    begun: AtomicU64,
+}
+
+/// Waits until all four threads have begun.
+fn begin<R: Wait>(rt: &R, bells: &Bells) {
+    bells.begun.fetch_add(1, Ordering::SeqCst);
+    for _ in rt.forever() {
+        if bells.begun.load(Ordering::SeqCst) >= 4 {
+            return;
+        }
+        yield_now();
+    }
+}
+
+/// Rings the bell of the coroutine that was named.
+fn wake(bells: &Bells, named: Option<CoId>) {
+    if let Some(co) = named {
+        if let Some(bell) = bells.rung.get(co.co as usize) {
+            bell.fetch_add(1, Ordering::SeqCst);
+        }
+    }
+}
+
+/// Sleeps until the bell of this coroutine was rung once more.
+fn sleep<R: Wait>(rt: &R, bells: &Bells, co: CoId, woken: u64) {
+    for _ in rt.forever() {
+        if let Some(bell) = bells.rung.get(co.co as usize) {
+            if bell.load(Ordering::SeqCst) > woken {
+                return;
+            }
+        }
+        yield_now();
+    }
+}
+
+/// Takes the lock, and sleeps where it isn't free. The one wake finds the lock granted.
+fn take<R: Wait + Abort>(
+    rt: &R,
+    lock: &CoMutex<Number>,
+    pass: &mut Pass<Number>,
+    bells: &Bells,
+    co: CoId,
+    woken: &mut u64,
+) -> Guard<Number>
+    requires pass { IsPassOf lock.now pass.old }
+    requires rest { (known pass.old).place ≡ AtRest }
+    ensures pass { IsPassOf lock.now pass.new }
+    ensures holds { (known pass.new).place ≡ Holds }
+    ensures same { (known pass.new).number ≡ (known pass.old).number }
+{
+    match lock.lock(rt, pass, co) {
+        Lock::Held(guard) => guard,
+        Lock::Queued(named) => {
+            wake(bells, named);
+            sleep(rt, bells, co, *woken);
+            *woken = woken.wrapping_add(1);
+            match lock.resumed(pass) {
+                Lock::Held(guard) => guard,
+                Lock::Queued(_) => panic!(rt; "{} was woken and not granted the lock", co.co),
+            }
+        }
+    }
+}
+
+/// Takes the lock so many times and adds 1, with the pass of this number.
+fn add_all<R: Wait + Abort>(
+    rt: &R,
+    lock: &CoMutex<Number>,
+    pass: Pass<Number>,
+    bells: &Bells,
+    number: u32,
+    times: u32,
+) -> Pass<Number>
+    requires pass { IsResting lock.now number pass }
+    ensures pass { IsResting lock.now number result }
+{
+    let co = CoId {
+        co: number,
+        home: 0,
+    };
+    begin(rt, bells);
+    let mut pass = pass;
+    let mut woken = 0u64;
+    for _ in 0..times {
+        let mut guard = take(rt, lock, &mut pass, bells, co, &mut woken);
+        let value = guard.value();
+        *value = value.wrapping_add(1);
+        wake(bells, lock.unlock(rt, &mut pass, guard));
+    }
+    pass
+}
+
+/// Two passes at once, of which the first has this number.
+fn two_add<R: Threads + Wait + Abort + Sync>(
+    rt: &R,
+    lock: &CoMutex<Number>,
+    first: Pass<Number>,
+    second: Pass<Number>,
+    bells: &Bells,
+    number: u32,
+    times: u32,
+) -> (Pass<Number>, Pass<Number>)
+    requires number { number < 4 }
+    requires first { IsResting lock.now number first }
+    requires second { IsResting lock.now (number + 1) second }
+    ensures first { IsResting lock.now number result.0 }
+    ensures second { IsResting lock.now (number + 1) result.1 }
+{
+    let next = number + 1;
+    join(
+        rt,
+        || -> Pass<Number>
+            requires { IsResting lock.now number first }
+            ensures { IsResting lock.entry.now number result }
+        { add_all(rt, lock, first, bells, number, times) },
+        || -> Pass<Number>
+            requires { IsResting lock.now next second }
+            ensures { IsResting lock.entry.now next result }
+        { add_all(rt, lock, second, bells, next, times) },
+    )
+}
+
+/// Four passes at once, each on a thread of its own.
+fn four_add<R: Threads + Wait + Abort + Sync>(
+    rt: &R,
+    lock: &CoMutex<Number>,
+    low: (Pass<Number>, Pass<Number>),
+    high: (Pass<Number>, Pass<Number>),
+    bells: &Bells,
+    times: u32,
+) -> ((Pass<Number>, Pass<Number>), (Pass<Number>, Pass<Number>))
+    requires low { IsResting lock.now 0 low.0 × IsResting lock.now 1 low.1 }
+    requires high { IsResting lock.now 2 high.0 × IsResting lock.now 3 high.1 }
+    ensures low { IsResting lock.now 0 result.0.0 × IsResting lock.now 1 result.0.1 }
+    ensures high { IsResting lock.now 2 result.1.0 × IsResting lock.now 3 result.1.1 }
+{
+    join(
+        rt,
+        || -> (Pass<Number>, Pass<Number>)
+            requires { IsResting lock.now 0 low.0 × IsResting lock.now 1 low.1 }
+            ensures { IsResting lock.entry.now 0 result.0 × IsResting lock.entry.now 1 result.1 }
+        { two_add(rt, lock, low.0, low.1, bells, 0, times) },
+        || -> (Pass<Number>, Pass<Number>)
+            requires { IsResting lock.now 2 high.0 × IsResting lock.now 3 high.1 }
+            ensures { IsResting lock.entry.now 2 result.0 × IsResting lock.entry.now 3 result.1 }
+        { two_add(rt, lock, high.0, high.1, bells, 2, times) },
+    )
+}
+
+fn pair<R: Abort>(
+    rt: &R,
+    lock: &CoMutex<Number>,
+    passes: &mut Vec<Pass<Number>>,
+) -> (Pass<Number>, Pass<Number>)
+    requires each { AreResting lock.now passes.old.items }
+    ensures each { AreResting lock.now passes.new.items }
+    ensures count { vec_len passes.new + 2 ≡ vec_len passes.old }
+    ensures pair { IsResting lock.now (vec_len passes.new) result.0 × IsResting lock.now (vec_len passes.new + 1) result.1 }
+{
+    let Some(second) = passes.pop() else {
+        panic!(rt; "there are two passes")
+    };
+    let Some(first) = passes.pop() else {
+        panic!(rt; "there are two passes")
+    };
+    (first, second)
+}
+
+fn put_back<R: Abort>(
+    rt: &R,
+    lock: &CoMutex<Number>,
+    passes: &mut Vec<Pass<Number>>,
+    both: (Pass<Number>, Pass<Number>),
+)
+    requires each { AreResting lock.now passes.old.items }
+    requires pair { IsResting lock.now (vec_len passes.old) both.0 × IsResting lock.now (vec_len passes.old + 1) both.1 }
+    ensures each { AreResting lock.now passes.new.items }
+    ensures count { vec_len passes.new ≡ vec_len passes.old + 2 }
+{
+    assert!(rt; passes.capacity() - passes.len() >= 2);
+    let (first, second) = both;
+    passes.push_reserved(first);
+    passes.push_reserved(second);
+}
+
+#[test]
+fn four_threads_add_forty_thousand(rt: HostRuntime) -> Result<(), Fail> {
+    let (lock, mut passes) = built(&rt, rt.alloc(), 0, 4);
+    let high = pair(&rt, &lock, &mut passes);
+    let low = pair(&rt, &lock, &mut passes);
+    let bells = Bells {
+        rung: [
+            AtomicU64::new(0),
+            AtomicU64::new(0),
+            AtomicU64::new(0),
+            AtomicU64::new(0),
+        ],
+        begun: AtomicU64::new(0),
+    };
+    let (low, high) = four_add(&rt, &lock, low, high, &bells, 10_000);
+    put_back(&rt, &lock, &mut passes, low);
+    put_back(&rt, &lock, &mut passes, high);
+    assert_eq!(rt; closed(lock, passes), 40_000);
+    let low = bells.rung[0]
+        .load(Ordering::SeqCst)
+        .wrapping_add(bells.rung[1].load(Ordering::SeqCst));
+    let high = bells.rung[2]
+        .load(Ordering::SeqCst)
+        .wrapping_add(bells.rung[3].load(Ordering::SeqCst));
+    println!(rt; "{} of 40000 locks slept", low.wrapping_add(high))?;
+    Ok(())
+}

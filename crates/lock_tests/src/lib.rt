@@ -1,0 +1,16 @@
+//! Tests of the lock of coroutines, by the public calls of `co_mutex` alone.
+#![tactic(auto)]
+
+#[cfg(test)]
+mod adders;
+mod closing;
+mod crew;
+mod hand;
+mod number;
+mod player;
+#[cfg(test)]
+mod rows;
+
+pub use hand::{Answer, Hand, Turn};
+pub use number::Number;
+pub use player::Player;
