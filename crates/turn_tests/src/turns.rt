@@ -69,3 +69,56 @@ fn calls_in_order(rt: HostRuntime) -> Result<(), Fail> {
     );
     Ok(())
 }
+
+/// A turn that is to block, with nothing but a timer that expires later, sleeps until then on its clock.
+#[test]
+fn sleeps_until_its_timer(rt: HostRuntime) -> Result<(), Fail> {
+    let Ok(
+        Built {
+            table,
+            home,
+            seat: _,
+        },
+    ) = LoopTable::<u64>::build(rt.alloc(), 1, 0, 1)
+    else {
+        return Err(Fail::from("no memory"));
+    };
+    let Ok(
+        LotBuilt {
+            pool,
+            home: lot_pass,
+            pass: _,
+        },
+    ) = LotPool::build(&rt, rt.alloc(), 1, 0)
+    else {
+        return Err(Fail::from("no memory"));
+    };
+    let (Ok(handlers), Ok(mut timers)) = (
+        Handlers::build(rt.alloc(), 1),
+        Timers::build(rt.alloc(), 1),
+    ) else {
+        return Err(Fail::from("no memory"));
+    };
+    let Some(timer) = timers.add() else {
+        return Err(Fail::from("no room"));
+    };
+    timers.arm(timer, 50);
+    let mut home_loop = AioLoop {
+        table: &table,
+        pool: &pool,
+        lot_pass,
+        home,
+        side: Side { handlers, timers },
+    };
+    let mut notes = Notes::none();
+    let mut clock = StepClock { now: 5 };
+    let early = home_loop.turn(&rt, &mut notes, &mut clock, false);
+    assert_eq!(rt; (early.progress, early.slept, clock.now), (false, false, 5));
+    let turned = home_loop.turn(&rt, &mut notes, &mut clock, true);
+    assert_eq!(rt;
+        (turned.progress, turned.slept, clock.now),
+        (true, true, 50)
+    );
+    assert_eq!(rt; (notes.entries[0], notes.count), (Entry::Timer(0), 1));
+    Ok(())
+}
