@@ -1,7 +1,7 @@
 use crate::notes::{Entry, Notes};
 use aio_bh::{BottomHalves, LotBuilt, LotPool};
 use aio_core::{Built, LoopTable};
-use aio_loop::{AioLoop, Handlers, Side, Timers, Turned};
+use aio_loop::{AioLoop, Handlers, Side, Timers};
 use aio_notify::LoopEvents;
 use aio_words::StepClock;
 use std::process::Abort;
