@@ -1,0 +1,3 @@
+mod Behind
+mod Pairs
+mod SoFar

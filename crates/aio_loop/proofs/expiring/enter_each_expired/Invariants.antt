@@ -1,0 +1,10 @@
+use Rattle.std.proofs.Common.{IsFalse}
+use Rattle.aio_model.specs.LoopLegal.{IsLegal}
+use Rattle.aio_loop.specs.Homes.{IsHomeFree}
+use Rattle.aio_loop.specs.Walks.{loop_far}
+use Rattle.aio_loop.proofs.SoFar.{ExpiredSoFar}
+use Rattle.aio_loop.proofs.expiring.enter_each_expired.Given as goal
+
+abbrev pub invariant-loop : goal.invariant-loop
+invariant-loop g l =
+    (goal.iterator-loop g).can_next l.iterator' × (goal.iterator-loop g).is_finite l.iterator' × g.R.LoopRunner.can_run l.runner l.table.sizes l.side.timers.made × IsHomeFree l.table l.home.seat × IsLegal l.table.sizes l.home.seat.known.seen × IsFalse l.side.handlers.walking × ExpiredSoFar g.R.LoopRunner.does l.called (loop_far l.fn.home.seat.known l.fn.side l.fn.runner) (loop_far l.home.seat.known l.side l.runner)

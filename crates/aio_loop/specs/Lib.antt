@@ -1,0 +1,6 @@
+pub mod Blocking
+pub mod Entering
+pub mod Expiring
+pub mod Homes
+pub mod Turns
+pub mod Walks
