@@ -11,10 +11,4 @@ mod one_shots;
 #[cfg(test)]
 mod placing_callbacks;
 #[cfg(test)]
-mod placings;
-#[cfg(test)]
 mod plain_loop;
-#[cfg(test)]
-mod polled_threads;
-#[cfg(test)]
-mod threads;

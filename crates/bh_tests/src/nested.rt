@@ -115,6 +115,9 @@ struct Shared<'a, T: Abort> {
 
 impl<'a, R: Abort + Wait> Shared<'a, R> {
     fn build(rt: &'a R, alloc: Global, scripts: &[Script]) -> Result<Shared<'a, R>, Fail> {
+        if scripts.len() > 64 {
+            return Err(Fail::from("too many callbacks"));
+        }
         let handles = scripts.len() as u32;
         let Ok(lots) = LotPool::build(rt, alloc, handles, 0) else {
             return Err(Fail::from("no memory"));

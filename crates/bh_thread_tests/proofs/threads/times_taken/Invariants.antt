@@ -1,6 +1,6 @@
 use Rattle.std.proofs.Common.{◌≡◌, None}
 use Rattle.aio_core.specs.Calls.{IsSeatOf}
-use Rattle.bh_tests.proofs.threads.times_taken.Given as goal
+use Rattle.bh_thread_tests.proofs.threads.times_taken.Given as goal
 
 abbrev pub invariant-loop : goal.invariant-loop
 invariant-loop l =
