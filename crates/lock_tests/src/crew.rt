@@ -1,10 +1,11 @@
 //! All players of a lock.
 ghost use Rattle.std.specs.Prelude.{◌≡◌, ◌<◌, ◌≤◌, ◌+◌, vec_len};
+ghost use Rattle.co_mutex.specs.Places.{AtRest};
 ghost use Rattle.co_mutex.specs.Passes.{passes_of, known};
 ghost use Rattle.lock_tests.specs.Decks.{IsResting, AreResting};
 ghost use Rattle.lock_tests.specs.Crews.{AreOf};
 
-use crate::hand::{Answer, Turn};
+use crate::hand::{Answer, Hand, Turn};
 use crate::number::Number;
 use crate::player::Player;
 use co_mutex::{CoMutex, Pass};
@@ -78,6 +79,20 @@ pub fn play<R: Wait + Abort>(
     }
 }
 
+/// The player's pass, which has to be at rest.
+fn into_pass<R: Abort>(rt: &R, player: Player) -> Pass<Number>
+    ensures pass { result ≡ player.pass }
+    ensures rest { (known result).place ≡ AtRest }
+{
+    let Player { pass, hand, co } = player;
+    match hand {
+        Hand::Rests => pass,
+        Hand::Counted(_waiting) => panic!(rt; "{} is still to be queued", co.co),
+        Hand::Queued => panic!(rt; "{} waits", co.co),
+        Hand::Holds(_guard) => panic!(rt; "{} holds the lock", co.co),
+    }
+}
+
 /// The passes of all players, which have to be at rest.
 pub fn returned<R: Abort>(
     rt: &R,
@@ -98,7 +113,7 @@ pub fn returned<R: Abort>(
         let Some(player) = seat else {
             panic!(rt; "each player is there")
         };
-        passes.push_reserved(player.into_pass(rt));
+        passes.push_reserved(into_pass(rt, player));
     }
     players.destroy_empty();
     passes

@@ -3,7 +3,9 @@
 
 #[cfg(test)]
 mod adders;
+#[cfg(test)]
 mod closing;
+#[cfg(test)]
 mod crew;
 mod hand;
 mod number;

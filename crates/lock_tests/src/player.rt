@@ -7,7 +7,6 @@ use crate::hand::{Answer, Hand, Turn};
 use crate::number::Number;
 use co_mutex::{Begun, CoMutex, Guard, Lock, Pass, Waiting};
 use co_state::CoId;
-use std::process::Abort;
 use std::sync::Wait;
 
 /// A pass and what it has, and its coroutine.
@@ -160,19 +159,5 @@ impl Player {
             (_, hand) => (hand, Answer::OutOfTurn),
         };
         (Player { pass, hand, co }, answer)
-    }
-
-    /// The pass, which has to be at rest.
-    pub fn into_pass<R: Abort>(self, rt: &R) -> Pass<Number>
-        ensures pass { result ≡ self.pass }
-        ensures rest { (known result).place ≡ AtRest }
-    {
-        let Player { pass, hand, co } = self;
-        match hand {
-            Hand::Rests => pass,
-            Hand::Counted(_waiting) => panic!(rt; "{} is still to be queued", co.co),
-            Hand::Queued => panic!(rt; "{} waits", co.co),
-            Hand::Holds(_guard) => panic!(rt; "{} holds the lock", co.co),
-        }
     }
 }
