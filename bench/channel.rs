@@ -39,36 +39,22 @@ fn receive(receiver: Receiver<Job>, calls: &mut Calls) {
     }
 }
 
-fn two(calls: &mut Calls) {
-    let (sender, receiver) = channel::<Job>();
-    let other = sender.clone();
-    let senders = [sender, other].map(|sender| {
-        thread::spawn(move || {
-            for number in 0..EACH {
-                sender.send(job(number)).unwrap();
-            }
-        })
-    });
+fn send_from_two(send: impl Fn(Job) + Clone + Send + 'static, receiver: Receiver<Job>, calls: &mut Calls) {
+    let senders = [send.clone(), send].map(|send| thread::spawn(move || (0..EACH).for_each(|number| send(job(number)))));
     receive(receiver, calls);
     for sender in senders {
         sender.join().unwrap();
     }
 }
 
+fn two(calls: &mut Calls) {
+    let (sender, receiver) = channel::<Job>();
+    send_from_two(move |job| sender.send(job).unwrap(), receiver, calls);
+}
+
 fn two_bounded(calls: &mut Calls) {
     let (sender, receiver) = sync_channel::<Job>(16);
-    let other = sender.clone();
-    let senders = [sender, other].map(|sender| {
-        thread::spawn(move || {
-            for number in 0..EACH {
-                sender.send(job(number)).unwrap();
-            }
-        })
-    });
-    receive(receiver, calls);
-    for sender in senders {
-        sender.join().unwrap();
-    }
+    send_from_two(move |job| sender.send(job).unwrap(), receiver, calls);
 }
 
 fn main() {
