@@ -1,3 +1,5 @@
 mod Behind
+pub mod Callees
+pub mod Logged
 mod Pairs
 mod SoFar

@@ -4,4 +4,14 @@
 #[cfg(test)]
 mod notes;
 #[cfg(test)]
+mod parts;
+#[cfg(test)]
+mod responder;
+#[cfg(test)]
+mod responses;
+#[cfg(test)]
+mod rig;
+#[cfg(test)]
 mod turns;
+#[cfg(test)]
+mod woken;

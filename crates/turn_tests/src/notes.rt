@@ -26,7 +26,7 @@ impl Notes {
         }
     }
 
-    fn note(&mut self, entry: Entry) {
+    pub fn note(&mut self, entry: Entry) {
         if self.count < 4 {
             self.entries[self.count] = entry;
             self.count += 1;

@@ -1,5 +1,5 @@
 use Rattle.std.proofs.Common.{refl}
-use Rattle.turn_tests.proofs.Nothing.{runs_alone}
+use Rattle.aio_loop.proofs.Callees.{runs_alone}
 use Rattle.turn_tests.proofs.notes.NotesLoopRunnerU64.ready.Goals as goal
 
 pub returns-clause-runs : goal.returns-clause-runs
