@@ -1,9 +1,9 @@
 -- What a turn does to its runner, as one list of entries.
-use Rattle.std.proofs.Common.{◌≡◌, ℕ, zero, suc, Bool, true, List, [], ◌∷◌, ◌++◌, refl, sym, ap, subst}
+use Rattle.std.proofs.Common.{ℕ, zero, suc, Bool, List, [], ◌∷◌, ◌++◌, refl, sym, ap, subst}
 use Rattle.aio_model.specs.LoopFrame.{Entered, Runs}
 use Rattle.lot_pool.specs.Pools.{PoolState, PassState}
 use Rattle.aio_loop.specs.declared.turned.Turned.{Turned}
-use Rattle.aio_loop.specs.Entering.{LoopEntered, ForBottom, ForReady, ForExpired, EntersFor, WithSide, does_bottom, Each}
+use Rattle.aio_loop.specs.Entering.{LoopEntered, ForBottom, ForReady, ForExpired, WithSide, does_bottom, Each}
 use Rattle.aio_loop.specs.Walks.{LoopFar, EntersEachReady}
 use Rattle.aio_loop.specs.Expiring.{EntersEachExpired}
 use Rattle.aio_loop.specs.Turns.{Turns}

@@ -1,5 +1,5 @@
 -- What a turn keeps of a device, and one turn more.
-use Rattle.std.proofs.Common.{◌≡◌, ◌≤◌, ◌+◌, ◌-◌, ◌^◌, ℕ, suc, true, refl, sym, subst, arith}
+use Rattle.std.proofs.Common.{◌≤◌, ◌+◌, ◌-◌, ◌^◌, ℕ, suc, refl, sym, subst, arith}
 use Rattle.std.proofs.Math.Nat.{le-min}
 use Rattle.lot_pool.specs.Pools.{PoolState}
 use Rattle.aio_loop.specs.Entering.{LoopLent, LoopEntered, ForBottom, ForReady, ForExpired}
