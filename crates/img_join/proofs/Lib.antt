@@ -1,0 +1,5 @@
+pub mod Accounts
+pub mod Ended
+pub mod Joined
+pub mod Opening
+pub mod Orders

@@ -1,0 +1,9 @@
+//! From an image that all streams have left to the replies of a script: the journal gives their order, the streams'
+//! buffers give what reads found, and together they are a serial history of the script.
+#![tactic(auto)]
+
+mod buffers;
+mod placed;
+
+pub use buffers::Buffers;
+pub use placed::place_all;
