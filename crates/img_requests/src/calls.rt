@@ -56,7 +56,7 @@ fn write_piece<D: Device>(device: &mut D, at: u64, piece: &[u8]) -> Result<(), F
 }
 
 /// Serves n bytes of the request, behind those that are done, by at most one call of the device.
-pub(crate) fn serve_piece<D: Device>(
+pub fn serve_piece<D: Device>(
     device: &mut D,
     request: &Request,
     done: u32,

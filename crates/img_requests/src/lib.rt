@@ -10,6 +10,7 @@ mod ledger;
 mod present;
 
 pub use answers::{Enter, Left, Piece};
+pub use calls::serve_piece;
 pub use image::Image;
 pub use journal::{Entry, Mark};
-pub use present::{Present, RequestKind, Stage};
+pub use present::{PIECE, Present, RequestKind, Stage};

@@ -5,7 +5,7 @@ use crate::{Mark, Piece};
 use aio_model::Request;
 
 /// The most bytes that a piece has.
-pub(crate) const PIECE: u32 = 4096;
+pub const PIECE: u32 = 4096;
 
 #[derive(Clone, Copy, Debug, PartialEq, Eq)]
 pub enum RequestKind {
@@ -42,7 +42,7 @@ impl Present {
     ghost use Rattle.img_requests.specs.Presents.{present_of};
 
     /// A request of this stream with all its pieces still to come.
-    pub(crate) fn begin(stream: u32, request: &Request) -> Present
+    pub fn begin(stream: u32, request: &Request) -> Present
         requires { length_of request.now < 2 ^ 32 }
         ensures { result ≡ present_of stream request.now 0 Stage.Begun }
     {
@@ -63,7 +63,7 @@ impl Present {
     }
 
     /// Whether the request reaches past the end of an image of this size.
-    pub(crate) fn reaches_past(&self, size: u64) -> bool
+    pub fn reaches_past(&self, size: u64) -> bool
         ensures { IsTrue result ↔ (size < self.now.at + self.now.length) }
     {
         let length = u64::from(self.length);
@@ -71,7 +71,7 @@ impl Present {
     }
 
     /// What a piece of n bytes makes of it, where the device served it or failed.
-    pub(crate) fn after(self, n: u32, served: bool) -> (Piece, Present)
+    pub fn after(self, n: u32, served: bool) -> (Piece, Present)
         requires { self.done + n < 2 ^ 32 }
         ensures answer { result.0 ≡ answer_to served (self.done + n) self.length }
         ensures present { result.1
@@ -96,7 +96,7 @@ impl Present {
     }
 
     /// What stands in the journal of it, once it has ended.
-    pub(crate) fn mark(&self) -> Mark
+    pub fn mark(&self) -> Mark
         ensures { result ≡ mark_at self.now.stage self.now.kind self.now.length self.now.done }
     {
         match (self.stage, self.kind) {

@@ -1,0 +1,4 @@
+pub mod Accounts
+pub mod Answers
+pub mod Ended
+pub mod Placing

@@ -1,0 +1,9 @@
+pub mod Charged
+pub mod Counting
+pub mod Granting
+pub mod JournalPush
+pub mod Named
+pub mod Others
+pub mod Shown
+pub mod Sounds
+pub mod Steps
