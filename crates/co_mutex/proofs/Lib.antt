@@ -32,3 +32,4 @@ pub mod LockCalls
 pub mod Deals
 pub mod Dealing
 pub mod Gathering
+pub mod Stepping

@@ -60,7 +60,7 @@ from_walks Rattle.co_mutex.specs.Known.HandoffCompare e = absurd cc
 from_walks Rattle.co_mutex.specs.Known.SecondLook e = absurd cc
 
 module _ {T : Type 0} where
-  list_of : (list other : PoppedList) → ◌≡◌ {A = List (ℕ × Slot T)} ((1, Waiters list) ∷ []) ((1, Waiters other) ∷ []) → list ≡ other
+  pub list_of : (list other : PoppedList) → ◌≡◌ {A = List (ℕ × Slot T)} ((1, Waiters list) ∷ []) ((1, Waiters other) ∷ []) → list ≡ other
   list_of list other e = same_list list other (ap (λ (l : List (ℕ × Slot T)). (Rattle.std.proofs.Common.get_or l 0 (1, Waiters list)).1) e)
     where
       same_list : (list other : PoppedList) → ◌≡◌ {A = Slot T} (Waiters list) (Waiters other) → list ≡ other
