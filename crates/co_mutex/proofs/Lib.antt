@@ -33,3 +33,5 @@ pub mod Deals
 pub mod Dealing
 pub mod Gathering
 pub mod Stepping
+pub mod WakeDuty
+pub mod Decks

@@ -1,7 +1,5 @@
 -- Where a step leaves a pass that is stepped by hand.
-use Rattle.std.proofs.Common.{◌≡◌, ◌≢◌, ℕ, ◌+◌, ◌<◌, ◌≤◌, zero, suc, ◌++◌, eqb, cond, MatchBool, List, [], ◌∷◌, length, refl, sym, ap, ◌∙◌, subst, arith}
-use mathlib.Core.Option.{some, some-ne-none}
-use lib.ListN.{get_elem?}
+use Rattle.std.proofs.Common.{◌≡◌, ◌≢◌, ℕ, ◌+◌, ◌<◌, ◌≤◌, eqb, cond, MatchBool, List, [], ◌∷◌, length, refl, sym, ap, ◌∙◌, subst, arith}
 use Rattle.std.proofs.lemmas.Bool.{eq-eqb, ne_eqb}
 use Rattle.co_mutex.specs.declared.slot.Slot.TheVariants.{Waiters, Out}
 use Rattle.co_mutex.specs.Lists.{Each}
@@ -12,7 +10,8 @@ use Rattle.co_mutex.specs.Known.{NextLoad, Known, moves}
 use Rattle.co_mutex.specs.Plays.{done, Is, TakesDuty, LeftOthers, Grants, Loads}
 use Rattle.co_mutex.specs.declared.lock.CoMutex.{CoMutex}
 use Rattle.co_mutex.specs.declared.lock.Pass.{Pass}
-use Rattle.co_mutex.specs.Passes.{IsOf, IsPassOf, IsNew, hand_of, known, carried}
+use Rattle.co_mutex.specs.Passes.{hand_of, carried}
+use Rattle.co_mutex.specs.Decks.{IsResting}
 use Rattle.co_mutex.proofs.Codes.{M}
 use Rattle.co_mutex.proofs.UnlockLoop.{list_of}
 
@@ -89,30 +88,6 @@ module _ {T : Type 0} where
         let place = ap (λ (z : M T). z.0.place) both.1 in
         place ∙ ap (λ s. OnDuty s (Walking found both.0 (q ∷ list))) (sym (ap side_of place)) ∙ ap (λ l. OnDuty (side_of after.0.place) (Walking found l (q ∷ list))) (sym (ap left_of place)) ∙ ap (λ k. OnDuty (side_of after.0.place) (Walking k (left_of after.0.place) (q ∷ list))) (sym e) ∙ ap (λ l. OnDuty (side_of after.0.place) (Walking (q2 + 1) (left_of after.0.place) l)) (sym long)
 
--- New passes that are taken from behind.
-at_end : {A : Type 0} (xs : List A) (x : A) → get_elem? (xs ++ x ∷ []) (length xs) ≡ some x
-at_end [] x = refl
-at_end (y ∷ xs) x = at_end xs x
-
-at_front : {A : Type 0} (xs : List A) (x y : A) (k : ℕ) → get_elem? xs k ≡ some y → get_elem? (xs ++ x ∷ []) k ≡ some y
-at_front [] x y k at = absurd (some-ne-none y (sym at))
-at_front (z ∷ xs) x y zero at = at
-at_front (z ∷ xs) x y (suc k) at = at_front xs x y k at
-
 module _ {P T N : Type 0} (m : CoMutex P T N) where
-  abbrev pub AreNew : List (Pass P T N) → Type 0
-  AreNew passes = (k : ℕ) (p : Pass P T N) → get_elem? passes k ≡ some p → IsNew m k p
-
-  pub new_last : (old rest : List (Pass P T N)) (p : Pass P T N) → AreNew old → old ≡ rest ++ p ∷ [] → IsNew m (length rest) p
-  new_last old rest p each e =
-      each (length rest) p (subst (λ (l : List (Pass P T N)). get_elem? l (length rest) ≡ some p) (sym e) (at_end rest p))
-
-  pub new_rest : (old rest : List (Pass P T N)) (p : Pass P T N) → AreNew old → old ≡ rest ++ p ∷ [] → AreNew rest
-  new_rest old rest p each e k q at =
-      each k q (subst (λ (l : List (Pass P T N)). get_elem? l k ≡ some q) (sym e) (at_front rest p q k at))
-
-  pub new_place : (k : ℕ) (p : Pass P T N) → IsNew m k p → (known p).place ≡ AtRest
-  new_place k p new = ap (λ v. v.place) new.known_is
-
-  pub new_hand : (k : ℕ) (p : Pass P T N) → IsNew m k p → carried p ≡ []
-  new_hand k p new = new.is.hand ∙ ap hand_of (new_place k p new)
+  pub resting_hand : (k : ℕ) (p : Pass P T N) → IsResting m k p → carried p ≡ []
+  resting_hand k p rests = rests.0.hand ∙ ap hand_of rests.1

@@ -20,7 +20,7 @@ use Rattle.co_mutex.specs.Waking.{AllOf}
 abbrev pub word_of : CoId → ℕ
 word_of co = co.co * 2 ^ 32 + co.home
 
--- steps that were done in between, all of kinds that pass
+-- steps that were done in between, all of kinds that pass; no hand-off was published as 0
 pub record Did (test : Kind → Bool) (before after : List Done) : Type 0 where
   pub steps : List Done
   pub is : after ≡ steps ++ before

@@ -1,5 +1,5 @@
 -- What the parts of a wake leave: the steps that were done, and whom the pass granted.
-use Rattle.std.specs.Prelude.{◌≡◌, ◌≢◌, ℕ, ◌<◌, ◌==◌, Bool, true, false, ◌⊎◌, Option, Some, None, List, [], ◌∷◌, ◌++◌, MatchBool}
+use Rattle.std.specs.Prelude.{◌≡◌, ◌≢◌, ℕ, ◌<◌, ◌==◌, ◌&&◌, not, Bool, true, false, ◌⊎◌, Option, Some, None, List, [], ◌∷◌, ◌++◌, MatchBool}
 use Rattle.atomic_table.specs.Table.{Me}
 use Rattle.aio_model.specs.LockHistory.{LockEntry, Wait, Grant, Release, coroutine_of, IsLegalLock}
 use Rattle.aio_model.specs.LockSeats.{StandsInLock}
@@ -41,9 +41,16 @@ takes_up HandoffLoad = true
 takes_up HandoffCompare = true
 takes_up _ = false
 
+-- a number that was published isn't 0
+abbrev pub is_numbered : Kind → ℕ → Bool
+is_numbered HandoffStore number = not (number == 0)
+is_numbered _ number = true
+
+-- all are of kinds that pass
 abbrev pub AllOf : (Kind → Bool) → List Done → Type 0
 AllOf test [] = Unit {0}
-AllOf test (step ∷ steps) = (test step.kind ≡ true) × AllOf test steps
+AllOf test (step ∷ steps) =
+    ((test step.kind && is_numbered step.kind step.found) ≡ true) × AllOf test steps
 
 module _ {T : Type 0} where
   -- the pass loaded the coroutine of q, granted it and has nothing in hand
