@@ -1,5 +1,5 @@
 -- The wake duty, at each state that the rule of a lock's table allows: between any two steps of any passes.
-use Rattle.std.proofs.Common.{◌≡◌, ℕ, ◌<◌, ◌⊎◌, inl, inr, ⊎_elim, true, List, slice_index, refl, sym, ap, ◌∙◌, subst, arith}
+use Rattle.std.proofs.Common.{◌≡◌, ℕ, ◌<◌, ◌⊎◌, inl, inr, ⊎_elim, true, List, slice_index, refl, sym, arith}
 use Rattle.atomic_table.specs.Table.{State}
 use mathlib.Core.Option.{Option as Opt, some}
 use lib.ListN.{get_elem?}
@@ -11,7 +11,7 @@ use Rattle.co_mutex.specs.LockWords.{locked_at, handoff_at}
 use Rattle.co_mutex.specs.Rule.{Baton, Free, Owned, Duty, Offered, EachPlace, IsAt, Stands}
 use Rattle.co_mutex.specs.Known.{Known}
 use Rattle.co_mutex.specs.Opening.{holds_of}
-use Rattle.co_mutex.specs.WakeDuty.{is_between, HasOwner, HasDuty, IsOffered, HasNext}
+use Rattle.co_mutex.specs.WakeDuty.{is_between, HasOwner, HasNext}
 use Rattle.co_mutex.proofs.Frames.{duty_same}
 
 module _ {T : Type 0} (n : ℕ) (built : T) (h : List (LockEntry T)) (words : List ℕ) (homes : List (Opt (Slot T))) (places : List Place) (stack : List ℕ) where

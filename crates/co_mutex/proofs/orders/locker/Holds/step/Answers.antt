@@ -1,11 +1,6 @@
-use Rattle.std.proofs.Common.{rules, ◌≡◌, ◌≢◌, [], ◌∷◌, ℕ, ◌+◌, ◌-◌, ◌<◌, ◌≤◌, length, List, refl, sym, ap, ◌∙◌, subst, arith}
-use Rattle.co_mutex.specs.Places.{Side, Locking, Unlocking, AtRest, Counted, ToPop, Walking, Granting, OnDuty, side_of}
-use Rattle.co_mutex.specs.PoppedList.{PoppedList}
-use Rattle.co_mutex.proofs.Codes.{M}
 use Rattle.co_mutex.proofs.Holding.{told_false}
-use Rattle.co_mutex.proofs.WakeCodes.{roomy}
 use Rattle.co_mutex.proofs.UnlockLoop.{has_list}
-use Rattle.co_mutex.proofs.Stepping.{on_duty, free_hand, granted_self, granted_other, granted_away, ends, goes_on, walking_at, left}
+use Rattle.co_mutex.proofs.Stepping.{left}
 use Rattle.co_mutex.proofs.orders.locker.Holds.step.Goals as goal
 
 pub take_list-list-requires-clause-list : goal.take_list-list-requires-clause-list

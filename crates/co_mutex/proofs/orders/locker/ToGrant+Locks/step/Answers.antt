@@ -1,11 +1,8 @@
-use Rattle.std.proofs.Common.{rules, ◌≡◌, ◌≢◌, [], ◌∷◌, ℕ, ◌+◌, ◌-◌, ◌<◌, ◌≤◌, length, List, refl, sym, ap, ◌∙◌, subst, arith}
-use Rattle.co_mutex.specs.Places.{Side, Locking, Unlocking, AtRest, Counted, ToPop, Walking, Granting, OnDuty, side_of}
-use Rattle.co_mutex.specs.PoppedList.{PoppedList}
+use Rattle.std.proofs.Common.{ℕ, sym, ap, ◌∙◌}
+use Rattle.co_mutex.specs.Places.{side_of}
 use Rattle.co_mutex.proofs.Codes.{M}
-use Rattle.co_mutex.proofs.Holding.{told_false}
 use Rattle.co_mutex.proofs.WakeCodes.{roomy}
-use Rattle.co_mutex.proofs.UnlockLoop.{has_list}
-use Rattle.co_mutex.proofs.Stepping.{on_duty, free_hand, granted_self, granted_other, granted_away, ends, goes_on, walking_at, left}
+use Rattle.co_mutex.proofs.Stepping.{on_duty, free_hand, granted_self, granted_other}
 use Rattle.co_mutex.proofs.orders.locker.ToGrant+Locks.step.Goals as goal
 
 pub store_grant-requires-clause-duty : goal.store_grant-requires-clause-duty
