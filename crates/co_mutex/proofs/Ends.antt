@@ -1,9 +1,9 @@
 -- What the rule gives: its start, and what is known where all passes are at rest.
-use Rattle.std.proofs.Common.{◌≡◌, ◌≢◌, ℕ, ◌<◌, ◌≤◌, ◌⊎◌, inl, inr, Bool, false, Some, None, List, [], ◌∷◌, slice_index, length, refl, sym, ap, ◌∙◌, subst, arith, suc}
+use Rattle.std.proofs.Common.{◌≡◌, ℕ, ◌≤◌, inr, Bool, false, None, List, [], ◌∷◌, slice_index, length, refl, sym, ap, ◌∙◌, subst, arith, suc}
 use mathlib.Core.Option.{Option as Opt, some}
 use lib.ListN.{get_elem?}
 use Rattle.aio_model.specs.LockHistory.{LockEntry, owner_of, waiters_of, value_of}
-use Rattle.co_mutex.specs.Places.{Side, Locking, Unlocking, Task, Place, AtRest, Holds, OnDuty, is_in_line, is_before_push, count, Looks}
+use Rattle.co_mutex.specs.Places.{Place, AtRest, Holds, is_in_line, is_before_push, count}
 use Rattle.co_mutex.specs.LockWords.{locked_at, handoff_at, head_at, grant_at, word_count}
 use Rattle.co_mutex.specs.declared.slot.Slot.{Slot}
 use Rattle.co_mutex.specs.declared.slot.Slot.TheVariants.{Value}

@@ -4,7 +4,6 @@ use Rattle.std.proofs.lemmas.Bool.{eq-eqb, ne_eqb}
 use Rattle.aio_model.specs.LockHistory.{LockEntry, Wait, Grant, coroutine_of, value_of, IsLegalLock}
 use Rattle.aio_model.specs.LockNotes.{IsNoted}
 use Rattle.aio_model.specs.LockSeats.{StandsInLock}
-use Rattle.co_mutex.specs.declared.slot.Slot.{Slot}
 use Rattle.co_mutex.specs.declared.slot.Slot.TheVariants.{Value, Out}
 use Rattle.co_state.specs.declared.cx.CoId.{CoId}
 use Rattle.co_mutex.specs.LockWords.{head_at, handoff_at, grant_at, who_at}
@@ -14,7 +13,7 @@ use Rattle.co_mutex.specs.Plays.{done, TakesDuty, TakesOwn}
 use Rattle.std.proofs.lemmas.Bool.{and_parts}
 use Rattle.std.specs.Cmp.Derive.{both_true}
 use Rattle.co_mutex.specs.Waking.{is_numbered, AllOf, pushes, takes_up, walks, PushedFor, LookedAt, Woke}
-use Rattle.co_mutex.specs.Calls.{finishes, Did, Comes, Names, word_of, Queues, HoldsNow}
+use Rattle.co_mutex.specs.Calls.{finishes, Did, Comes, Names, word_of, HoldsNow}
 use Rattle.co_mutex.proofs.Calls.{stands_one, stands_more}
 use Rattle.co_mutex.proofs.Codes.{M}
 use Rattle.co_mutex.proofs.Holding.{held_of, first_value}

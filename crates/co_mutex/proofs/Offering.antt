@@ -1,5 +1,5 @@
 -- A hand-off that was published, and what became of it.
-use Rattle.std.proofs.Common.{◌≡◌, ◌≢◌, ℕ, Bool, true, false, eqb, cond, not, MatchBool, [], ◌∷◌, refl, ap, ◌∙◌, subst}
+use Rattle.std.proofs.Common.{◌≡◌, ◌≢◌, ℕ, Bool, true, false, eqb, cond, not, MatchBool, [], ◌∷◌, refl, ap, ◌∙◌}
 use Rattle.std.proofs.lemmas.Bool.{eq-eqb, ne_eqb}
 use Rattle.co_mutex.specs.LockWords.{handoff_at, head_at}
 use Rattle.co_mutex.specs.Places.{Unlocking, AtRest, Published, Found}

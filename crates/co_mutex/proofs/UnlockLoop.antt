@@ -6,8 +6,7 @@ use Rattle.co_mutex.specs.declared.slot.Slot.TheVariants.{Waiters, Out}
 use Rattle.co_mutex.specs.declared.lock.CoMutex.{CoMutex}
 use Rattle.co_mutex.specs.declared.lock.Pass.{Pass}
 use Rattle.co_state.specs.declared.cx.CoId.{CoId}
-use Rattle.aio_model.specs.LockHistory.{LockEntry, Release, Grant, coroutine_of, IsLegalLock}
-use Rattle.aio_model.specs.LockSeats.{StandsInLock}
+use Rattle.aio_model.specs.LockHistory.{LockEntry, Release, Grant, IsLegalLock}
 use Rattle.co_mutex.specs.Lists.{Each}
 use Rattle.co_mutex.specs.PoppedList.{PoppedList}
 use Rattle.co_mutex.specs.LockWords.{locked_at, head_at, grant_at, who_at}
@@ -17,7 +16,7 @@ use Rattle.co_mutex.specs.Known.{Kind, LockedFetchSub, HeadSwap, WhoLoad, GrantS
 use Rattle.co_mutex.specs.Plays.{done, LeftAlone, LeftOthers}
 use Rattle.co_mutex.specs.Passes.{IsOf, known, carried}
 use Rattle.co_mutex.specs.Waking.{AllOf, looks_for, walks, Granted, Offered, Walked}
-use Rattle.co_mutex.specs.Calls.{wakes, Did, Comes, Names, word_of, UnlockSteps}
+use Rattle.co_mutex.specs.Calls.{wakes, Comes, Names, word_of, UnlockSteps}
 use Rattle.co_mutex.proofs.Calls.{stands_one, stands_more}
 use Rattle.co_mutex.proofs.Codes.{M}
 use Rattle.co_mutex.proofs.WakeOne.{all_append}

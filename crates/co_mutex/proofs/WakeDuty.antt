@@ -1,5 +1,5 @@
 -- The wake duty, at each state that the rule of a lock's table allows: between any two steps of any passes.
-use Rattle.std.proofs.Common.{◌≡◌, ℕ, ◌<◌, ◌⊎◌, inl, inr, ⊎_elim, true, List, slice_index, refl, sym, arith}
+use Rattle.std.proofs.Common.{◌≡◌, ℕ, ◌<◌, inl, inr, ⊎_elim, true, List, slice_index, refl, sym, arith}
 use Rattle.atomic_table.specs.Table.{State}
 use mathlib.Core.Option.{Option as Opt, some}
 use lib.ListN.{get_elem?}
