@@ -1,5 +1,5 @@
 -- How a call stands in the history, from the entries that its steps made.
-use Rattle.std.proofs.Common.{◌≡◌, ℕ, List, [], ◌∷◌, ◌++◌, refl, sym, ap, ◌∙◌, subst, append_assoc}
+use Rattle.std.proofs.Common.{◌≡◌, ℕ, List, [], ◌∷◌, ◌++◌, refl, sym, ap, ◌∙◌, append_assoc}
 use Rattle.aio_model.specs.LockHistory.{LockEntry, maker_of, made_by, value_of, IsLegalLock}
 use Rattle.aio_model.specs.LockNotes.{IsNoted}
 use Rattle.aio_model.specs.LockSeats.{StandsInLock}

@@ -1,23 +1,22 @@
 -- How seats are dealt and gathered, and what the last state tells.
-use Rattle.std.proofs.Common.{◌≡◌, ◌≢◌, ℕ, zero, suc, ◌+◌, ◌-◌, ◌<◌, ◌≤◌, eqb, Bool, true, false, cond, Some, None, Option, ◌⊎◌, inl, inr, ⊎_elim, List, [], ◌∷◌, ◌++◌, map, length, replicate, set, slice_index, refl, sym, ap, ◌∙◌, subst, length-set, arith, pred}
+use Rattle.std.proofs.Common.{◌≡◌, ◌≢◌, ℕ, zero, suc, ◌+◌, ◌<◌, ◌≤◌, eqb, true, false, cond, Some, Option, ◌⊎◌, inl, inr, ⊎_elim, List, [], ◌∷◌, ◌++◌, length, replicate, set, slice_index, refl, sym, ap, ◌∙◌, subst, length-set, arith, pred}
 use Rattle.std.proofs.lemmas.Bool.{ne_eqb, eq-eqb}
-use mathlib.Core.Option.{some, none, some-injective, some-ne-none}
+use mathlib.Core.Option.{some, some-injective, some-ne-none}
 use lib.ListN.{get_elem?}
-use Rattle.atomic_table.specs.Table.{State, Me, opening, Splits, Joins, Final, Seen}
-use Rattle.atomic_table.proofs.Lists.{at_set, at_longer}
-use Rattle.aio_model.specs.LockHistory.{LockEntry, made_by, value_of, IsLegalLock, AreBelow}
-use Rattle.aio_model.specs.LockNotes.{IsNoted}
+use Rattle.atomic_table.specs.Table.{State, opening, Splits}
+use Rattle.atomic_table.proofs.Lists.{at_set}
+use Rattle.aio_model.specs.LockHistory.{LockEntry, made_by}
 use Rattle.co_mutex.specs.declared.slot.Slot.{Slot}
-use Rattle.co_mutex.specs.declared.slot.Slot.TheVariants.{Value, Waiters}
+use Rattle.co_mutex.specs.declared.slot.Slot.TheVariants.{Value}
 use Rattle.co_mutex.specs.declared.rule.Opened.{Opened}
 use Rattle.co_mutex.specs.Places.{Place, AtRest, is_owning}
 use Rattle.co_mutex.specs.LockWords.{word_count}
 use Rattle.co_mutex.specs.Rule.{Popped, Free}
-use Rattle.co_mutex.specs.Known.{Part, Known, new_known, spent_known}
+use Rattle.co_mutex.specs.Known.{Part, Known, new_known}
 use Rattle.co_mutex.specs.Seats.{IsPart, IsSeat, SeatsStand, Kept}
 use Rattle.co_mutex.specs.Closing.{In}
-use Rattle.co_mutex.specs.Opening.{new_parts, first_of, part_of, parts_of, joined}
-use Rattle.co_mutex.proofs.Ends.{start_stands, all_rest}
+use Rattle.co_mutex.specs.Opening.{new_parts, first_of}
+use Rattle.co_mutex.proofs.Ends.{start_stands}
 
 module _ {A : Type 0} where
   pub at_append : (xs ys : List A) (k : ℕ) (a : A) → get_elem? (xs ++ ys) k ≡ some a → In a xs ⊎ In a ys

@@ -1,15 +1,14 @@
--- What the rule gives: the three cases of the wake duty, its start, and what is known where all passes are at rest.
-use Rattle.std.proofs.Common.{◌≡◌, ◌≢◌, ℕ, ◌<◌, ◌≤◌, ◌⊎◌, inl, inr, Bool, false, Some, None, List, [], ◌∷◌, slice_index, length, refl, sym, ap, ◌∙◌, subst, arith, suc}
+-- What the rule gives: its start, and what is known where all passes are at rest.
+use Rattle.std.proofs.Common.{◌≡◌, ℕ, ◌≤◌, inr, Bool, false, None, List, [], ◌∷◌, slice_index, length, refl, sym, ap, ◌∙◌, subst, arith, suc}
 use mathlib.Core.Option.{Option as Opt, some}
 use lib.ListN.{get_elem?}
 use Rattle.aio_model.specs.LockHistory.{LockEntry, owner_of, waiters_of, value_of}
-use Rattle.co_mutex.specs.Places.{Side, Locking, Unlocking, Task, Place, AtRest, Holds, OnDuty, is_in_line, is_before_push, count, Looks}
+use Rattle.co_mutex.specs.Places.{Place, AtRest, Holds, is_in_line, is_before_push, count}
 use Rattle.co_mutex.specs.LockWords.{locked_at, handoff_at, head_at, grant_at, word_count}
 use Rattle.co_mutex.specs.declared.slot.Slot.{Slot}
 use Rattle.co_mutex.specs.declared.slot.Slot.TheVariants.{Value}
 use Rattle.co_mutex.specs.Rule.{Popped, Baton, Free, Owned, Duty, Offered, EachPlace, owner_in, IsAt, Stands}
 use Rattle.co_mutex.proofs.Counting.{bit, count_low}
-use Rattle.co_mutex.proofs.Frames.{duty_same}
 use Rattle.co_mutex.proofs.Batons.{free_at_zero, none_holds, value_home}
 
 count_none : (test : Place → Bool) (places : List Place) → EachPlace (λ p place. test place ≡ false) places → count test places ≡ 0
@@ -20,43 +19,6 @@ count_none test (x ∷ xs) h =
     omega (arith, here, rest)
 
 module _ {T : Type 0} (n : ℕ) (built : T) (h : List (LockEntry T)) (words : List ℕ) (homes : List (Opt (Slot T))) (places : List Place) (b : Baton) (stack : List ℕ) where
-  pub record OwnedCase : Type 0 where
-    pub p : ℕ
-    pub owner : owner_of h ≡ Some p
-    pub handoff : slice_index words handoff_at ≡ 0
-    pub idle : (q : ℕ) (side : Side) (task : Task) → get_elem? places q ≡ some (OnDuty side task) → ⊥
-
-  pub record DutyCase : Type 0 where
-    pub p : ℕ
-    pub side : Side
-    pub task : Task
-    pub there : get_elem? places p ≡ some (OnDuty side task)
-    pub only : (q : ℕ) (side2 : Side) (task2 : Task) → get_elem? places q ≡ some (OnDuty side2 task2) → q ≡ p
-    pub unowned : owner_of h ≡ None
-    pub handoff : slice_index words handoff_at ≡ 0
-
-  pub record OfferedCase : Type 0 where
-    pub unowned : owner_of h ≡ None
-    pub idle : (q : ℕ) (side : Side) (task : Task) → get_elem? places q ≡ some (OnDuty side task) → ⊥
-    pub handoff : slice_index words handoff_at ≢ 0
-    pub looker : (p : ℕ) × (place : Place) × (get_elem? places p ≡ some place) × Looks (slice_index words handoff_at) place
-
-  at_duty_of : (c : Baton) → EachPlace (IsAt h c) places → (q : ℕ) (side : Side) (task : Task) → get_elem? places q ≡ some (OnDuty side task) → c ≡ Duty q
-  at_duty_of c each q Locking task at = (each q (OnDuty Locking task) at).0
-  at_duty_of c each q Unlocking task at = (each q (OnDuty Unlocking task) at).0
-
-  cases : (c : Baton) → b ≡ c → Stands n built h words homes places c stack → 0 < slice_index words locked_at → OwnedCase ⊎ DutyCase ⊎ OfferedCase
-  cases Free e s low = absurd (let zero_there = s.baton_stands.fit.0 in omega (arith, low, zero_there))
-  cases (Owned p) e s low =
-      inl (record { p = p; owner = s.baton_stands.owner; handoff = s.baton_stands.fit.1; idle = λ q side task at. (let bad = at_duty_of (Owned p) s.baton_stands.each q side task at in absurd cc) })
-  cases (Duty p) e s low =
-      inr (inl (record { p = p; side = s.lists.list.side; task = s.lists.list.task; there = s.lists.list.place; only = λ q side task at. sym (duty_same p q (at_duty_of (Duty p) s.baton_stands.each q side task at)); unowned = s.baton_stands.owner; handoff = s.baton_stands.fit.1 }))
-  cases Offered e s low =
-      inr (inr (record { unowned = s.baton_stands.owner; idle = λ q side task at. (let bad = at_duty_of Offered s.baton_stands.each q side task at in absurd cc); handoff = s.baton_stands.fit.1; looker = s.looks.looker refl }))
-
-  pub wake_duty : Stands n built h words homes places b stack → 0 < slice_index words locked_at → OwnedCase ⊎ DutyCase ⊎ OfferedCase
-  wake_duty s low = cases b refl s low
-
   -- all passes are at rest, so the lock is free and the value at home
   pub all_rest : Stands n built h words homes places b stack → EachPlace (λ p place. place ≡ AtRest) places → (owner_of h ≡ None) × (waiters_of h ≡ []) × (get_elem? homes 0 ≡ some (some (Value (value_of built h))))
   all_rest s rests =

@@ -4,15 +4,16 @@ use Rattle.std.proofs.lemmas.Bool.{eq-eqb, ne_eqb}
 use Rattle.aio_model.specs.LockHistory.{LockEntry, Wait, Grant, coroutine_of, value_of, IsLegalLock}
 use Rattle.aio_model.specs.LockNotes.{IsNoted}
 use Rattle.aio_model.specs.LockSeats.{StandsInLock}
-use Rattle.co_mutex.specs.declared.slot.Slot.{Slot}
 use Rattle.co_mutex.specs.declared.slot.Slot.TheVariants.{Value, Out}
 use Rattle.co_state.specs.declared.cx.CoId.{CoId}
 use Rattle.co_mutex.specs.LockWords.{head_at, handoff_at, grant_at, who_at}
 use Rattle.co_mutex.specs.Places.{Locking, Place, ToPop, Pushed, Loaded, Queued, SelfGranted, Holds, OnDuty, after_grant}
 use Rattle.co_mutex.specs.Known.{Kind, HeadCompare, HandoffLoad, HandoffCompare, WhoLoad, GrantStore, GrantSwap, Done, Known, moves, makes, advances, GoesOn}
 use Rattle.co_mutex.specs.Plays.{done, TakesDuty, TakesOwn}
-use Rattle.co_mutex.specs.Waking.{AllOf, pushes, takes_up, walks, PushedFor, LookedAt, Woke}
-use Rattle.co_mutex.specs.Calls.{finishes, Did, Comes, Names, word_of, Queues, HoldsNow}
+use Rattle.std.proofs.lemmas.Bool.{and_parts}
+use Rattle.std.specs.Cmp.Derive.{both_true}
+use Rattle.co_mutex.specs.Waking.{is_numbered, AllOf, pushes, takes_up, walks, PushedFor, LookedAt, Woke}
+use Rattle.co_mutex.specs.Calls.{finishes, Did, Comes, Names, word_of, HoldsNow}
 use Rattle.co_mutex.proofs.Calls.{stands_one, stands_more}
 use Rattle.co_mutex.proofs.Codes.{M}
 use Rattle.co_mutex.proofs.Holding.{held_of, first_value}
@@ -21,7 +22,9 @@ use Rattle.co_mutex.proofs.WakeOne.{all_append}
 -- one test is as wide as another
 pub all_wider : (test other : Kind → Bool) → ((k : Kind) → test k ≡ true → other k ≡ true) → (xs : List Done) → AllOf test xs → AllOf other xs
 all_wider test other f [] a = tt
-all_wider test other f (x ∷ xs) a = (f x.kind a.0, all_wider test other f xs a.1)
+all_wider test other f (x ∷ xs) a =
+    let parts = and_parts (test x.kind) (is_numbered x.kind x.found) a.0 in
+    (both_true (f x.kind parts.0) parts.1, all_wider test other f xs a.1)
 
 from_pushes : (k : Kind) → pushes k ≡ true → finishes k ≡ true
 from_pushes Rattle.co_mutex.specs.Known.LockedCompare e = absurd cc

@@ -8,7 +8,7 @@ use Rattle.atomic_table.proofs.Lists.{at_set, at_longer}
 use Rattle.aio_model.specs.LockHistory.{LockEntry, made_by, value_of, IsLegalLock, AreBelow}
 use Rattle.aio_model.specs.LockNotes.{IsNoted}
 use Rattle.co_mutex.specs.declared.slot.Slot.{Slot}
-use Rattle.co_mutex.specs.declared.slot.Slot.TheVariants.{Value, Waiters}
+use Rattle.co_mutex.specs.declared.slot.Slot.TheVariants.{Value}
 use Rattle.co_mutex.specs.Places.{Place, AtRest}
 use Rattle.co_mutex.specs.Rule.{Popped}
 use Rattle.co_mutex.specs.Known.{Part, Known, spent_known}
@@ -18,7 +18,6 @@ use Rattle.co_mutex.specs.Opening.{part_of, parts_of, joined}
 use Rattle.co_mutex.proofs.Ends.{all_rest}
 use Rattle.co_mutex.proofs.QuietSteps.{at_low}
 use Rattle.co_mutex.proofs.SeatSteps.{made_whole}
-use Rattle.co_mutex.proofs.Batons.{free_at_zero}
 use Rattle.co_mutex.proofs.Deals.{at_append, reseat, moved_seat}
 
 module _ {T N : Type 0} (note : T → ℕ → N) (n : ℕ) (built : T) where

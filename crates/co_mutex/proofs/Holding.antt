@@ -1,5 +1,5 @@
 -- How a pass comes to hold, by its steps; and that it is the lock's pass then.
-use Rattle.std.proofs.Common.{◌≡◌, ◌≢◌, ℕ, Bool, true, false, eqb, MatchBool, List, [], ◌∷◌, ◌++◌, refl, sym, ap, ◌∙◌, subst, get_or}
+use Rattle.std.proofs.Common.{◌≡◌, ◌≢◌, ℕ, eqb, MatchBool, List, [], ◌∷◌, ◌++◌, refl, sym, ap, ◌∙◌, subst, get_or}
 use Rattle.std.proofs.lemmas.Bool.{eq-eqb, ne_eqb}
 use Rattle.aio_model.specs.LockHistory.{LockEntry, Got, value_of}
 use Rattle.aio_model.specs.LockNotes.{IsNoted}
@@ -8,12 +8,12 @@ use Rattle.co_mutex.specs.declared.slot.Slot.{Slot}
 use Rattle.co_mutex.specs.declared.slot.Slot.TheVariants.{Value, Out}
 use Rattle.co_mutex.specs.declared.lock.CoMutex.{CoMutex}
 use Rattle.co_mutex.specs.declared.lock.Pass.{Pass}
-use Rattle.co_mutex.specs.LockWords.{locked_at, grant_at}
-use Rattle.co_mutex.specs.Places.{Place, AtRest, Queued, Holds}
+use Rattle.co_mutex.specs.LockWords.{locked_at}
+use Rattle.co_mutex.specs.Places.{Place, AtRest, Holds}
 use Rattle.co_mutex.specs.Known.{Kind, GrantSwap, Done, Known, moves, advances}
-use Rattle.co_mutex.specs.Plays.{done, Is, Gets, FindsGrant}
-use Rattle.co_mutex.specs.Passes.{IsOf, IsPassOf, hand_of, known}
-use Rattle.co_mutex.specs.Calls.{Comes, HoldsNow}
+use Rattle.co_mutex.specs.Plays.{done, Gets, FindsGrant}
+use Rattle.co_mutex.specs.Passes.{IsOf, IsPassOf, hand_of}
+use Rattle.co_mutex.specs.Calls.{HoldsNow}
 use Rattle.co_mutex.proofs.Calls.{stands_one, stands_none, own_note}
 use Rattle.co_mutex.proofs.Codes.{M}
 use Rattle.co_mutex.proofs.OwnerSteps.{value_same}

@@ -32,3 +32,6 @@ pub mod LockCalls
 pub mod Deals
 pub mod Dealing
 pub mod Gathering
+pub mod Stepping
+pub mod WakeDuty
+pub mod Decks

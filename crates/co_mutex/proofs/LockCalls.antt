@@ -1,14 +1,13 @@
 -- A lock is what begins it, and what finishes it.
-use Rattle.std.proofs.Common.{◌≡◌, ◌≢◌, ℕ, true, Some, None, List, [], ◌∷◌, ◌++◌, ◌⊎◌, ⊎_elim, inl, inr, refl, sym, ap, ◌∙◌, subst}
-use Rattle.aio_model.specs.LockHistory.{LockEntry, Got}
-use Rattle.co_mutex.specs.declared.lock.Guard.{Guard}
+use Rattle.std.proofs.Common.{◌≡◌, ◌≢◌, ℕ, true, Some, None, List, [], ◌∷◌, ◌⊎◌, ⊎_elim, inr, refl, ap, subst}
+use Rattle.aio_model.specs.LockHistory.{LockEntry}
 use Rattle.co_mutex.specs.declared.answers.Lock.{Lock}
 use Rattle.co_mutex.specs.declared.answers.Lock.TheVariants.{Held, Queued as Waits}
 use Rattle.co_mutex.specs.LockWords.{locked_at}
 use Rattle.co_mutex.specs.Places.{Place, Counted}
 use Rattle.co_mutex.specs.Known.{Kind, LockedCompare, LockedFetchAdd, Done, Known, advances}
 use Rattle.co_mutex.specs.Plays.{done}
-use Rattle.co_mutex.specs.Calls.{finishes, locks, Did, Comes, HoldsNow, Begins, Finishes, Locks}
+use Rattle.co_mutex.specs.Calls.{finishes, locks, Did, Comes, Finishes, Locks}
 use Rattle.co_mutex.proofs.Finishing.{all_wider, did_more}
 
 from_finishes : (k : Kind) → finishes k ≡ true → locks k ≡ true

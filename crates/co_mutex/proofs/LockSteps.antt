@@ -1,5 +1,5 @@
 -- The steps of a locker, each as its step on the table asks: the compare and the add of `locked`, what pushes, and the hand-off.
-use Rattle.std.proofs.Common.{◌≡◌, ◌≢◌, ℕ, ◌+◌, ◌*◌, ◌-◌, ◌<◌, ◌≤◌, ◌%◌, ◌^◌, Bool, true, false, cond, eqb, MatchBool, Some, List, [], ◌∷◌, slice_index, set, length, refl, sym, ap, ◌∙◌, subst, arith}
+use Rattle.std.proofs.Common.{◌≡◌, ◌≢◌, ℕ, ◌+◌, ◌*◌, ◌%◌, ◌^◌, Bool, true, false, cond, eqb, MatchBool, Some, List, [], ◌∷◌, slice_index, set, refl, sym, ap, ◌∙◌, subst, arith}
 use Rattle.std.proofs.lemmas.Bool.{eq-eqb, eqb-true}
 use Rattle.std.proofs.lemmas.Nat.{mod_low}
 use mathlib.Core.Option.{some, none}
@@ -10,12 +10,12 @@ use Rattle.atomic_table.proofs.Lists.{set_again}
 use Rattle.co_mutex.specs.declared.slot.Slot.{Slot}
 use Rattle.co_mutex.specs.declared.slot.Slot.TheVariants.{Value}
 use Rattle.aio_model.specs.LockHistory.{LockEntry, Got, Wait, value_of}
-use Rattle.co_mutex.specs.Places.{Locking, Unlocking, ToPop, Place, AtRest, Counted, Named, HeadLoaded, Linked, Pushed, Loaded, Queued, Holds, OnDuty, Published, Found}
+use Rattle.co_mutex.specs.Places.{Locking, Unlocking, ToPop, Place, AtRest, Counted, Named, HeadLoaded, Linked, Pushed, Loaded, Queued, Holds, OnDuty, Found}
 use Rattle.co_mutex.specs.LockWords.{locked_at, handoff_at, head_at, next_at, who_at}
 use Rattle.co_mutex.specs.Rule.{Popped, Baton, Owned, Duty, Stands}
 use Rattle.co_mutex.specs.Known.{Kind, LockedCompare, LockedFetchAdd, WhoStore, HeadLoad, NextStore, HeadCompare, HandoffLoad, HandoffCompare, Known, moves, makes}
 use Rattle.co_mutex.specs.Seats.{Kept}
-use Rattle.co_mutex.specs.Plays.{done, Is, Makes, stored_who, heads_at, loaded_head, links_at, stored_next, Pushes, pushes_at, compared_head, loaded_handoff, TakesDuty, takes_at, compared_handoff, Gets, compared_locked, added_locked}
+use Rattle.co_mutex.specs.Plays.{done, Is, stored_who, heads_at, loaded_head, links_at, stored_next, Pushes, pushes_at, compared_head, loaded_handoff, TakesDuty, takes_at, compared_handoff, Gets, compared_locked, added_locked}
 use Rattle.co_mutex.proofs.GotSteps.{got, counted}
 use Rattle.co_mutex.proofs.QuietSteps.{who_stored, head_loaded, next_stored, push_lost, none_offered, one_offered, lock_lost, unlock_lost}
 use Rattle.co_mutex.proofs.PushStep.{push_won}

@@ -1,17 +1,17 @@
 -- The sub, and the swap of the own grant word, each as its step on the table asks.
-use Rattle.std.proofs.Common.{◌≡◌, ◌≢◌, ℕ, ◌+◌, ◌*◌, ◌-◌, ◌<◌, ◌%◌, ◌^◌, ◌⊎◌, inl, inr, ⊎_elim, reverse, Bool, true, false, not, ◌&&◌, cond, eqb, MatchBool, Some, List, [], ◌∷◌, ◌++◌, slice_index, set, get_or, refl, sym, ap, ◌∙◌, subst, arith, zero, suc}
+use Rattle.std.proofs.Common.{◌≡◌, ◌≢◌, ℕ, ◌+◌, ◌*◌, ◌-◌, ◌<◌, ◌%◌, ◌^◌, ◌⊎◌, inl, inr, ⊎_elim, reverse, Bool, true, false, not, ◌&&◌, cond, eqb, MatchBool, List, [], ◌∷◌, slice_index, set, get_or, refl, sym, ap, ◌∙◌, subst, arith, zero, suc}
 use Rattle.std.proofs.lemmas.Bool.{eq-eqb, eqb-true}
 use Rattle.std.proofs.lemmas.Nat.{mod_low}
 use mathlib.Core.Option.{some, none}
 use lib.ListN.{get_elem?}
-use Rattle.atomic_table.specs.Table.{State, Me, Act, keeps, takes, gives, chain, step, Valid, carried_after, stepped, Allows}
+use Rattle.atomic_table.specs.Table.{Me, Act, keeps, takes, gives, chain, step, Valid, carried_after, stepped, Allows}
 use Rattle.atomic_table.proofs.Lists.{set_else, set_again}
 use Rattle.co_mutex.specs.declared.slot.Slot.{Slot}
 use Rattle.co_mutex.specs.declared.slot.Slot.TheVariants.{Value}
-use Rattle.aio_model.specs.LockHistory.{LockEntry, Release, Waits, owner_of, value_of}
+use Rattle.aio_model.specs.LockHistory.{LockEntry, Release, Waits, value_of}
 use Rattle.aio_model.specs.LockNotes.{SameNotes, IsNoted}
 use Rattle.co_mutex.specs.Lists.{Each}
-use Rattle.co_mutex.specs.Places.{Locking, Unlocking, ToPop, Place, AtRest, Counted, Named, HeadLoaded, Linked, Pushed, Loaded, Queued, SelfGranted, Holds, OnDuty, Published, Found, is_holding, is_owning}
+use Rattle.co_mutex.specs.Places.{Unlocking, ToPop, Place, AtRest, Counted, Named, HeadLoaded, Linked, Pushed, Loaded, Queued, SelfGranted, Holds, OnDuty, Published, Found, is_holding, is_owning}
 use Rattle.co_mutex.specs.LockWords.{locked_at, handoff_at, grant_at}
 use Rattle.co_mutex.specs.Rule.{Popped, Baton, Free, Owned, Duty, Offered, owner_in, Fit, IsAt, grant_word, Stands}
 use Rattle.co_mutex.specs.Known.{LockedFetchSub, GrantSwap, Known, moves, learns, makes}

@@ -4,7 +4,7 @@ use Rattle.std.proofs.lemmas.Bool.{eq-eqb, ne_eqb}
 use Rattle.co_mutex.specs.declared.lock.CoMutex.{CoMutex}
 use Rattle.co_mutex.specs.declared.lock.Pass.{Pass}
 use Rattle.aio_model.specs.LockHistory.{Wait}
-use Rattle.co_mutex.specs.LockWords.{head_at, next_at, who_at}
+use Rattle.co_mutex.specs.LockWords.{head_at, who_at}
 use Rattle.co_mutex.specs.Places.{Named, HeadLoaded, Linked, Pushed}
 use Rattle.co_mutex.specs.Known.{WhoStore, HeadLoad, NextStore, HeadCompare, Done, Known, moves, advances}
 use Rattle.co_mutex.specs.Plays.{done, Pushes}

@@ -1,5 +1,5 @@
 -- The rule after a step that makes no entry, and after one that makes one.
-use Rattle.std.proofs.Common.{◌≡◌, ◌≢◌, ℕ, ◌<◌, true, false, List, ◌∷◌, slice_index, set, refl, sym, ap, ◌∙◌, subst, zero, suc}
+use Rattle.std.proofs.Common.{◌≡◌, ℕ, ◌<◌, true, false, List, ◌∷◌, slice_index, set, refl, sym, ap, ◌∙◌, subst, zero, suc}
 use Rattle.std.proofs.Common.{[]}
 use mathlib.Core.Option.{some}
 use lib.ListN.{get_elem?}

@@ -6,8 +6,7 @@ use Rattle.co_mutex.specs.declared.slot.Slot.TheVariants.{Waiters, Out}
 use Rattle.co_mutex.specs.declared.lock.CoMutex.{CoMutex}
 use Rattle.co_mutex.specs.declared.lock.Pass.{Pass}
 use Rattle.co_state.specs.declared.cx.CoId.{CoId}
-use Rattle.aio_model.specs.LockHistory.{LockEntry, Release, Grant, coroutine_of, IsLegalLock}
-use Rattle.aio_model.specs.LockSeats.{StandsInLock}
+use Rattle.aio_model.specs.LockHistory.{LockEntry, Release, Grant, IsLegalLock}
 use Rattle.co_mutex.specs.Lists.{Each}
 use Rattle.co_mutex.specs.PoppedList.{PoppedList}
 use Rattle.co_mutex.specs.LockWords.{locked_at, head_at, grant_at, who_at}
@@ -17,7 +16,7 @@ use Rattle.co_mutex.specs.Known.{Kind, LockedFetchSub, HeadSwap, WhoLoad, GrantS
 use Rattle.co_mutex.specs.Plays.{done, LeftAlone, LeftOthers}
 use Rattle.co_mutex.specs.Passes.{IsOf, known, carried}
 use Rattle.co_mutex.specs.Waking.{AllOf, looks_for, walks, Granted, Offered, Walked}
-use Rattle.co_mutex.specs.Calls.{wakes, Did, Comes, Names, word_of, UnlockSteps}
+use Rattle.co_mutex.specs.Calls.{wakes, Comes, Names, word_of, UnlockSteps}
 use Rattle.co_mutex.proofs.Calls.{stands_one, stands_more}
 use Rattle.co_mutex.proofs.Codes.{M}
 use Rattle.co_mutex.proofs.WakeOne.{all_append}
@@ -60,7 +59,7 @@ from_walks Rattle.co_mutex.specs.Known.HandoffCompare e = absurd cc
 from_walks Rattle.co_mutex.specs.Known.SecondLook e = absurd cc
 
 module _ {T : Type 0} where
-  list_of : (list other : PoppedList) → ◌≡◌ {A = List (ℕ × Slot T)} ((1, Waiters list) ∷ []) ((1, Waiters other) ∷ []) → list ≡ other
+  pub list_of : (list other : PoppedList) → ◌≡◌ {A = List (ℕ × Slot T)} ((1, Waiters list) ∷ []) ((1, Waiters other) ∷ []) → list ≡ other
   list_of list other e = same_list list other (ap (λ (l : List (ℕ × Slot T)). (Rattle.std.proofs.Common.get_or l 0 (1, Waiters list)).1) e)
     where
       same_list : (list other : PoppedList) → ◌≡◌ {A = Slot T} (Waiters list) (Waiters other) → list ≡ other

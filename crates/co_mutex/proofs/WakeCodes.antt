@@ -1,5 +1,5 @@
 -- What the steps of the duty tell, and that a pass stays what it is.
-use Rattle.std.proofs.Common.{◌≡◌, ◌≢◌, ℕ, ◌+◌, ◌-◌, ◌%◌, ◌^◌, Bool, true, false, eqb, cond, MatchBool, List, [], ◌∷◌, refl, sym, ap, ◌∙◌, subst}
+use Rattle.std.proofs.Common.{◌≡◌, ℕ, ◌+◌, ◌-◌, ◌%◌, ◌^◌, Bool, true, false, eqb, cond, MatchBool, List, [], ◌∷◌, refl, sym, ap, ◌∙◌, subst}
 use mathlib.Core.Option.{none}
 use Rattle.atomic_table.specs.Table.{step, Allows, rest}
 use Rattle.co_mutex.specs.declared.slot.Slot.{Slot}
@@ -13,7 +13,7 @@ use Rattle.co_mutex.specs.Known.{HeadSwap, NextLoad, WhoLoad, SecondLook, Known,
 use Rattle.co_mutex.specs.PoppedList.{PoppedList}
 use Rattle.co_mutex.specs.Waking.{Granted}
 use Rattle.co_mutex.specs.Seats.{Kept}
-use Rattle.co_mutex.specs.Plays.{done, Is, LeftAlone, LeftOthers, subbed, Swaps, swaps_at, Loads, loads_at, loaded_next, names_at, loaded_who, Grants, grants_at, stored_grant, looks_at, TakesDuty}
+use Rattle.co_mutex.specs.Plays.{done, Is, LeftAlone, LeftOthers, subbed, Swaps, Loads, loads_at, loaded_next, names_at, loaded_who, Grants, grants_at, stored_grant, looks_at}
 use Rattle.co_mutex.proofs.OwnerSteps.{sub_step}
 use Rattle.co_mutex.proofs.WakeSteps.{next_step, who_step, grant_step}
 use Rattle.co_mutex.proofs.Codes.{M, IsKept, kept_moves, kept_makes, one_in_hand}

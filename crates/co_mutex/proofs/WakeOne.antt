@@ -1,13 +1,9 @@
 -- How a locker with the duty came to grant the first waiter.
 use Rattle.std.proofs.Common.{◌≡◌, ◌≢◌, ℕ, true, false, eqb, MatchBool, List, [], ◌∷◌, ◌++◌, refl, sym, ap, ◌∙◌, subst}
-use Rattle.std.proofs.lemmas.Bool.{ne_eqb}
-use Rattle.co_mutex.specs.declared.slot.Slot.{Slot}
-use Rattle.co_mutex.specs.declared.slot.Slot.TheVariants.{Out}
-use Rattle.aio_model.specs.LockHistory.{LockEntry, Grant, IsLegalLock}
-use Rattle.co_mutex.specs.LockWords.{head_at, grant_at, who_at}
-use Rattle.co_mutex.specs.Places.{Side, Locking, Unlocking, Place, ToPop, Walking, Nobody, OnDuty, side_of, after_grant}
+use Rattle.co_mutex.specs.LockWords.{head_at}
+use Rattle.co_mutex.specs.Places.{Side, Locking, Unlocking, Place, ToPop, Walking, Nobody, OnDuty, side_of}
 use Rattle.co_mutex.specs.Known.{HeadSwap, WhoLoad, GrantStore, Done, Known, moves, advances, Goes}
-use Rattle.co_mutex.specs.Plays.{done, Is, Makes, Swaps}
+use Rattle.co_mutex.specs.Plays.{done, Is, Swaps}
 use Rattle.co_mutex.specs.Waking.{walks, AllOf, Granted, Walked, Woke}
 use Rattle.co_mutex.proofs.Codes.{M}
 

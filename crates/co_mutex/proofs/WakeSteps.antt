@@ -1,6 +1,6 @@
 -- The steps of who has the duty to wake, each as its step on the table asks: head swap, next load, who load, grant store,
 -- hand-off store, second look.
-use Rattle.std.proofs.Common.{◌≡◌, ◌≢◌, ℕ, ◌+◌, ◌<◌, ◌≤◌, inl, inr, ⊎_elim, Bool, true, false, cond, eqb, MatchBool, List, [], ◌∷◌, ◌++◌, reverse, slice_index, set, length, refl, sym, ap, ◌∙◌, subst, arith}
+use Rattle.std.proofs.Common.{◌≡◌, ◌≢◌, ℕ, ◌+◌, ◌<◌, ◌≤◌, inl, inr, ⊎_elim, Bool, true, false, cond, eqb, MatchBool, List, [], ◌∷◌, ◌++◌, reverse, slice_index, set, length, refl, sym, ap, subst, arith}
 use Rattle.std.proofs.Common.{length-append}
 use Rattle.std.proofs.lemmas.Bool.{cases_eq, eq-eqb, ne_eqb, eqb-true}
 use Rattle.std.proofs.lemmas.List.{length-reverse, reverse-append}
@@ -9,11 +9,11 @@ use lib.ListN.{get_elem?}
 use Rattle.atomic_table.specs.Table.{State, Me, Act, keeps, gives, step, Valid, carried_after, stepped, Allows}
 use Rattle.aio_chain.specs.Chains.{IsChain}
 use Rattle.co_mutex.specs.declared.slot.Slot.{Slot}
-use Rattle.aio_model.specs.LockHistory.{LockEntry, Grant, Waits, waiters_of}
-use Rattle.co_mutex.specs.Places.{Side, Locking, Unlocking, Task, ToPop, Walking, Nobody, Granting, Place, AtRest, Queued, SelfGranted, OnDuty, Published, Found, after_grant}
+use Rattle.aio_model.specs.LockHistory.{Grant, Waits, waiters_of}
+use Rattle.co_mutex.specs.Places.{Side, Locking, Unlocking, ToPop, Walking, Nobody, Granting, AtRest, Queued, SelfGranted, OnDuty, Published, Found, after_grant}
 use Rattle.co_mutex.specs.LockWords.{handoff_at, head_at, next_at, grant_at, who_at, next_in}
 use Rattle.co_mutex.specs.Rule.{Popped, Offered, Owned, Stands}
-use Rattle.co_mutex.specs.Known.{HeadSwap, NextLoad, WhoLoad, GrantStore, HandoffStore, SecondLook, Done, Known, moves, makes}
+use Rattle.co_mutex.specs.Known.{HeadSwap, NextLoad, WhoLoad, GrantStore, HandoffStore, SecondLook, Known, moves, makes}
 use Rattle.co_mutex.specs.Seats.{Kept}
 use Rattle.co_mutex.specs.Plays.{done, Is, Swaps, swaps_at, swapped_head, Loads, loads_at, loaded_next, names_at, loaded_who, Grants, grants_at, stored_grant, stored_number, looks_at, looked}
 use Rattle.co_mutex.proofs.WaitLists.{waits_front, waits_back}

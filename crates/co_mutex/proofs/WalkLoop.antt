@@ -1,5 +1,5 @@
 -- The loop of a walk: so far these were found.
-use Rattle.std.proofs.Common.{◌≡◌, ◌≢◌, ℕ, ◌+◌, ◌<◌, ◌≤◌, true, MatchBool, List, [], ◌∷◌, length, refl, sym, ap, ◌∙◌, subst, arith}
+use Rattle.std.proofs.Common.{◌≡◌, ◌≢◌, ℕ, ◌+◌, ◌<◌, ◌≤◌, MatchBool, List, [], ◌∷◌, length, refl, sym, ap, ◌∙◌, subst, arith}
 use Rattle.std.proofs.lemmas.Bool.{eq-eqb, ne_eqb}
 use Rattle.co_mutex.specs.declared.slot.Slot.TheVariants.{Out}
 use Rattle.co_mutex.specs.declared.lock.CoMutex.{CoMutex}
@@ -8,7 +8,7 @@ use Rattle.co_mutex.specs.Lists.{Each}
 use Rattle.co_mutex.specs.PoppedList.{PoppedList}
 use Rattle.co_mutex.specs.LockWords.{next_at}
 use Rattle.co_mutex.specs.Places.{Side, ToPop, Walking, OnDuty, side_of}
-use Rattle.co_mutex.specs.Known.{NextLoad, Done, Known, moves, advances}
+use Rattle.co_mutex.specs.Known.{NextLoad, Done, moves, advances}
 use Rattle.co_mutex.specs.Plays.{done, Is, Loads}
 use Rattle.co_mutex.specs.Passes.{IsOf, known, carried}
 use Rattle.co_mutex.specs.Waking.{walks, AllOf, Walked}

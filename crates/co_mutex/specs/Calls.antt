@@ -4,13 +4,11 @@ use Rattle.aio_model.specs.LockHistory.{LockEntry, Got, Wait, Grant, Release, co
 use Rattle.aio_model.specs.LockNotes.{IsNoted}
 use Rattle.aio_model.specs.LockSeats.{StandsInLock}
 use Rattle.co_state.specs.declared.cx.CoId.{CoId}
-use Rattle.co_mutex.specs.declared.lock.Guard.{Guard}
-use Rattle.co_mutex.specs.declared.lock.Waiting.{Waiting}
 use Rattle.co_mutex.specs.declared.answers.Begun.{Begun}
 use Rattle.co_mutex.specs.declared.answers.Begun.TheVariants.{Held as BeginsHeld, Later}
 use Rattle.co_mutex.specs.declared.answers.Lock.{Lock}
 use Rattle.co_mutex.specs.declared.answers.Lock.TheVariants.{Held, Queued as Waits}
-use Rattle.co_mutex.specs.LockWords.{locked_at, handoff_at, head_at, grant_at}
+use Rattle.co_mutex.specs.LockWords.{locked_at, grant_at}
 use Rattle.co_mutex.specs.Places.{Place, AtRest, Counted, Queued, Holds}
 use Rattle.co_mutex.specs.Known.{Kind, LockedCompare, LockedFetchAdd, LockedFetchSub, WhoStore, HeadLoad, NextStore, HeadCompare, HeadSwap, NextLoad, WhoLoad, GrantStore, GrantSwap, HandoffLoad, HandoffStore, HandoffCompare, SecondLook, Done, Known, moves, advances}
 use Rattle.co_mutex.specs.Plays.{done}
@@ -20,7 +18,7 @@ use Rattle.co_mutex.specs.Waking.{AllOf}
 abbrev pub word_of : CoId → ℕ
 word_of co = co.co * 2 ^ 32 + co.home
 
--- steps that were done in between, all of kinds that pass
+-- steps that were done in between, all of kinds that pass; no hand-off was published as 0
 pub record Did (test : Kind → Bool) (before after : List Done) : Type 0 where
   pub steps : List Done
   pub is : after ≡ steps ++ before

@@ -1,5 +1,5 @@
 -- What a pass knows of its lock.
-use Rattle.std.specs.Prelude.{◌≡◌, ℕ, Bool, true, false, Option, None, Some, List, [], ◌∷◌, ◌++◌}
+use Rattle.std.specs.Prelude.{◌≡◌, ℕ, Bool, true, false, Option, None, List, [], ◌∷◌, ◌++◌}
 use Rattle.aio_model.specs.LockHistory.{LockEntry, made_by, IsLegalLock}
 use Rattle.co_mutex.specs.Places.{Place, AtRest}
 

@@ -12,3 +12,5 @@ pub mod Waking
 pub mod Calls
 pub mod Lent
 pub mod Closing
+pub mod WakeDuty
+pub mod Decks

@@ -1,5 +1,5 @@
 -- The rule and the first view, from what the table is told once; and how passes go to seats of their own and come together again.
-use Rattle.std.specs.Prelude.{ℕ, Option, Some, List, [], ◌∷◌, ◌++◌, pred, zero, suc}
+use Rattle.std.specs.Prelude.{ℕ, Some, List, [], ◌∷◌, ◌++◌, pred, zero, suc}
 use Rattle.atomic_table.specs.Table.{State}
 use Rattle.co_mutex.specs.declared.slot.Slot.{Slot}
 use Rattle.co_mutex.specs.declared.rule.Opened.{Opened}

@@ -1,15 +1,14 @@
 -- What the parts of a wake leave: the steps that were done, and whom the pass granted.
-use Rattle.std.specs.Prelude.{◌≡◌, ◌≢◌, ℕ, ◌<◌, ◌==◌, Bool, true, false, ◌⊎◌, Option, Some, None, List, [], ◌∷◌, ◌++◌, MatchBool}
+use Rattle.std.specs.Prelude.{◌≡◌, ℕ, ◌<◌, ◌==◌, ◌&&◌, not, Bool, true, false, List, [], ◌∷◌, MatchBool}
 use Rattle.atomic_table.specs.Table.{Me}
-use Rattle.aio_model.specs.LockHistory.{LockEntry, Wait, Grant, Release, coroutine_of, IsLegalLock}
-use Rattle.aio_model.specs.LockSeats.{StandsInLock}
+use Rattle.aio_model.specs.LockHistory.{LockEntry, Wait, Grant, coroutine_of}
 use Rattle.co_mutex.specs.Lists.{Each}
 use Rattle.co_mutex.specs.declared.slot.Slot.{Slot}
 use Rattle.co_mutex.specs.declared.slot.Slot.TheVariants.{Out}
-use Rattle.co_mutex.specs.LockWords.{locked_at, handoff_at, head_at, grant_at, who_at}
-use Rattle.co_mutex.specs.Places.{Side, Locking, Unlocking, Place, ToPop, AtRest, Pushed, Queued, OnDuty, after_grant}
+use Rattle.co_mutex.specs.LockWords.{head_at, grant_at, who_at}
+use Rattle.co_mutex.specs.Places.{Side, Locking, Unlocking, ToPop, AtRest, Pushed, Queued, OnDuty, after_grant}
 use Rattle.co_mutex.specs.Rule.{Popped}
-use Rattle.co_mutex.specs.Known.{Kind, LockedFetchSub, WhoStore, HeadLoad, NextStore, HeadCompare, HeadSwap, NextLoad, WhoLoad, GrantStore, HandoffLoad, HandoffStore, HandoffCompare, SecondLook, Done, Known, advances, Goes}
+use Rattle.co_mutex.specs.Known.{Kind, WhoStore, HeadLoad, NextStore, HeadCompare, HeadSwap, NextLoad, WhoLoad, GrantStore, HandoffLoad, HandoffStore, HandoffCompare, SecondLook, Done, Known, advances}
 use Rattle.co_mutex.specs.Plays.{done, Makes}
 
 -- the kinds of step by which a pass looks for a waiter
@@ -41,9 +40,16 @@ takes_up HandoffLoad = true
 takes_up HandoffCompare = true
 takes_up _ = false
 
+-- a number that was published isn't 0
+abbrev pub is_numbered : Kind → ℕ → Bool
+is_numbered HandoffStore number = not (number == 0)
+is_numbered _ number = true
+
+-- all are of kinds that pass
 abbrev pub AllOf : (Kind → Bool) → List Done → Type 0
 AllOf test [] = Unit {0}
-AllOf test (step ∷ steps) = (test step.kind ≡ true) × AllOf test steps
+AllOf test (step ∷ steps) =
+    ((test step.kind && is_numbered step.kind step.found) ≡ true) × AllOf test steps
 
 module _ {T : Type 0} where
   -- the pass loaded the coroutine of q, granted it and has nothing in hand

@@ -20,6 +20,8 @@ mod ids;
 mod lends;
 mod lock;
 mod locking;
+#[cfg(test)]
+mod orders;
 mod plays;
 mod popped;
 mod queuing;

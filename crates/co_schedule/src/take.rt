@@ -14,7 +14,7 @@ use co_state::Origin;
 
 impl<C: Origin + Drop> CoTable<C> {
     /// The coroutine to which a word of the list leads.
-    fn co_of(&self, word: u64) -> u32
+    pub(crate) fn co_of(&self, word: u64) -> u32
         requires some { 0 < word }
         requires below { word ≤ self.now.coroutines }
         ensures { result + 1 ≡ word }

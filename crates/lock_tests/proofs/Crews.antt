@@ -7,7 +7,7 @@ use Rattle.co_mutex.proofs.Deals.{at_snoc_index}
 use Rattle.lock_tests.specs.declared.number.Number.{Number}
 use Rattle.lock_tests.specs.declared.player.Player.{Player}
 use Rattle.lock_tests.specs.Crews.{IsPlayerOf, AreOf}
-use Rattle.lock_tests.proofs.Decks.{at_front, at_end}
+use Rattle.co_mutex.proofs.Decks.{at_front, at_end}
 
 module _ {A : Type 0} where
   pub at_index : (xs : List A) (k : ℕ) (d : A) → k < length xs → get_elem? xs k ≡ some (slice_index_or xs k d)

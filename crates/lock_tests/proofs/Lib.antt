@@ -1,2 +1,1 @@
-pub mod Decks
 pub mod Crews

@@ -1,3 +1,3 @@
 pub mod Hands
-pub mod Decks
 pub mod Crews
+pub mod Tallies

@@ -1,11 +1,12 @@
-//! Threads that each take the lock over and over and add 1, and wake each coroutine that is named.
+//! Threads that each take the lock over and over and count that, and wake each coroutine that is named.
 ghost use Rattle.std.specs.Prelude.{◌≡◌, ◌<◌, ◌+◌, vec_len};
+ghost use Rattle.aio_model.specs.LockHistory.{value_of};
 ghost use Rattle.co_mutex.specs.Places.{AtRest, Holds};
-ghost use Rattle.co_mutex.specs.Passes.{IsPassOf, known};
-ghost use Rattle.lock_tests.specs.Decks.{IsResting, AreResting};
+ghost use Rattle.co_mutex.specs.Passes.{IsPassOf, built_of, known};
+ghost use Rattle.co_mutex.specs.Decks.{IsResting, AreResting};
 
 use crate::closing::{built, closed};
-use crate::number::Number;
+use crate::tally::{Tallies, Tally};
 use co_mutex::{CoMutex, Guard, Lock, Pass};
 use co_state::CoId;
 use std::process::Abort;
@@ -56,16 +57,17 @@ fn sleep<R: Wait>(rt: &R, bells: &Bells, co: CoId, woken: u64) {
 /// Takes the lock, and sleeps where it isn't free. The one wake finds the lock granted.
 fn take<R: Wait + Abort>(
     rt: &R,
-    lock: &CoMutex<Number>,
-    pass: &mut Pass<Number>,
+    lock: &CoMutex<Tallies>,
+    pass: &mut Pass<Tallies>,
     bells: &Bells,
     co: CoId,
     woken: &mut u64,
-) -> Guard<Number>
+) -> Guard<Tallies>
     requires pass { IsPassOf lock.now pass.old }
     requires rest { (known pass.old).place ≡ AtRest }
     ensures pass { IsPassOf lock.now pass.new }
     ensures holds { (known pass.new).place ≡ Holds }
+    ensures value { result.value ≡ value_of (built_of lock.now) (known pass.new).seen }
     ensures same { (known pass.new).number ≡ (known pass.old).number }
 {
     match lock.lock(rt, pass, co) {
@@ -82,15 +84,15 @@ fn take<R: Wait + Abort>(
     }
 }
 
-/// Takes the lock so many times and adds 1, with the pass of this number.
+/// Takes the lock so many times and counts that, with the pass of this number.
 fn add_all<R: Wait + Abort>(
     rt: &R,
-    lock: &CoMutex<Number>,
-    pass: Pass<Number>,
+    lock: &CoMutex<Tallies>,
+    pass: Pass<Tallies>,
     bells: &Bells,
     number: u32,
     times: u32,
-) -> Pass<Number>
+) -> Pass<Tallies>
     requires pass { IsResting lock.now number pass }
     ensures pass { IsResting lock.now number result }
 {
@@ -101,10 +103,9 @@ fn add_all<R: Wait + Abort>(
     begin(rt, bells);
     let mut pass = pass;
     let mut woken = 0u64;
-    for _ in 0..times {
+    for held in 0..times {
         let mut guard = take(rt, lock, &mut pass, bells, co, &mut woken);
-        let value = guard.value();
-        *value = value.wrapping_add(1);
+        guard.value().count(rt, number, held);
         wake(bells, lock.unlock(rt, &mut pass, guard));
     }
     pass
@@ -113,13 +114,13 @@ fn add_all<R: Wait + Abort>(
 /// Two passes at once, of which the first has this number.
 fn two_add<R: Threads + Wait + Abort + Sync>(
     rt: &R,
-    lock: &CoMutex<Number>,
-    first: Pass<Number>,
-    second: Pass<Number>,
+    lock: &CoMutex<Tallies>,
+    first: Pass<Tallies>,
+    second: Pass<Tallies>,
     bells: &Bells,
     number: u32,
     times: u32,
-) -> (Pass<Number>, Pass<Number>)
+) -> (Pass<Tallies>, Pass<Tallies>)
     requires number { number < 4 }
     requires first { IsResting lock.now number first }
     requires second { IsResting lock.now (number + 1) second }
@@ -129,11 +130,11 @@ fn two_add<R: Threads + Wait + Abort + Sync>(
     let next = number + 1;
     join(
         rt,
-        || -> Pass<Number>
+        || -> Pass<Tallies>
             requires { IsResting lock.now number first }
             ensures { IsResting lock.entry.now number result }
         { add_all(rt, lock, first, bells, number, times) },
-        || -> Pass<Number>
+        || -> Pass<Tallies>
             requires { IsResting lock.now next second }
             ensures { IsResting lock.entry.now next result }
         { add_all(rt, lock, second, bells, next, times) },
@@ -143,12 +144,15 @@ fn two_add<R: Threads + Wait + Abort + Sync>(
 /// Four passes at once, each on a thread of its own.
 fn four_add<R: Threads + Wait + Abort + Sync>(
     rt: &R,
-    lock: &CoMutex<Number>,
-    low: (Pass<Number>, Pass<Number>),
-    high: (Pass<Number>, Pass<Number>),
+    lock: &CoMutex<Tallies>,
+    low: (Pass<Tallies>, Pass<Tallies>),
+    high: (Pass<Tallies>, Pass<Tallies>),
     bells: &Bells,
     times: u32,
-) -> ((Pass<Number>, Pass<Number>), (Pass<Number>, Pass<Number>))
+) -> (
+    (Pass<Tallies>, Pass<Tallies>),
+    (Pass<Tallies>, Pass<Tallies>),
+)
     requires low { IsResting lock.now 0 low.0 × IsResting lock.now 1 low.1 }
     requires high { IsResting lock.now 2 high.0 × IsResting lock.now 3 high.1 }
     ensures low { IsResting lock.now 0 result.0.0 × IsResting lock.now 1 result.0.1 }
@@ -156,11 +160,11 @@ fn four_add<R: Threads + Wait + Abort + Sync>(
 {
     join(
         rt,
-        || -> (Pass<Number>, Pass<Number>)
+        || -> (Pass<Tallies>, Pass<Tallies>)
             requires { IsResting lock.now 0 low.0 × IsResting lock.now 1 low.1 }
             ensures { IsResting lock.entry.now 0 result.0 × IsResting lock.entry.now 1 result.1 }
         { two_add(rt, lock, low.0, low.1, bells, 0, times) },
-        || -> (Pass<Number>, Pass<Number>)
+        || -> (Pass<Tallies>, Pass<Tallies>)
             requires { IsResting lock.now 2 high.0 × IsResting lock.now 3 high.1 }
             ensures { IsResting lock.entry.now 2 result.0 × IsResting lock.entry.now 3 result.1 }
         { two_add(rt, lock, high.0, high.1, bells, 2, times) },
@@ -169,9 +173,9 @@ fn four_add<R: Threads + Wait + Abort + Sync>(
 
 fn pair<R: Abort>(
     rt: &R,
-    lock: &CoMutex<Number>,
-    passes: &mut Vec<Pass<Number>>,
-) -> (Pass<Number>, Pass<Number>)
+    lock: &CoMutex<Tallies>,
+    passes: &mut Vec<Pass<Tallies>>,
+) -> (Pass<Tallies>, Pass<Tallies>)
     requires each { AreResting lock.now passes.old.items }
     ensures each { AreResting lock.now passes.new.items }
     ensures count { vec_len passes.new + 2 ≡ vec_len passes.old }
@@ -188,9 +192,9 @@ fn pair<R: Abort>(
 
 fn put_back<R: Abort>(
     rt: &R,
-    lock: &CoMutex<Number>,
-    passes: &mut Vec<Pass<Number>>,
-    both: (Pass<Number>, Pass<Number>),
+    lock: &CoMutex<Tallies>,
+    passes: &mut Vec<Pass<Tallies>>,
+    both: (Pass<Tallies>, Pass<Tallies>),
 )
     requires each { AreResting lock.now passes.old.items }
     requires pair { IsResting lock.now (vec_len passes.old) both.0 × IsResting lock.now (vec_len passes.old + 1) both.1 }
@@ -203,12 +207,9 @@ fn put_back<R: Abort>(
     passes.push_reserved(second);
 }
 
-#[test]
-fn four_threads_add_forty_thousand(rt: HostRuntime) -> Result<(), Fail> {
-    let (lock, mut passes) = built(&rt, rt.alloc(), 0, 4);
-    let high = pair(&rt, &lock, &mut passes);
-    let low = pair(&rt, &lock, &mut passes);
-    let bells = Bells {
+/// No bell was rung yet, and no thread has begun.
+fn silent() -> Bells {
+    Bells {
         rung: [
             AtomicU64::new(0),
             AtomicU64::new(0),
@@ -216,17 +217,34 @@ fn four_threads_add_forty_thousand(rt: HostRuntime) -> Result<(), Fail> {
             AtomicU64::new(0),
         ],
         begun: AtomicU64::new(0),
+    }
+}
+
+/// How often the bells were rung.
+fn rung(bells: &Bells) -> u64 {
+    let mut sum = 0u64;
+    for bell in &bells.rung {
+        sum = sum.wrapping_add(bell.load(Ordering::SeqCst));
+    }
+    sum
+}
+
+#[test]
+fn four_threads_count_forty_thousand(rt: HostRuntime) -> Result<(), Fail> {
+    let tally = Tally {
+        sum: 0,
+        own: [0; 4],
     };
+    let (lock, mut passes) = built::<Tallies, _>(&rt, rt.alloc(), tally, 4);
+    let high = pair(&rt, &lock, &mut passes);
+    let low = pair(&rt, &lock, &mut passes);
+    let bells = silent();
     let (low, high) = four_add(&rt, &lock, low, high, &bells, 10_000);
     put_back(&rt, &lock, &mut passes, low);
     put_back(&rt, &lock, &mut passes, high);
-    assert_eq!(rt; closed(lock, passes), 40_000);
-    let low = bells.rung[0]
-        .load(Ordering::SeqCst)
-        .wrapping_add(bells.rung[1].load(Ordering::SeqCst));
-    let high = bells.rung[2]
-        .load(Ordering::SeqCst)
-        .wrapping_add(bells.rung[3].load(Ordering::SeqCst));
-    println!(rt; "{} of 40000 locks slept", low.wrapping_add(high))?;
+    let tally = closed(lock, passes);
+    assert_eq!(rt; tally.sum, 40_000);
+    assert_eq!(rt; tally.own, [10_000; 4]);
+    println!(rt; "{} of 40000 locks slept", rung(&bells))?;
     Ok(())
 }

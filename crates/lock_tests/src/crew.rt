@@ -2,7 +2,7 @@
 ghost use Rattle.std.specs.Prelude.{◌≡◌, ◌<◌, ◌≤◌, ◌+◌, vec_len};
 ghost use Rattle.co_mutex.specs.Places.{AtRest};
 ghost use Rattle.co_mutex.specs.Passes.{passes_of, known};
-ghost use Rattle.lock_tests.specs.Decks.{IsResting, AreResting};
+ghost use Rattle.co_mutex.specs.Decks.{IsResting, AreResting};
 ghost use Rattle.lock_tests.specs.Crews.{AreOf};
 
 use crate::hand::{Answer, Hand, Turn};

@@ -12,7 +12,9 @@ mod number;
 mod player;
 #[cfg(test)]
 mod rows;
+mod tally;
 
 pub use hand::{Answer, Hand, Turn};
 pub use number::Number;
 pub use player::Player;
+pub use tally::{Tallies, Tally};

@@ -46,7 +46,7 @@ fn play_all<R: Wait + Abort>(
 fn after_rows<R: Wait + Abort>(rt: &R, alloc: Global, passes: u32, rows: &[Row]) -> u64
     requires { (1 ≤ passes) × (passes ≤ 64) }
 {
-    let (lock, passes) = built(rt, alloc, 5, passes);
+    let (lock, passes) = built::<Number, R>(rt, alloc, 5, passes);
     let mut players = dealt(rt, alloc, &lock, passes);
     play_all(rt, &lock, &mut players, rows);
     let passes = returned(rt, alloc, &lock, players);
@@ -171,7 +171,7 @@ fn all_take<R: Wait + Abort>(rt: &R, lock: &CoMutex<Number>, players: &mut Vec<O
 
 #[test]
 fn each_of_64_passes_is_named_in_its_turn(rt: HostRuntime) {
-    let (lock, passes) = built(&rt, rt.alloc(), 5, 64);
+    let (lock, passes) = built::<Number, _>(&rt, rt.alloc(), 5, 64);
     let mut players = dealt(&rt, rt.alloc(), &lock, passes);
     all_queue(&rt, &lock, &mut players);
     all_take(&rt, &lock, &mut players);

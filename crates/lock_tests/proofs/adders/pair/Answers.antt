@@ -1,6 +1,6 @@
 use Rattle.std.proofs.Common.{◌≡◌, ◌+◌, vec_len, length, subst, arith}
-use Rattle.lock_tests.specs.Decks.{IsResting}
-use Rattle.lock_tests.proofs.Decks.{last_one, before_it}
+use Rattle.co_mutex.specs.Decks.{IsResting}
+use Rattle.co_mutex.proofs.Decks.{last_one, before_it}
 use Rattle.lock_tests.proofs.adders.pair.Goals as goal
 
 pub returns-clause-each : goal.returns-clause-each

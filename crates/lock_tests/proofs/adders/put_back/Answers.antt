@@ -1,6 +1,6 @@
 use Rattle.std.proofs.Common.{◌≡◌, ◌+◌, vec_len, length, subst, arith}
-use Rattle.lock_tests.specs.Decks.{IsResting}
-use Rattle.lock_tests.proofs.Decks.{one_more}
+use Rattle.co_mutex.specs.Decks.{IsResting}
+use Rattle.co_mutex.proofs.Decks.{one_more}
 use Rattle.lock_tests.proofs.adders.put_back.Goals as goal
 
 pub returns-clause-each : goal.returns-clause-each

@@ -1,4 +1,4 @@
-use Rattle.lock_tests.proofs.Decks.{new_rest}
+use Rattle.co_mutex.proofs.Decks.{new_rest}
 use Rattle.lock_tests.proofs.closing.built.Goals as goal
 
 pub returns-clause-each : goal.returns-clause-each

@@ -1,7 +1,7 @@
 use Rattle.std.proofs.Common.{◌≡◌, ◌+◌, length, sym, ap, ◌∙◌, subst, arith}
 use Rattle.co_mutex.specs.Passes.{IsPassOf, known}
 use Rattle.lock_tests.specs.Crews.{IsPlayerOf}
-use Rattle.lock_tests.proofs.Decks.{last_one, before_it}
+use Rattle.co_mutex.proofs.Decks.{last_one, before_it}
 use Rattle.lock_tests.proofs.Crews.{comes_behind}
 use Rattle.lock_tests.proofs.crew.dealt.Goals as goal
 

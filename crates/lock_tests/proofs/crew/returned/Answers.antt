@@ -1,7 +1,7 @@
 use Rattle.std.proofs.Common.{◌≡◌, length, ◌∷◌, [], ◌++◌, sym, ap, ◌∙◌, subst, arith}
 use Rattle.co_mutex.specs.Passes.{IsPassOf, known}
-use Rattle.lock_tests.specs.Decks.{IsResting}
-use Rattle.lock_tests.proofs.Decks.{one_more}
+use Rattle.co_mutex.specs.Decks.{IsResting}
+use Rattle.co_mutex.proofs.Decks.{one_more}
 use Rattle.lock_tests.proofs.Crews.{was_last, were_before}
 use Rattle.lock_tests.proofs.crew.returned.Goals as goal
 

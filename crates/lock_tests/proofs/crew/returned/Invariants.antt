@@ -1,5 +1,5 @@
 use Rattle.std.proofs.Common.{◌≡◌, ◌+◌, ◌≤◌, vec_len, vec_capacity}
-use Rattle.lock_tests.specs.Decks.{AreResting}
+use Rattle.co_mutex.specs.Decks.{AreResting}
 use Rattle.lock_tests.specs.Crews.{AreOf}
 use Rattle.lock_tests.proofs.crew.returned.Given as goal
 

@@ -1,8 +1,7 @@
-use Rattle.std.proofs.Common.{◌≡◌, ℕ, ◌<◌, ap, sym, ◌∙◌, subst}
-use mathlib.Core.Option.{some, some-injective}
+use Rattle.std.proofs.Common.{ap, sym, ◌∙◌}
+use mathlib.Core.Option.{some-injective}
 use lib.ListN.{get_elem?}
-use Rattle.co_mutex.specs.Closing.{In}
-use Rattle.co_mutex.specs.Opening.{part_of, parts_of}
+use Rattle.co_mutex.specs.Opening.{part_of}
 use Rattle.co_mutex.specs.Passes.{known}
 use Rattle.co_mutex.proofs.OwnerSteps.{value_same}
 use Rattle.co_mutex.proofs.Gathering.{ends}

@@ -1,4 +1,4 @@
-use Rattle.std.proofs.Common.{rules, arith, ap, sym, refl, subst, ◌∙◌, ◌≡◌, ◌+◌, ◌-◌, ◌<◌, Some, [], length}
+use Rattle.std.proofs.Common.{arith, ap, sym, refl, subst, ◌∙◌, ◌≡◌, ◌-◌, ◌<◌, Some, [], length}
 use Rattle.co_mutex.specs.Passes.{built_of, passes_of, IsNew}
 use Rattle.co_mutex.proofs.Dealing.{each_more, deals, dealt_left, dealt_one, dealt_last, new_pass}
 use Rattle.co_mutex.proofs.lock.CoMutex.deal.Goals as goal

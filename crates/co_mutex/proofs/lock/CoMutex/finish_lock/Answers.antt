@@ -1,4 +1,4 @@
-use Rattle.std.proofs.Common.{subst, ◌∙◌, ◌≡◌, ◌≢◌, ℕ, [], ◌∷◌}
+use Rattle.std.proofs.Common.{subst, ◌∙◌, ◌≢◌, ℕ, [], ◌∷◌}
 use Rattle.aio_model.specs.LockHistory.{Grant, Wait}
 use Rattle.co_mutex.specs.Places.{Queued}
 use Rattle.co_mutex.specs.Calls.{Comes, Names, HoldsNow}

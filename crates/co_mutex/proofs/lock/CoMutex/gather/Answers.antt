@@ -1,4 +1,4 @@
-use Rattle.std.proofs.Common.{rules, arith, ap, sym, refl, ◌∙◌, subst, ◌≡◌, ◌⊎◌, List, [], ℕ}
+use Rattle.std.proofs.Common.{arith, ap, sym, ◌∙◌, subst, ◌≡◌, ◌⊎◌, List}
 use mathlib.Core.Option.{some}
 use Rattle.atomic_table.specs.declared.shared.Seat.{Seat}
 use Rattle.co_mutex.specs.declared.slot.Slot.{Slot}

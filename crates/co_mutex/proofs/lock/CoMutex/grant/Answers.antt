@@ -1,4 +1,4 @@
-use Rattle.std.proofs.Common.{ap, sym, subst, ◌≡◌, ◌∙◌}
+use Rattle.std.proofs.Common.{ap, sym, subst, ◌∙◌}
 use Rattle.co_mutex.specs.Places.{Granting, OnDuty, side_of}
 use Rattle.co_mutex.proofs.Codes.{M}
 use Rattle.co_mutex.proofs.WakeCodes.{roomy, granted_of}

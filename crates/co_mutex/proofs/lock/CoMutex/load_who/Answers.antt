@@ -1,4 +1,4 @@
-use Rattle.std.proofs.Common.{refl, ◌≡◌, arith, subst}
+use Rattle.std.proofs.Common.{refl, arith, subst}
 use Rattle.co_mutex.specs.Places.{Granting, OnDuty, side_of}
 use Rattle.co_mutex.specs.Known.{WhoLoad, moves}
 use Rattle.co_mutex.specs.Plays.{done, Is}

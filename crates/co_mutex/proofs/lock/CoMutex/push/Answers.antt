@@ -1,4 +1,3 @@
-use Rattle.std.proofs.Common.{[]}
 use Rattle.co_mutex.specs.LockWords.{next_at}
 use Rattle.co_mutex.proofs.PushLoop.{push_init, push_named, push_free, loaded_place, stored_place, push_on, push_end}
 use Rattle.co_mutex.proofs.lock.CoMutex.push.Goals as goal

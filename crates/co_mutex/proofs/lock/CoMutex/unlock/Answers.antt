@@ -1,6 +1,5 @@
-use Rattle.std.proofs.Common.{ap, sym, ◌∙◌}
+use Rattle.std.proofs.Common.{◌∙◌}
 use Rattle.co_mutex.specs.Places.{side_of}
-use Rattle.co_mutex.proofs.Codes.{M}
 use Rattle.co_mutex.proofs.WakeOne.{swap_moved, swapped_side}
 use Rattle.co_mutex.proofs.UnlockLoop.{has_list, alone_comes, again_list, wake_init, wake_none, wake_back, wake_walked, wake_grants, wake_side}
 use Rattle.co_mutex.proofs.lock.CoMutex.unlock.Goals as goal

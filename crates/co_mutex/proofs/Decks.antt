@@ -7,7 +7,7 @@ use Rattle.co_mutex.specs.declared.lock.Pass.{Pass}
 use Rattle.co_mutex.specs.Passes.{IsNew, passes_of}
 use Rattle.co_mutex.specs.Closing.{AreAll}
 use Rattle.co_mutex.proofs.Deals.{at_snoc_index}
-use Rattle.lock_tests.specs.Decks.{IsResting, AreResting}
+use Rattle.co_mutex.specs.Decks.{IsResting, AreResting}
 
 pub there_is : {A : Type 0} (xs : List A) (k : ℕ) → k < length xs → (a : A) × (get_elem? xs k ≡ some a)
 there_is [] k low = absurd (omega (arith, low))

@@ -1,0 +1,10 @@
+use Rattle.std.proofs.Common.{◌≡◌}
+use Rattle.aio_core.specs.Known.{empty_stage}
+use Rattle.aio_bh.specs.OneShots.{ServesHome}
+use Rattle.aio_bh.specs.Ready.{IsReady}
+use Rattle.schedule_bench.specs.Homes.{IsIdle}
+use Rattle.schedule_bench.proofs.other.poll_all.Given as goal
+
+abbrev pub invariant-loop : goal.invariant-loop
+invariant-loop g l =
+    ServesHome l.loop_table.sizes l.lots.pool l.lots.home × IsReady l.loop_table l.loop_home.seat × (l.loop_home.seat.known.stage ≡ empty_stage) × IsIdle l.callback.table.now l.callback.home l.callback.run

@@ -1,0 +1,7 @@
+use Rattle.aio_bh.specs.Ready.{IsReady}
+use Rattle.co_schedule.specs.Calls.{IsSeatOf}
+use Rattle.schedule_bench.proofs.other.wake_all.Given as goal
+
+abbrev pub invariant-loop-turn : goal.invariant-loop-turn
+invariant-loop-turn g l =
+    IsReady l.loop_table l.poster.bh_seat × IsSeatOf l.table l.poster.seat

@@ -1,0 +1,11 @@
+use Rattle.std.proofs.Common.{◌≡◌}
+use Rattle.aio_core.specs.Known.{empty_stage}
+use Rattle.aio_bh.specs.OneShots.{ServesHome}
+use Rattle.aio_bh.specs.Ready.{IsReady}
+use Rattle.co_schedule.specs.Calls.{IsSeatOf}
+use Rattle.schedule_bench.specs.Homes.{IsIdle}
+use Rattle.schedule_bench.proofs.same.rounds.Given as goal
+
+abbrev pub invariant-loop : goal.invariant-loop
+invariant-loop g l =
+    ServesHome l.loop_table.sizes l.lots.pool l.lots.home × IsReady l.loop_table l.loop_home.seat × (l.loop_home.seat.known.stage ≡ empty_stage) × IsReady l.loop_table l.bh_seat × IsIdle l.callback.table.now l.callback.home l.callback.run × IsSeatOf l.table l.seat

@@ -1,0 +1,50 @@
+//! A loop with one handle, and the table of the coroutines of its home.
+ghost use Rattle.std.specs.Prelude.{◌≡◌, IfOk};
+ghost use Rattle.aio_core.specs.Known.{empty_stage};
+ghost use Rattle.aio_bh.specs.Ready.{IsReady};
+ghost use Rattle.aio_bh.specs.OneShots.{ServesHome};
+ghost use Rattle.co_schedule.specs.Calls.{IsSeatOf};
+ghost use Rattle.schedule_bench.specs.Homes.{IsIdle};
+
+use aio_bh::{LotBuilt, LotPool};
+use aio_core::{Built, LoopTable};
+use co_schedule::{CoBuilt, CoRun, CoTable};
+use std::alloc::Global;
+use std::io;
+use std::sync::Wait;
+
+/// All that is built before anything is measured.
+#[derive(Drop)]
+pub struct HomeParts {
+    pub lots: LotBuilt,
+    pub of_loop: Built<()>,
+    pub of_coroutines: CoBuilt<u64>,
+    pub run: CoRun,
+}
+
+pub fn build_parts<R: Wait>(rt: &R, alloc: Global) -> io::Result<HomeParts>
+    ensures lots { IfOk result (λ r. ServesHome r.of_loop.table.sizes r.lots.pool r.lots.home) }
+    ensures home { IfOk result (λ r. IsReady r.of_loop.table r.of_loop.home.seat × (r.of_loop.home.seat.known.stage ≡ empty_stage)) }
+    ensures seat { IfOk result (λ r. IsReady r.of_loop.table r.of_loop.seat × (r.of_loop.table.sizes.handles ≡ 1)) }
+    ensures idle { IfOk result (λ r. IsIdle r.of_coroutines.table r.of_coroutines.home r.run) }
+    ensures coroutines { IfOk result (λ r. IsSeatOf r.of_coroutines.table r.of_coroutines.seat × (r.of_coroutines.table.coroutines ≡ 33)) }
+{
+    let Ok(lots) = LotPool::build(rt, alloc, 1, 0) else {
+        return Err(io::Error::from(io::ErrorKind::OutOfMemory));
+    };
+    let Ok(of_loop) = LoopTable::<()>::build(alloc, 1, 0, 0) else {
+        return Err(io::Error::from(io::ErrorKind::OutOfMemory));
+    };
+    let Ok(of_coroutines) = CoTable::<u64>::build(alloc, 33) else {
+        return Err(io::Error::from(io::ErrorKind::OutOfMemory));
+    };
+    let Ok(run) = CoRun::build(alloc, 33) else {
+        return Err(io::Error::from(io::ErrorKind::OutOfMemory));
+    };
+    Ok(HomeParts {
+        lots,
+        of_loop,
+        of_coroutines,
+        run,
+    })
+}

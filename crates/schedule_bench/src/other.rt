@@ -1,0 +1,165 @@
+//! A thread posts wakes while the home polls, until it has said by a coroutine of its own that it is done.
+ghost use Rattle.std.specs.Prelude.{◌≡◌, ◌<◌};
+ghost use Rattle.aio_core.specs.Known.{empty_stage};
+ghost use Rattle.aio_bh.specs.Ready.{IsReady};
+ghost use Rattle.aio_bh.specs.OneShots.{ServesHome};
+ghost use Rattle.co_schedule.specs.Calls.{IsSeatOf};
+ghost use Rattle.schedule_bench.specs.Homes.{IsIdle};
+
+use crate::built::{HomeParts, build_parts};
+use crate::callbacks::{Begun, HomeCallback, SHARED};
+use aio_bh::{BottomHalves, LotBuilt};
+use aio_core::{Built, Home, LoopTable, Seat};
+use co_schedule::{Cause, CoBuilt, CoHome, CoRun, CoSeat, CoTable};
+use std::alloc::Global;
+use std::io;
+use std::sync::Wait;
+use std::thread::{Threads, join, yield_now};
+
+const WAKES: u32 = 200_000;
+
+/// The seats of the thread that posts.
+#[derive(Drop)]
+struct Poster {
+    seat: CoSeat<u64>,
+    bh_seat: Seat<()>,
+}
+
+/// Posts a wake until it is accepted.
+fn wake<R: Wait>(
+    rt: &R,
+    loop_table: &LoopTable<()>,
+    table: &CoTable<u64>,
+    poster: &mut Poster,
+    co: u32,
+)
+    requires bh_seat { IsReady loop_table.now poster.old.bh_seat }
+    requires handles { loop_table.now.sizes.handles ≡ 1 }
+    requires seat { IsSeatOf table.now poster.old.seat }
+    requires below { co < table.now.coroutines }
+    ensures bh_seat { IsReady loop_table.now poster.new.bh_seat }
+    ensures seat { IsSeatOf table.now poster.new.seat }
+{
+    for _ in rt.forever() {
+        if table
+            .post(
+                rt,
+                loop_table,
+                &mut poster.seat,
+                &mut poster.bh_seat,
+                co,
+                Cause::Wake,
+                None,
+            )
+            .is_ok()
+        {
+            return;
+        }
+        yield_now();
+    }
+}
+
+/// Wakes one coroutine after another, and then the one by which this thread says that it is done.
+fn wake_all<R: Wait>(rt: &R, loop_table: &LoopTable<()>, table: &CoTable<u64>, poster: Poster)
+    requires bh_seat { IsReady loop_table.now poster.bh_seat }
+    requires handles { loop_table.now.sizes.handles ≡ 1 }
+    requires seat { IsSeatOf table.now poster.seat }
+    requires coroutines { table.now.coroutines ≡ 33 }
+{
+    let mut poster = poster;
+    for turn in 0..WAKES {
+        wake(rt, loop_table, table, &mut poster, turn % SHARED);
+    }
+    wake(rt, loop_table, table, &mut poster, SHARED);
+}
+
+/// Polls until the other thread has said that it is done. How many were begun.
+fn poll_all<R: Wait>(
+    rt: &R,
+    loop_table: &LoopTable<()>,
+    lots: LotBuilt,
+    loop_home: Home<()>,
+    callback: HomeCallback,
+) -> u64
+    requires lots { ServesHome loop_table.now.sizes lots.pool lots.home }
+    requires loop_home { IsReady loop_table.now loop_home.seat }
+    requires empty { loop_home.seat.known.stage ≡ empty_stage }
+    requires idle { IsIdle callback.table.now callback.home callback.run }
+{
+    let mut lots = lots;
+    let mut loop_home = loop_home;
+    let mut callback = callback;
+    for _ in 0..u64::MAX {
+        if callback.begun.is_last {
+            break;
+        }
+        loop_table.poll(
+            rt,
+            &lots.pool,
+            &mut lots.home,
+            &mut loop_home,
+            &mut callback,
+        );
+    }
+    callback.begun.count
+}
+
+/// Both at once.
+fn both<R: Threads + Wait + Sync>(
+    rt: &R,
+    loop_table: &LoopTable<()>,
+    table: &CoTable<u64>,
+    lots: LotBuilt,
+    loop_home: Home<()>,
+    home: CoHome<u64>,
+    run: CoRun,
+    poster: Poster,
+) -> u64
+    requires lots { ServesHome loop_table.now.sizes lots.pool lots.home }
+    requires loop_home { IsReady loop_table.now loop_home.seat }
+    requires empty { loop_home.seat.known.stage ≡ empty_stage }
+    requires idle { IsIdle table.now home run }
+    requires poster { IsReady loop_table.now poster.bh_seat × IsSeatOf table.now poster.seat }
+    requires handles { loop_table.now.sizes.handles ≡ 1 }
+    requires coroutines { table.now.coroutines ≡ 33 }
+{
+    let (_, count) = join(
+        rt,
+        || -> ()
+            requires { IsReady loop_table.now poster.bh_seat × IsSeatOf table.now poster.seat × (loop_table.now.sizes.handles ≡ 1) × (table.now.coroutines ≡ 33) }
+        { wake_all(rt, loop_table, table, poster) },
+        || -> u64
+            requires { ServesHome loop_table.now.sizes lots.pool lots.home × IsReady loop_table.now loop_home.seat × (loop_home.seat.known.stage ≡ empty_stage) × IsIdle table.now home run }
+        {
+            let callback = HomeCallback {
+                table,
+                home,
+                run,
+                begun: Begun {
+                    count: 0,
+                    is_last: false,
+                },
+            };
+            poll_all(rt, loop_table, lots, loop_home, callback)
+        },
+    );
+    count
+}
+
+pub fn other_thread<R: Threads + Wait + Sync + Print>(rt: &R, alloc: Global) -> io::Result<()> {
+    let HomeParts {
+        lots,
+        of_loop,
+        of_coroutines,
+        run,
+    } = build_parts(rt, alloc)?;
+    let Built {
+        table: loop_table,
+        home: loop_home,
+        seat: bh_seat,
+    } = of_loop;
+    let CoBuilt { table, home, seat } = of_coroutines;
+    let poster = Poster { seat, bh_seat };
+    let count = both(rt, &loop_table, &table, lots, loop_home, home, run, poster);
+    println!(rt; "{count} posts by another thread were begun")
+}
