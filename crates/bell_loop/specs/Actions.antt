@@ -3,6 +3,7 @@ use Rattle.std.specs.Prelude.{◌≡◌, ℕ, Bool, true, false, ◌||◌, List,
 use Rattle.std.specs.List.{AllByRecursion}
 use Rattle.aio_model.specs.declared.flags.Flags.{Flags}
 use Rattle.aio_model.specs.declared.loop_scripts.ActKind.{ActKind}
+use Rattle.aio_model.specs.declared.loop_scripts.ActKind.TheVariants.{Schedule, Idle, Delete, Cancel as CancelOf, Nest}
 use Rattle.aio_model.specs.LoopHistory.{History}
 use Rattle.aio_model.specs.LoopLegal.{IsLegal}
 use Rattle.aio_model.specs.LoopLog.{rings}
@@ -37,6 +38,18 @@ pub record ActsAll (todo : List ActKind) (before after : Known) : Type 0 where
   pub back : GivesBack made before after
 
 -- some entry notifies
-abbrev pub some_asks : History → Bool
+abbrev pub some_rings : History → Bool
+some_rings [] = false
+some_rings (e ∷ older) = rings e || some_rings older
+
+-- the action notifies
+abbrev pub asks : ActKind → Bool
+asks (Schedule i) = true
+asks (Idle i) = true
+asks (Delete i) = true
+asks (CancelOf i) = false
+asks Nest = false
+
+abbrev pub some_asks : List ActKind → Bool
 some_asks [] = false
-some_asks (e ∷ older) = rings e || some_asks older
+some_asks (act ∷ later) = asks act || some_asks later

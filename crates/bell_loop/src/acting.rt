@@ -4,7 +4,8 @@ ghost use Rattle.aio_model.specs.declared.flags.Flags.{Flags};
 ghost use Rattle.aio_model.specs.LoopActs as Spec;
 ghost use Rattle.aio_model.specs.LoopActs.{before_nest, behind_nest};
 ghost use Rattle.aio_core.specs.Calls.{IsSeatOf};
-ghost use Rattle.bell_loop.specs.Actions.{Acts, ActsAll, AreWithin, IsLent, some_asks};
+ghost use Rattle.bell_loop.specs.Actions as Plain;
+ghost use Rattle.bell_loop.specs.Actions.{some_asks, Acts, ActsAll, AreWithin, IsLent};
 ghost use Rattle.aio_script.specs.LoopBounds.{CallsHandle};
 
 use crate::Tag;
@@ -19,6 +20,30 @@ pub(crate) fn is_nest(what: ActKind) -> bool
     match what {
         ActKind::Nest => true,
         _ => false,
+    }
+}
+
+fn asks_one(what: ActKind) -> bool
+    ensures { result ≡ Plain.asks what }
+{
+    match what {
+        ActKind::Schedule(_) | ActKind::Idle(_) | ActKind::Delete(_) => true,
+        ActKind::Cancel(_) | ActKind::Nest => false,
+    }
+}
+
+/// Whether some action before the next nest notifies the loop.
+pub(crate) fn asks(todo: &[ActKind]) -> bool
+    ensures { result ≡ some_asks (before_nest todo.now) }
+{
+    match todo {
+        [] => false,
+        [what, later @ ..] => {
+            if is_nest(*what) {
+                return false;
+            }
+            asks_one(*what) || asks(later)
+        }
     }
 }
 

@@ -2,6 +2,9 @@
 #![tactic(auto)]
 
 mod acting;
+mod callbacks;
+mod stack;
 mod tag;
 
+pub use callbacks::Callbacks;
 pub use tag::Tag;
