@@ -27,6 +27,10 @@ some_rings-append (e ∷ newer) older =
     turned true false c = refl
     turned false b c = refl
 
+pub or_assoc : (a b c : Bool) → ((a || b) || c) ≡ (a || (b || c))
+or_assoc true b c = refl
+or_assoc false b c = refl
+
 enqueue_rings : (i : ℕ) (asked : Asked) (was : Flags) (b : Bool) → some_rings (cond b (Enqueue i asked home was ∷ []) (Put i home ∷ (Enqueue i asked home was ∷ []))) ≡ true
 enqueue_rings i asked was true = refl
 enqueue_rings i asked was false = refl

@@ -1,3 +1,5 @@
 pub mod Actions
 pub mod Named
 pub mod Entries
+pub mod Depths
+pub mod Alone
