@@ -28,10 +28,10 @@ is_nesting Nests = true
 module _ (acts : ℕ → List ActKind) (sizes : Sizes) where
   -- from place to place the callbacks were entered some more; with room for so many depths they do their actions, and leave what waits as
   -- it was
-  record Keeps (depths : ℕ) (a b : Place) : Type 0 where
-    more : List Entered
-    longer : b.log ≡ more ++ a.log
-    runs : (n n' : Noted) → Runs (DoesEntry acts) n more n' → length n.waiting + depths ≤ 8 → Runs (DoesActs acts) n.waiting more n'.waiting × (n'.waiting ≡ n.waiting)
+  pub record Keeps (depths : ℕ) (a b : Place) : Type 0 where
+    pub more : List Entered
+    pub longer : b.log ≡ more ++ a.log
+    pub runs : (n n' : Noted) → Runs (DoesEntry acts) n more n' → length n.waiting + depths ≤ 8 → Runs (DoesActs acts) n.waiting more n'.waiting × (n'.waiting ≡ n.waiting)
 
   Keeps-quiet : (depths : ℕ) (a b : Place) → b.log ≡ a.log → Keeps depths a b
   Keeps-quiet depths a b same = record {
@@ -165,7 +165,7 @@ module _ (acts : ℕ → List ActKind) (sizes : Sizes) where
     Keeps-turns (suc count) a b turns =
         Keeps-then (suc deeper) a turns.0 b (Keeps-turn a turns.0 turns.1) (Keeps-turns count turns.0 b turns.2)
 
-  Keeps-frame : (depths : ℕ) (a b : Place) → Frame sizes depths a b → Keeps depths a b
+  pub Keeps-frame : (depths : ℕ) (a b : Place) → Frame sizes depths a b → Keeps depths a b
   unfolding Frame
   Keeps-frame zero a b frame = absurd frame
   Keeps-frame (suc deeper) a b frame =

@@ -1,8 +1,13 @@
 -- A loop script's run on a shared loop, as far as home alone makes its history.
-use Rattle.std.specs.Prelude.{◌≡◌, ℕ, Bool, false, ◌||◌, List, [], ◌∷◌}
+use Rattle.std.specs.Prelude.{◌≡◌, ℕ, Bool, true, false, ◌||◌, List, [], ◌∷◌, ◌++◌}
 use Rattle.aio_model.specs.LoopHistory.{History}
 use Rattle.aio_model.specs.LoopSeats.{home, entries_of}
 use Rattle.aio_model.specs.LoopFrame.{Entered}
+use Rattle.aio_model.specs.LoopLegal.{IsLegal}
+use Rattle.aio_model.specs.LoopLog.{Log, history_of}
+use Rattle.aio_model.specs.InFlight.{AtRest}
+use Rattle.aio_core.specs.Known.{Known, empty_stage, is_running}
+use Rattle.aio_core.specs.Calls.{TableState, SeatState, IsSeatOf}
 use Rattle.bell_loop.specs.Actions.{some_rings}
 
 -- home alone made the history
@@ -13,3 +18,24 @@ IsAlone history = entries_of home history ≡ history
 abbrev pub any_rings : List Entered → Bool
 any_rings [] = false
 any_rings (entered ∷ older) = any_rings older || some_rings entered.made
+
+-- the home's seat between two commands
+pub record Idles (table : TableState) (seat : SeatState) : Type 0 where
+  pub of : IsSeatOf table seat
+  pub rest : seat.known.phase ≡ AtRest
+  pub first : seat.known.first ≡ 64
+  pub count : seat.known.count ≡ 1
+  pub stage : seat.known.stage ≡ empty_stage
+  pub running : is_running seat.known.sleep ≡ true
+  pub legal : IsLegal table.sizes seat.known.seen
+
+-- What was seen went on. Where home alone made it, what the log of before leads to is its log, and this was told of that log.
+pub record GoesTo (moves : Log → Log) (Told : Log → Type 0) (seen seen_after : History) : Type 0 where
+  pub between : History
+  pub longer : seen_after ≡ between ++ seen
+  pub at : IsAlone seen_after → (log : Log) → history_of log ≡ seen → (history_of (moves log) ≡ seen_after) × Told log
+
+-- of what home knows nothing changed but what was seen and made, and which steps were done
+abbrev pub SameButSeen : Known → Known → Type 0
+SameButSeen before after =
+    after ≡ record before { seen = after.seen; mine = after.mine; did = after.did; told = after.told }

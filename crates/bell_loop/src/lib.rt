@@ -4,6 +4,7 @@
 mod acting;
 mod callbacks;
 mod stack;
+mod steps;
 mod tag;
 
 pub use callbacks::Callbacks;

@@ -1,0 +1,138 @@
+-- A poll over the callbacks of a loop script, where home alone makes the history, is the poll of the script.
+use Rattle.std.proofs.Common.{◌≡◌, ℕ, ◌+◌, ◌-◌, ◌≤◌, Bool, true, false, ◌||◌, cond, MatchBool, Option, None, Some, List, [], ◌∷◌, ◌++◌, length, map, take, arith, refl, sym, ◌∙◌, ap, subst}
+use Rattle.std.proofs.lemmas.List.{append-nil, append_cancel_right, map-append}
+use Rattle.aio_model.specs.declared.loop_scripts.ActKind.{ActKind}
+use Rattle.aio_model.specs.declared.loop_scripts.LoopScript.{LoopScript}
+use Rattle.aio_model.specs.declared.loop_replies.LoopReply.{LoopReply}
+use Rattle.aio_model.specs.declared.loop_replies.LoopReply.TheVariants.{Ran}
+use Rattle.aio_model.specs.declared.ran_lists.Called.{Called}
+use Rattle.aio_model.specs.LoopHistory.{Sizes, Entry, History}
+use Rattle.aio_model.specs.LoopLegal.{IsLegal}
+use Rattle.aio_model.specs.LoopLog.{Made, Log, history_of, is_rung, rings}
+use Rattle.aio_model.specs.LoopFrame.{Lent, Entered, Place, Frame, Runs, start_of, called_of, cut_nests_of}
+use Rattle.aio_model.specs.LoopActs.{Waiting, DoesActs, acts_called, acts_of}
+use Rattle.aio_model.specs.LoopReplies.{Polls as PollsScript, made_log, counted, named_most, called_as, sizes_of}
+use Rattle.aio_core.specs.Known.{Known}
+use Rattle.aio_bh.specs.declared.polled.Polled.{Polled}
+use Rattle.aio_bh.specs.Polling.{Polls}
+use Rattle.bell_loop.specs.Actions.{some_rings}
+use Rattle.bell_loop.specs.Entering.{DoesEntry, Names, Noted, noted, calls_after}
+use Rattle.bell_loop.specs.Running.{IsAlone, any_rings}
+use Rattle.bell_loop.proofs.Alone.{alone_parts, Grown, Grown-frame}
+use Rattle.bell_loop.proofs.Depths.{Keeps, Keeps-frame}
+use Rattle.bell_loop.proofs.Entries.{or_assoc, some_rings-append}
+use Rattle.bell_loop.proofs.Logs.{history_of-made}
+
+other_acts : (f g : ℕ → List ActKind) → ((bh : ℕ) → f bh ≡ g bh) → (bh : ℕ) (job : Option ℕ) → acts_called f bh job ≡ acts_called g bh job
+other_acts f g agree bh None = agree bh
+other_acts f g agree bh (Some job) = refl
+
+finds_other : (f g : ℕ → List ActKind) → ((bh : ℕ) → f bh ≡ g bh) → (bh : ℕ) (job : Option ℕ) (first : Bool) (todo : List ActKind) (below before : Waiting) → MatchBool first ((todo ≡ acts_called f bh job) × (below ≡ before)) (before ≡ todo ∷ below) → MatchBool first ((todo ≡ acts_called g bh job) × (below ≡ before)) (before ≡ todo ∷ below)
+finds_other f g agree bh job true todo below before h = (h.0 ∙ other_acts f g agree bh job, h.1)
+finds_other f g agree bh job false todo below before h = h
+
+does_other : (f g : ℕ → List ActKind) → ((bh : ℕ) → f bh ≡ g bh) → (before : Waiting) (entered : Entered) (after : Waiting) → DoesActs f before entered after → DoesActs g before entered after
+does_other f g agree before entered after d = record {
+  todo = d.todo;
+  below = d.below;
+  finds = finds_other f g agree entered.lent.bh entered.lent.job entered.lent.first d.todo d.below before d.finds;
+  adds = d.adds;
+  answers = d.answers;
+  leaves = d.leaves;
+}
+
+runs_other : (f g : ℕ → List ActKind) → ((bh : ℕ) → f bh ≡ g bh) → (before : Waiting) (log : List Entered) (after : Waiting) → Runs (DoesActs f) before log after → Runs (DoesActs g) before log after
+runs_other f g agree before [] after runs = runs
+runs_other f g agree before (e ∷ older) after runs =
+    (runs.0, runs_other f g agree before older runs.0 runs.1, does_other f g agree runs.0 e after runs.2)
+
+-- what is kept of a runner, whose lists stay
+pub runs_noted : {R L : Type 0} (lists_in : R → L) (acts_in : L → ℕ → List ActKind) (noted_in : R → Noted) (a : R) (log : List Entered) (b : R)
+    → Runs (λ before entered after. (lists_in after ≡ lists_in before) × DoesEntry (acts_in (lists_in before)) (noted_in before) entered (noted_in after)) a log b → (lists_in b ≡ lists_in a) × Runs (DoesEntry (acts_in (lists_in a))) (noted_in a) log (noted_in b)
+runs_noted lists_in acts_in noted_in a [] b runs = (ap lists_in runs, ap noted_in runs)
+runs_noted lists_in acts_in noted_in a (e ∷ older) b runs =
+    let before = runs_noted lists_in acts_in noted_in a older runs.0 runs.1 in
+    (runs.2.0 ∙ before.0, (noted_in runs.0, before.1, subst (λ l. DoesEntry (acts_in l) (noted_in runs.0) e (noted_in b)) before.0 runs.2.1))
+
+called_more : (first : Bool) (lent : Lent) (older : List Entered) → cond first (map called_as (called_of older) ++ called_as lent ∷ []) (map called_as (called_of older)) ≡ map called_as (cond first (called_of older ++ lent ∷ []) (called_of older))
+called_more true lent older = sym (map-append called_as (called_of older) (lent ∷ []))
+called_more false lent older = refl
+
+-- who was called is named
+pub names_of : (acts : ℕ → List ActKind) (n : Noted) (log : List Entered) (n' : Noted) → Names n.ran n.more [] → Runs (DoesEntry acts) n log n' → Names n'.ran n'.more (map called_as (called_of log))
+names_of acts n [] n' names same =
+    subst (λ (k : Noted). Names k.ran k.more []) (sym same) names
+names_of acts n (e ∷ older) n' names runs =
+    subst (Names n'.ran n'.more) (called_more e.lent.first e.lent older) (runs.2.names (map called_as (called_of older)) (names_of acts n older runs.0 names runs.1))
+
+-- whether some action notified
+pub rang_of : (acts : ℕ → List ActKind) (n : Noted) (log : List Entered) (n' : Noted) → Runs (DoesEntry acts) n log n' → n'.rang ≡ (n.rang || any_rings log)
+rang_of acts n [] n' same = ap (λ (k : Noted). k.rang) same ∙ or_false n.rang
+  where
+    or_false : (b : Bool) → b ≡ (b || false)
+    or_false true = refl
+    or_false false = refl
+rang_of acts n (e ∷ older) n' runs =
+    runs.2.rang ∙ ap (λ b. b || some_rings e.made) (rang_of acts n older runs.0 runs.1) ∙ or_assoc n.rang (any_rings older) (some_rings e.made)
+
+rung_made : (added : History) (log : Log) → is_rung (made_log added log) ≡ (is_rung log || some_rings added)
+rung_made [] log = or_false (is_rung log)
+  where
+    or_false : (b : Bool) → b ≡ (b || false)
+    or_false true = refl
+    or_false false = refl
+rung_made (e ∷ older) log =
+    ap (λ b. rings e || b) (rung_made older log) ∙ turned (rings e) (is_rung log) (some_rings older)
+  where
+    turned : (a b c : Bool) → (a || (b || c)) ≡ (b || (a || c))
+    turned true true c = refl
+    turned true false c = refl
+    turned false b c = refl
+
+-- what the home's poll and its callbacks tell
+module _ (acts : ℕ → List ActKind) (n n' : Noted) (polled : Polled) (a b : Known) (end : Place) (between : History)
+    (frame : Frame a.sizes 8 (start_of a.seen) end) (seen : b.seen ≡ end.seen) (runs : Runs (DoesEntry acts) n end.log n')
+    (progress : polled.progress ≡ end.progress) (cut : polled.cut_nests ≡ counted (cut_nests_of end.log))
+    (longer : b.seen ≡ between ++ a.seen) (legal : IsLegal a.sizes b.seen) (none_waits : n.waiting ≡ []) where
+  kept : Keeps acts a.sizes 8 (start_of a.seen) end
+  kept = Keeps-frame acts a.sizes 8 (start_of a.seen) end frame
+
+  more_is : end.log ≡ kept.more
+  more_is = kept.longer ∙ append-nil kept.more
+
+  ran : Runs (DoesActs acts) n.waiting kept.more n'.waiting × (n'.waiting ≡ n.waiting)
+  ran = kept.runs n n' (subst (λ l. Runs (DoesEntry acts) n l n') more_is runs) (let e : length n.waiting ≡ 0 = ap length none_waits in omega (arith, e))
+
+  -- nothing waits again
+  pub none_waits_after : n'.waiting ≡ []
+  none_waits_after = ran.1 ∙ none_waits
+
+  pub acted : Runs (DoesActs acts) [] end.log []
+  acted =
+      subst (λ l. Runs (DoesActs acts) [] l []) (sym more_is) (subst (λ w. Runs (DoesActs acts) w kept.more []) none_waits (subst (λ w. Runs (DoesActs acts) n.waiting kept.more w) none_waits_after ran.0))
+
+  pub rung_after : IsAlone b.seen → (log : Log) → n.rang ≡ is_rung log → n'.rang ≡ is_rung (made_log between log)
+  rung_after alone log rung =
+      let grown = Grown-frame a.sizes 8 (start_of a.seen) end frame in
+      let log_is : end.log ≡ grown.more = grown.longer ∙ append-nil grown.more in
+      let same : grown.added ++ a.seen ≡ between ++ a.seen = sym grown.seen ∙ sym seen ∙ longer in
+      let added_is : grown.added ≡ between = append_cancel_right grown.added between a.seen same in
+      rang_of acts n end.log n' runs ∙ ap (λ r. r || any_rings end.log) rung ∙ ap (λ l. is_rung log || any_rings l) log_is
+      ∙ ap (λ r. is_rung log || r) (sym (grown.rings (subst IsAlone seen alone)) ∙ ap some_rings added_is) ∙ sym (rung_made between log)
+
+  pub Polls-script : (script : LoopScript) (log : Log) → Names n.ran n.more [] → sizes_of script ≡ a.sizes → ((bh : ℕ) → acts bh ≡ acts_of script.acts bh) → IsAlone b.seen → history_of log ≡ a.seen → PollsScript script log (made_log between log) (Ran n'.ran n'.more polled.progress polled.cut_nests)
+  Polls-script script log names sizes agree alone is =
+      let told = names_of acts n end.log n' names runs in
+      let calls = map called_as (called_of end.log) in
+      record {
+        end = end;
+        added = between;
+        frame = subst (λ z. Frame z 8 (start_of (history_of log)) end) (sym sizes) (subst (λ h. Frame a.sizes 8 (start_of h) end) (sym is) frame);
+        seen = sym seen ∙ longer ∙ ap (λ h. between ++ h) (sym is);
+        alone = (alone_parts between a.seen (subst IsAlone longer alone)).0;
+        legal = subst (λ z. IsLegal z end.seen) (sym sizes) (subst (IsLegal a.sizes) seen legal);
+        runs = runs_other acts (acts_of script.acts) agree [] end.log [] acted;
+        log = refl;
+        replies = ap (λ r. Ran r n'.more polled.progress polled.cut_nests) told.first ∙ ap (λ m. Ran (take named_most calls) m polled.progress polled.cut_nests) told.besides
+            ∙ ap (λ p. Ran (take named_most calls) (counted (length calls - named_most)) p polled.cut_nests) progress ∙ ap (λ c. Ran (take named_most calls) (counted (length calls - named_most)) end.progress c) cut;
+      }

@@ -1,0 +1,68 @@
+//! The calls of home on the shared loop. Where home alone makes its history, each does to a log what the commands of a loop script are
+//! defined by.
+ghost use Rattle.std.specs.Prelude.{◌≡◌, ◌<◌, ℕ};
+ghost use Rattle.aio_model.specs.LoopLog.{flags_before, enqueued_log, canceled_log, set_log, is_set_in, cleared_log};
+ghost use Rattle.aio_model.specs.LoopSeats as Seats;
+ghost use Rattle.aio_core.specs.Standing.{asked_by};
+ghost use Rattle.aio_core.specs.Calls.{IsSeatOf};
+ghost use Rattle.bell_loop.specs.Running.{Idles, GoesTo, SameButSeen};
+
+use crate::tag::Tag;
+use aio_bh::BottomHalves;
+use aio_core::{Home, LoopTable, Seat};
+use aio_model::{Flags, Kind};
+use aio_notify::LoopEvents;
+use std::sync::Wait;
+
+/// An enqueue of a handle.
+pub(crate) fn enqueue<R: Wait>(
+    rt: &R,
+    table: &LoopTable<Tag>,
+    seat: &mut Seat<Tag>,
+    bh: u32,
+    kind: Kind,
+) -> Flags
+    requires idles { Idles table.now seat.old }
+    requires handle { bh < table.now.sizes.handles }
+    ensures idles { Idles table.now seat.new }
+    ensures goes { GoesTo (enqueued_log bh (asked_by kind) Seats.home) (λ log. result ≡ flags_before bh log) seat.old.known.seen seat.new.known.seen }
+    ensures same { SameButSeen seat.old.known seat.new.known }
+{
+    match kind {
+        Kind::Sched => table.schedule(rt, seat, bh),
+        Kind::Idle => table.schedule_idle(rt, seat, bh),
+        Kind::Del => table.delete(rt, seat, bh),
+    }
+}
+
+/// The end of an enqueue of a handle.
+pub(crate) fn cancel(table: &LoopTable<Tag>, seat: &mut Seat<Tag>, bh: u32) -> Flags
+    requires idles { Idles table.now seat.old }
+    requires handle { bh < table.now.sizes.handles }
+    ensures idles { Idles table.now seat.new }
+    ensures goes { GoesTo (canceled_log bh Seats.home) (λ log. result ≡ flags_before bh log) seat.old.known.seen seat.new.known.seen }
+    ensures same { SameButSeen seat.old.known seat.new.known }
+{
+    table.cancel(seat, bh)
+}
+
+pub(crate) fn set(table: &LoopTable<Tag>, seat: &mut Seat<Tag>, event: u32)
+    requires idles { Idles table.now seat.old }
+    requires event { event < table.now.sizes.events }
+    ensures idles { Idles table.now seat.new }
+    ensures goes { GoesTo (set_log event Seats.home) (λ _. Unit {0}) seat.old.known.seen seat.new.known.seen }
+    ensures same { SameButSeen seat.old.known seat.new.known }
+{
+    table.set_event(seat, event);
+}
+
+/// Whether the event was set.
+pub(crate) fn clear(table: &LoopTable<Tag>, home: &mut Home<Tag>, event: u32) -> bool
+    requires idles { Idles table.now home.old.seat }
+    requires event { event < table.now.sizes.events }
+    ensures idles { Idles table.now home.new.seat }
+    ensures goes { GoesTo (cleared_log event) (λ log. result ≡ is_set_in event log) home.old.seat.known.seen home.new.seat.known.seen }
+    ensures same { SameButSeen home.old.seat.known home.new.seat.known }
+{
+    table.clear_event(home, event)
+}
