@@ -6,3 +6,4 @@ pub mod Alone
 pub mod Logs
 pub mod Going
 pub mod Polling
+pub mod Held

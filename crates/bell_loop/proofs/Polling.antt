@@ -5,6 +5,7 @@ use Rattle.aio_model.specs.declared.loop_scripts.ActKind.{ActKind}
 use Rattle.aio_model.specs.declared.loop_scripts.LoopScript.{LoopScript}
 use Rattle.aio_model.specs.declared.loop_replies.LoopReply.{LoopReply}
 use Rattle.aio_model.specs.declared.loop_replies.LoopReply.TheVariants.{Ran}
+use Rattle.aio_model.specs.declared.loop_scripts.Command.TheVariants.{Poll}
 use Rattle.aio_model.specs.declared.ran_lists.Called.{Called}
 use Rattle.aio_model.specs.LoopHistory.{Sizes, Entry, History}
 use Rattle.aio_model.specs.LoopLegal.{IsLegal}
@@ -17,7 +18,9 @@ use Rattle.aio_bh.specs.declared.polled.Polled.{Polled}
 use Rattle.aio_bh.specs.Polling.{Polls}
 use Rattle.bell_loop.specs.Actions.{some_rings}
 use Rattle.bell_loop.specs.Entering.{DoesEntry, Names, Noted, noted, calls_after}
-use Rattle.bell_loop.specs.Running.{IsAlone, any_rings}
+use Rattle.aio_core.specs.Known.{is_running}
+use Rattle.aio_core.specs.Calls.{TableState, SeatState, IsSeatOf}
+use Rattle.bell_loop.specs.Running.{IsAlone, any_rings, Answers, Idles}
 use Rattle.bell_loop.proofs.Alone.{alone_parts, Grown, Grown-frame}
 use Rattle.bell_loop.proofs.Depths.{Keeps, Keeps-frame}
 use Rattle.bell_loop.proofs.Entries.{or_assoc, some_rings-append}
@@ -136,3 +139,46 @@ module _ (acts : ℕ → List ActKind) (n n' : Noted) (polled : Polled) (a b : K
         replies = ap (λ r. Ran r n'.more polled.progress polled.cut_nests) told.first ∙ ap (λ m. Ran (take named_most calls) m polled.progress polled.cut_nests) told.besides
             ∙ ap (λ p. Ran (take named_most calls) (counted (length calls - named_most)) p polled.cut_nests) progress ∙ ap (λ c. Ran (take named_most calls) (counted (length calls - named_most)) end.progress c) cut;
       }
+
+-- the home idles again after a poll
+pub Idles-polled : {R : Type 0} (does : R → Entered → R → Type 0) (polled : Polled) (r r' : R) (table : TableState) (a b : SeatState) → Idles table a → IsSeatOf table b → Polls does polled r a.known r' b.known → Idles table b
+Idles-polled does polled r r' table a b idles of polls =
+    let on = polls.goes_on in
+    record {
+      of = of;
+      rest = ap (λ (k : Known). k.phase) on.rest ∙ idles.rest;
+      first = ap (λ (k : Known). k.first) on.rest ∙ idles.first;
+      count = ap (λ (k : Known). k.count) on.rest ∙ idles.count;
+      stage = polls.stage;
+      running = ap (λ (k : Known). is_running k.sleep) on.rest ∙ idles.running;
+      legal = subst (λ s. IsLegal s b.known.seen) idles.of.sizes on.legal;
+    }
+
+-- a runner whose lists stay, and which keeps such notes
+module _ {R L : Type 0} (lists_in : R → L) (acts_in : L → ℕ → List ActKind) (noted_in : R → Noted) (polled : Polled) (r r' : R) (a b : Known)
+    (polls : Polls (λ before entered after. (lists_in after ≡ lists_in before) × DoesEntry (acts_in (lists_in before)) (noted_in before) entered (noted_in after)) polled r a r' b)
+    (none : (noted_in r).waiting ≡ []) where
+  the_runs : (lists_in r' ≡ lists_in r) × Runs (DoesEntry (acts_in (lists_in r))) (noted_in r) polls.end.log (noted_in r')
+  the_runs = runs_noted lists_in acts_in noted_in r polls.end.log r' polls.runs
+
+  pub lists_stay : lists_in r' ≡ lists_in r
+  lists_stay = the_runs.0
+
+  pub none_waits_then : (noted_in r').waiting ≡ []
+  none_waits_then =
+      none_waits_after (acts_in (lists_in r)) (noted_in r) (noted_in r') polled a b polls.end polls.goes_on.between polls.frame polls.seen the_runs.1 polls.progress polls.cut_nests polls.goes_on.seen polls.goes_on.legal none
+
+  pub Answers-polled : (sizes : Sizes) → a.sizes ≡ sizes → Names (noted_in r).ran (noted_in r).more [] → Answers sizes (acts_in (lists_in r)) Poll (Ran (noted_in r').ran (noted_in r').more polled.progress polled.cut_nests) (noted_in r).rang (noted_in r').rang a.seen b.seen
+  Answers-polled sizes same names = record {
+    between = polls.goes_on.between;
+    longer = polls.goes_on.seen;
+    at = λ alone script log of stands. record {
+          after = made_log polls.goes_on.between log;
+          does =
+            Polls-script (acts_in (lists_in r)) (noted_in r) (noted_in r') polled a b polls.end polls.goes_on.between polls.frame polls.seen the_runs.1 polls.progress polls.cut_nests polls.goes_on.seen polls.goes_on.legal none script log names (of.sizes_are ∙ sym same) of.acts_are alone stands.history;
+          stands = record {
+            history = history_of-made polls.goes_on.between log ∙ ap (λ h. polls.goes_on.between ++ h) stands.history ∙ sym polls.goes_on.seen;
+            rung = rung_after (acts_in (lists_in r)) (noted_in r) (noted_in r') polled a b polls.end polls.goes_on.between polls.frame polls.seen the_runs.1 polls.progress polls.cut_nests polls.goes_on.seen polls.goes_on.legal none alone log stands.rung;
+          };
+        };
+  }

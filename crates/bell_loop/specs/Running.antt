@@ -1,10 +1,17 @@
 -- A loop script's run on a shared loop, as far as home alone makes its history.
 use Rattle.std.specs.Prelude.{◌≡◌, ℕ, Bool, true, false, ◌||◌, List, [], ◌∷◌, ◌++◌}
-use Rattle.aio_model.specs.LoopHistory.{History}
+use Rattle.aio_model.specs.declared.loop_scripts.ActKind.{ActKind}
+use Rattle.aio_model.specs.declared.loop_scripts.Command.{Command}
+use Rattle.aio_model.specs.declared.loop_scripts.LoopScript.{LoopScript}
+use Rattle.aio_model.specs.declared.loop_replies.LoopReply.{LoopReply}
+use Rattle.aio_model.specs.LoopHistory.{Sizes, History}
+use Rattle.aio_model.specs.LoopActs.{acts_of}
+use Rattle.aio_model.specs.LoopReplies.{Does, sizes_of}
 use Rattle.aio_model.specs.LoopSeats.{home, entries_of}
+use Rattle.aio_model.specs.LoopLists.{is_announced}
 use Rattle.aio_model.specs.LoopFrame.{Entered}
 use Rattle.aio_model.specs.LoopLegal.{IsLegal}
-use Rattle.aio_model.specs.LoopLog.{Log, history_of}
+use Rattle.aio_model.specs.LoopLog.{Log, history_of, is_rung}
 use Rattle.aio_model.specs.InFlight.{AtRest}
 use Rattle.aio_core.specs.Known.{Known, empty_stage, is_running}
 use Rattle.aio_core.specs.Calls.{TableState, SeatState, IsSeatOf}
@@ -39,3 +46,29 @@ pub record GoesTo (moves : Log → Log) (Told : Log → Type 0) (seen seen_after
 abbrev pub SameButSeen : Known → Known → Type 0
 SameButSeen before after =
     after ≡ record before { seen = after.seen; mine = after.mine; did = after.did; told = after.told }
+
+-- the script has these sizes, and its callbacks these actions
+pub record IsOf (script : LoopScript) (sizes : Sizes) (acts : ℕ → List ActKind) : Type 0 where
+  pub sizes_are : sizes_of script ≡ sizes
+  pub acts_are : (bh : ℕ) → acts bh ≡ acts_of script.acts bh
+
+-- the log has this history, and this tells whether it notified since its last commit
+pub record StandsFor (seen : History) (rang : Bool) (log : Log) : Type 0 where
+  pub history : history_of log ≡ seen
+  pub rung : rang ≡ is_rung log
+
+-- from the log on the command does what the definition says, and leads to this history
+pub record Answered (script : LoopScript) (command : Command) (reply : LoopReply) (rang_after : Bool) (seen_after : History) (log : Log) : Type 0 where
+  pub after : Log
+  pub does : Does script command log after reply
+  pub stands : StandsFor seen_after rang_after after
+
+-- What was seen went on. Where home alone made it, the command was answered so, for each script of these sizes and actions.
+pub record Answers (sizes : Sizes) (acts : ℕ → List ActKind) (command : Command) (reply : LoopReply) (rang rang_after : Bool) (seen seen_after : History) : Type 0 where
+  pub between : History
+  pub longer : seen_after ≡ between ++ seen
+  pub at : IsAlone seen_after → (script : LoopScript) (log : Log) → IsOf script sizes acts → StandsFor seen rang log → Answered script command reply rang_after seen_after log
+
+-- each index that was enqueued was pushed
+abbrev pub NoneAnnounced : History → Type 0
+NoneAnnounced history = (i : ℕ) → is_announced i history ≡ false

@@ -1,14 +1,19 @@
 //! The calls of home on the shared loop. Where home alone makes its history, each does to a log what the commands of a loop script are
 //! defined by.
-ghost use Rattle.std.specs.Prelude.{◌≡◌, ◌<◌, ℕ};
+ghost use Rattle.std.specs.Prelude.{◌≡◌, ◌<◌, ℕ, [], map};
+ghost use Rattle.aio_model.specs.declared.loop_replies.LoopReply.{LoopReply};
+ghost use Rattle.aio_model.specs.declared.loop_scripts.Command.{Command};
 ghost use Rattle.aio_model.specs.LoopLog.{flags_before, enqueued_log, canceled_log, set_log, is_set_in, cleared_log};
 ghost use Rattle.aio_model.specs.LoopSeats as Seats;
 ghost use Rattle.aio_core.specs.Standing.{asked_by};
 ghost use Rattle.aio_core.specs.Calls.{IsSeatOf};
-ghost use Rattle.bell_loop.specs.Running.{Idles, GoesTo, SameButSeen};
+ghost use Rattle.aio_bh.specs.OneShots.{ServesHome};
+ghost use Rattle.bell_loop.specs.Entering.{acts_at, CanRun, Names};
+ghost use Rattle.bell_loop.specs.Running.{Answers, Idles, GoesTo, SameButSeen};
 
+use crate::callbacks::Callbacks;
 use crate::tag::Tag;
-use aio_bh::BottomHalves;
+use aio_bh::{BottomHalves, LotPass, LotPool, Polled};
 use aio_core::{Home, LoopTable, Seat};
 use aio_model::{Flags, Kind};
 use aio_notify::LoopEvents;
@@ -65,4 +70,28 @@ pub(crate) fn clear(table: &LoopTable<Tag>, home: &mut Home<Tag>, event: u32) ->
     ensures same { SameButSeen home.old.seat.known home.new.seat.known }
 {
     table.clear_event(home, event)
+}
+
+/// A poll, whose callbacks are those of the script. Who was called, and whether it notified, is kept with the callbacks.
+pub(crate) fn poll<'a, R: Wait>(
+    rt: &R,
+    table: &LoopTable<Tag>,
+    pool: &LotPool,
+    pass: &mut LotPass,
+    home: &mut Home<Tag>,
+    callbacks: &mut Callbacks<'a, R>,
+) -> Polled
+    requires idles { Idles table.now home.old.seat }
+    requires serves { ServesHome table.now.sizes pool.now pass.old }
+    requires can { CanRun table.now.sizes.handles (map (λ l. l.items) callbacks.old.lists.now) callbacks.old.waiting }
+    requires none { callbacks.old.waiting ≡ [] }
+    requires names { Names callbacks.old.ran callbacks.old.more [] }
+    ensures idles { Idles table.now home.new.seat }
+    ensures serves { ServesHome table.now.sizes pool.now pass.new }
+    ensures lists { callbacks.new.lists ≡ callbacks.old.lists }
+    ensures can { CanRun table.now.sizes.handles (map (λ l. l.items) callbacks.old.lists.now) callbacks.new.waiting }
+    ensures none { callbacks.new.waiting ≡ [] }
+    ensures answers { Answers table.now.sizes (acts_at (map (λ l. l.items) callbacks.old.lists.now)) Command.Poll (LoopReply.Ran callbacks.new.ran callbacks.new.more result.progress result.cut_nests) callbacks.old.rang callbacks.new.rang home.old.seat.known.seen home.new.seat.known.seen }
+{
+    table.poll(rt, pool, pass, home, callbacks)
 }
