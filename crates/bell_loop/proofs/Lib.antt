@@ -7,3 +7,4 @@ pub mod Logs
 pub mod Going
 pub mod Polling
 pub mod Held
+pub mod Holding

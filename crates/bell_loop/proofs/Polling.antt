@@ -20,7 +20,10 @@ use Rattle.bell_loop.specs.Actions.{some_rings}
 use Rattle.bell_loop.specs.Entering.{DoesEntry, Names, Noted, noted, calls_after}
 use Rattle.aio_core.specs.Known.{is_running}
 use Rattle.aio_core.specs.Calls.{TableState, SeatState, IsSeatOf}
-use Rattle.bell_loop.specs.Running.{IsAlone, any_rings, Answers, Idles}
+use Rattle.bell_loop.specs.Running.{IsAlone, any_rings, Answers, Calm, Idles, StackBelow}
+use Rattle.aio_model.specs.LoopFlags.{lives}
+use Rattle.aio_model.specs.LoopLists.{out_of}
+use Rattle.bell_loop.proofs.Holding.{Holds, Holds-frame, Below-frame, none_lives}
 use Rattle.bell_loop.proofs.Alone.{alone_parts, Grown, Grown-frame}
 use Rattle.bell_loop.proofs.Depths.{Keeps, Keeps-frame}
 use Rattle.bell_loop.proofs.Entries.{or_assoc, some_rings-append}
@@ -123,6 +126,20 @@ module _ (acts : ℕ → List ActKind) (n n' : Noted) (polled : Polled) (a b : K
       rang_of acts n end.log n' runs ∙ ap (λ r. r || any_rings end.log) rung ∙ ap (λ l. is_rung log || any_rings l) log_is
       ∙ ap (λ r. is_rung log || r) (sym (grown.rings (subst IsAlone seen alone)) ∙ ap some_rings added_is) ∙ sym (rung_made between log)
 
+  -- nothing is announced, and each lot that lives is pending; none does
+  pub calm_after : IsAlone b.seen → Calm a.seen → Calm b.seen
+  calm_after alone calm =
+      let held = Holds-frame acts a.sizes 8 (λ _. ⊥) (start_of a.seen) end frame in
+      let log_is : end.log ≡ held.more = held.longer ∙ append-nil held.more in
+      let kept = held.runs (subst IsAlone seen alone) (subst (IsLegal a.sizes) seen legal) [] [] (subst (λ l. Runs (DoesActs acts) [] l []) log_is acted) in
+      subst Calm (sym seen) record { announced = kept.0 calm.announced; lots = kept.1 calm.lots }
+
+  pub none_lives_after : IsAlone b.seen → Calm a.seen → out_of b.seen ≡ [] → (i : ℕ) → lives i b.seen ≡ false
+  none_lives_after alone calm none =
+      let after = calm_after alone calm in
+      let below = Below-frame acts a.sizes 7 (start_of a.seen) end frame [] [] end.log (sym (append-nil end.log)) acted (subst IsAlone seen alone) (subst (IsLegal a.sizes) seen legal) in
+      none_lives a.sizes b.seen legal after.announced after.lots (subst (StackBelow a.sizes) (sym seen) below) none
+
   pub Polls-script : (script : LoopScript) (log : Log) → Names n.ran n.more [] → sizes_of script ≡ a.sizes → ((bh : ℕ) → acts bh ≡ acts_of script.acts bh) → IsAlone b.seen → history_of log ≡ a.seen → PollsScript script log (made_log between log) (Ran n'.ran n'.more polled.progress polled.cut_nests)
   Polls-script script log names sizes agree alone is =
       let told = names_of acts n end.log n' names runs in
@@ -179,6 +196,7 @@ module _ {R L : Type 0} (lists_in : R → L) (acts_in : L → ℕ → List ActKi
           stands = record {
             history = history_of-made polls.goes_on.between log ∙ ap (λ h. polls.goes_on.between ++ h) stands.history ∙ sym polls.goes_on.seen;
             rung = rung_after (acts_in (lists_in r)) (noted_in r) (noted_in r') polled a b polls.end polls.goes_on.between polls.frame polls.seen the_runs.1 polls.progress polls.cut_nests polls.goes_on.seen polls.goes_on.legal none alone log stands.rung;
+            calm = calm_after (acts_in (lists_in r)) (noted_in r) (noted_in r') polled a b polls.end polls.goes_on.between polls.frame polls.seen the_runs.1 polls.progress polls.cut_nests polls.goes_on.seen polls.goes_on.legal none alone stands.calm;
           };
         };
   }

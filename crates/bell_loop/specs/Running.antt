@@ -1,5 +1,5 @@
 -- A loop script's run on a shared loop, as far as home alone makes its history.
-use Rattle.std.specs.Prelude.{◌≡◌, ℕ, Bool, true, false, ◌||◌, List, [], ◌∷◌, ◌++◌}
+use Rattle.std.specs.Prelude.{◌≡◌, ◌⊎◌, ◌≤◌, ℕ, Bool, true, false, ◌||◌, List, [], ◌∷◌, ◌++◌}
 use Rattle.aio_model.specs.declared.loop_scripts.ActKind.{ActKind}
 use Rattle.aio_model.specs.declared.loop_scripts.Command.{Command}
 use Rattle.aio_model.specs.declared.loop_scripts.LoopScript.{LoopScript}
@@ -8,7 +8,9 @@ use Rattle.aio_model.specs.LoopHistory.{Sizes, History}
 use Rattle.aio_model.specs.LoopActs.{acts_of}
 use Rattle.aio_model.specs.LoopReplies.{Does, sizes_of}
 use Rattle.aio_model.specs.LoopSeats.{home, entries_of}
-use Rattle.aio_model.specs.LoopLists.{is_announced}
+use Rattle.aio_model.specs.LoopLists.{is_announced, stack_of}
+use Rattle.aio_model.specs.LoopFlags.{is_pending, lives}
+use Rattle.aio_model.specs.LoopLaws.{times_of}
 use Rattle.aio_model.specs.LoopFrame.{Entered}
 use Rattle.aio_model.specs.LoopLegal.{IsLegal}
 use Rattle.aio_model.specs.LoopLog.{Log, history_of, is_rung}
@@ -36,11 +38,31 @@ pub record Idles (table : TableState) (seat : SeatState) : Type 0 where
   pub running : is_running seat.known.sleep ≡ true
   pub legal : IsLegal table.sizes seat.known.seen
 
+-- each index that was enqueued was pushed
+abbrev pub NoneAnnounced : History → Type 0
+NoneAnnounced history = (i : ℕ) → is_announced i history ≡ false
+
+-- each lot that lives is pending, or one of these
+abbrev pub Lots : (ℕ → Type 0) → History → Type 0
+Lots others history =
+    (i : ℕ) → lives i history ≡ true → (is_pending i history ≡ true) ⊎ others i
+
+-- what was pushed since the last take are handles
+abbrev pub StackBelow : Sizes → History → Type 0
+StackBelow sizes history =
+    (i : ℕ) → sizes.handles ≤ i → times_of i (stack_of history) ≡ 0
+
+-- between two commands nothing is announced, and each lot that lives is pending
+pub record Calm (history : History) : Type 0 where
+  pub announced : NoneAnnounced history
+  pub lots : Lots (λ _. ⊥) history
+
 -- What was seen went on. Where home alone made it, what the log of before leads to is its log, and this was told of that log.
 pub record GoesTo (moves : Log → Log) (Told : Log → Type 0) (seen seen_after : History) : Type 0 where
   pub between : History
   pub longer : seen_after ≡ between ++ seen
   pub at : IsAlone seen_after → (log : Log) → history_of log ≡ seen → (history_of (moves log) ≡ seen_after) × Told log
+  pub calm : IsAlone seen_after → Calm seen → Calm seen_after
 
 -- of what home knows nothing changed but what was seen and made, and which steps were done
 abbrev pub SameButSeen : Known → Known → Type 0
@@ -56,6 +78,7 @@ pub record IsOf (script : LoopScript) (sizes : Sizes) (acts : ℕ → List ActKi
 pub record StandsFor (seen : History) (rang : Bool) (log : Log) : Type 0 where
   pub history : history_of log ≡ seen
   pub rung : rang ≡ is_rung log
+  pub calm : Calm seen
 
 -- from the log on the command does what the definition says, and leads to this history
 pub record Answered (script : LoopScript) (command : Command) (reply : LoopReply) (rang_after : Bool) (seen_after : History) (log : Log) : Type 0 where
@@ -68,7 +91,3 @@ pub record Answers (sizes : Sizes) (acts : ℕ → List ActKind) (command : Comm
   pub between : History
   pub longer : seen_after ≡ between ++ seen
   pub at : IsAlone seen_after → (script : LoopScript) (log : Log) → IsOf script sizes acts → StandsFor seen rang log → Answered script command reply rang_after seen_after log
-
--- each index that was enqueued was pushed
-abbrev pub NoneAnnounced : History → Type 0
-NoneAnnounced history = (i : ℕ) → is_announced i history ≡ false
