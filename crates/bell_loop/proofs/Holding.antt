@@ -65,9 +65,9 @@ Lots-freed X i h before k alive =
         elim (before k (rw other at alive)) [
           | inl pending ↦ inl (rw other pending)
           | inr x ↦ elim x [
-              | inl here ↦ inr here
-              | inr same ↦ absurd (false≢true (sym other ∙ eq-eqb k i same))
-            ]
+            | inl here ↦ inr here
+            | inr same ↦ absurd (false≢true (sym other ∙ eq-eqb k i same))
+          ]
         ]
 
 Lots-handle : (sizes : Sizes) (X : ℕ → Type 0) (i : ℕ) (h : History) → IsLegal sizes h → is_lot sizes i ≡ false → Lots (λ k. X k ⊎ (k ≡ i)) h → Lots X h
@@ -75,9 +75,9 @@ Lots-handle sizes X i h legal handle before k alive =
     elim (before k alive) [
       | inl pending ↦ inl pending
       | inr x ↦ elim x [
-          | inl here ↦ inr here
-          | inr same ↦ absurd (false≢true (sym handle ∙ subst (λ n. is_lot sizes n ≡ true) same (lives-lot sizes k h legal alive)))
-        ]
+        | inl here ↦ inr here
+        | inr same ↦ absurd (false≢true (sym handle ∙ subst (λ n. is_lot sizes n ≡ true) same (lives-lot sizes k h legal alive)))
+      ]
     ]
 
 module _ (acts : ℕ → List ActKind) (sizes : Sizes) where
@@ -217,7 +217,8 @@ none_lives sizes h legal announced lots below none i =
     by_life (lives i h) refl
   where
     pends : lives i h ≡ true → is_pending i h ≡ true
-    pends alive = elim (lots i alive) [ | inl pending ↦ pending | inr never ↦ absurd never ]
+    pends alive = elim (lots i alive) [ inl pending ↦ pending | inr never ↦ absurd never ]
+
     by_life : (b : Bool) → lives i h ≡ b → lives i h ≡ false
     by_life false is = is
     by_life true is =

@@ -8,3 +8,6 @@ pub mod Going
 pub mod Polling
 pub mod Held
 pub mod Holding
+pub mod Counting
+pub mod Commanding
+pub mod Listing

@@ -185,18 +185,22 @@ module _ {R L : Type 0} (lists_in : R → L) (acts_in : L → ℕ → List ActKi
   none_waits_then =
       none_waits_after (acts_in (lists_in r)) (noted_in r) (noted_in r') polled a b polls.end polls.goes_on.between polls.frame polls.seen the_runs.1 polls.progress polls.cut_nests polls.goes_on.seen polls.goes_on.legal none
 
+  pub none_lives_then : IsAlone b.seen → Calm a.seen → (i : ℕ) → lives i b.seen ≡ false
+  none_lives_then alone calm =
+      none_lives_after (acts_in (lists_in r)) (noted_in r) (noted_in r') polled a b polls.end polls.goes_on.between polls.frame polls.seen the_runs.1 polls.progress polls.cut_nests polls.goes_on.seen polls.goes_on.legal none alone calm polls.none_out
+
   pub Answers-polled : (sizes : Sizes) → a.sizes ≡ sizes → Names (noted_in r).ran (noted_in r).more [] → Answers sizes (acts_in (lists_in r)) Poll (Ran (noted_in r').ran (noted_in r').more polled.progress polled.cut_nests) (noted_in r).rang (noted_in r').rang a.seen b.seen
   Answers-polled sizes same names = record {
     between = polls.goes_on.between;
     longer = polls.goes_on.seen;
     at = λ alone script log of stands. record {
-          after = made_log polls.goes_on.between log;
-          does =
-            Polls-script (acts_in (lists_in r)) (noted_in r) (noted_in r') polled a b polls.end polls.goes_on.between polls.frame polls.seen the_runs.1 polls.progress polls.cut_nests polls.goes_on.seen polls.goes_on.legal none script log names (of.sizes_are ∙ sym same) of.acts_are alone stands.history;
-          stands = record {
-            history = history_of-made polls.goes_on.between log ∙ ap (λ h. polls.goes_on.between ++ h) stands.history ∙ sym polls.goes_on.seen;
-            rung = rung_after (acts_in (lists_in r)) (noted_in r) (noted_in r') polled a b polls.end polls.goes_on.between polls.frame polls.seen the_runs.1 polls.progress polls.cut_nests polls.goes_on.seen polls.goes_on.legal none alone log stands.rung;
-            calm = calm_after (acts_in (lists_in r)) (noted_in r) (noted_in r') polled a b polls.end polls.goes_on.between polls.frame polls.seen the_runs.1 polls.progress polls.cut_nests polls.goes_on.seen polls.goes_on.legal none alone stands.calm;
-          };
-        };
+      after = made_log polls.goes_on.between log;
+      does =
+          Polls-script (acts_in (lists_in r)) (noted_in r) (noted_in r') polled a b polls.end polls.goes_on.between polls.frame polls.seen the_runs.1 polls.progress polls.cut_nests polls.goes_on.seen polls.goes_on.legal none script log names (of.sizes_are ∙ sym same) of.acts_are alone stands.history;
+      stands = record {
+        history = history_of-made polls.goes_on.between log ∙ ap (λ h. polls.goes_on.between ++ h) stands.history ∙ sym polls.goes_on.seen;
+        rung = rung_after (acts_in (lists_in r)) (noted_in r) (noted_in r') polled a b polls.end polls.goes_on.between polls.frame polls.seen the_runs.1 polls.progress polls.cut_nests polls.goes_on.seen polls.goes_on.legal none alone log stands.rung;
+        calm = calm_after (acts_in (lists_in r)) (noted_in r) (noted_in r') polled a b polls.end polls.goes_on.between polls.frame polls.seen the_runs.1 polls.progress polls.cut_nests polls.goes_on.seen polls.goes_on.legal none alone stands.calm;
+      };
+    };
   }

@@ -1,10 +1,11 @@
 -- What one entry into a callback does to what is kept of the callbacks.
 use Rattle.std.specs.Prelude.{◌≡◌, ◌⊎◌, ℕ, ◌-◌, ◌<◌, ◌≤◌, Bool, ◌||◌, if◌then◌else◌, MatchBool, Option, List, [], ◌∷◌, ◌++◌, length, take, slice_index_or}
 use Rattle.std.specs.List.{AllByRecursion}
+use Rattle.aio_model.specs.declared.loop_scripts.Act.{Act}
 use Rattle.aio_model.specs.declared.loop_scripts.ActKind.{ActKind}
 use Rattle.aio_model.specs.declared.ran_lists.Called.{Called}
 use Rattle.aio_model.specs.LoopFrame.{Lent, Entered}
-use Rattle.aio_model.specs.LoopActs.{Waiting, DoesActs, acts_called}
+use Rattle.aio_model.specs.LoopActs.{Waiting, DoesActs, acts_called, acts_of}
 use Rattle.aio_model.specs.LoopReplies.{counted, named_most, called_as}
 use Rattle.bell_loop.specs.Actions.{AreWithin, some_rings}
 
@@ -53,3 +54,8 @@ pub record DoesEntry (acts : ℕ → List ActKind) (before : Noted) (entered : E
   pub names : (calls : List Called) → Names before.ran before.more calls → Names after.ran after.more (calls_after entered.lent calls)
   pub rang : after.rang ≡ (before.rang || some_rings entered.made)
   pub does : MayEnter entered.lent before.waiting → DoesActs acts before.waiting entered after.waiting
+
+-- a list of actions for each handle, which are its callback's
+pub record AreListsOf (handles : ℕ) (acts : List Act) (lists : List (List ActKind)) : Type 0 where
+  pub each : length lists ≡ handles
+  pub are : (bh : ℕ) → bh < handles → acts_at lists bh ≡ acts_of acts bh

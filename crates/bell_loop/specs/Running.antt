@@ -1,5 +1,5 @@
 -- A loop script's run on a shared loop, as far as home alone makes its history.
-use Rattle.std.specs.Prelude.{◌≡◌, ◌⊎◌, ◌≤◌, ℕ, Bool, true, false, ◌||◌, List, [], ◌∷◌, ◌++◌}
+use Rattle.std.specs.Prelude.{◌≡◌, ◌⊎◌, ◌≤◌, ◌+◌, ℕ, zero, suc, Bool, true, false, ◌||◌, List, [], ◌∷◌, ◌++◌}
 use Rattle.aio_model.specs.declared.loop_scripts.ActKind.{ActKind}
 use Rattle.aio_model.specs.declared.loop_scripts.Command.{Command}
 use Rattle.aio_model.specs.declared.loop_scripts.LoopScript.{LoopScript}
@@ -9,11 +9,12 @@ use Rattle.aio_model.specs.LoopActs.{acts_of}
 use Rattle.aio_model.specs.LoopReplies.{Does, sizes_of}
 use Rattle.aio_model.specs.LoopSeats.{home, entries_of}
 use Rattle.aio_model.specs.LoopLists.{is_announced, stack_of}
-use Rattle.aio_model.specs.LoopFlags.{is_pending, lives}
+use Rattle.aio_model.specs.LoopFlags.{is_lot, is_pending, lives}
+use Rattle.aio_model.specs.FlagsWord.{bit}
 use Rattle.aio_model.specs.LoopLaws.{times_of}
 use Rattle.aio_model.specs.LoopFrame.{Entered}
 use Rattle.aio_model.specs.LoopLegal.{IsLegal}
-use Rattle.aio_model.specs.LoopLog.{Log, history_of, is_rung}
+use Rattle.aio_model.specs.LoopLog.{Log, history_of, is_rung, begun_log}
 use Rattle.aio_model.specs.InFlight.{AtRest}
 use Rattle.aio_core.specs.Known.{Known, empty_stage, is_running}
 use Rattle.aio_core.specs.Calls.{TableState, SeatState, IsSeatOf}
@@ -91,3 +92,19 @@ pub record Answers (sizes : Sizes) (acts : ℕ → List ActKind) (command : Comm
   pub between : History
   pub longer : seen_after ≡ between ++ seen
   pub at : IsAlone seen_after → (script : LoopScript) (log : Log) → IsOf script sizes acts → StandsFor seen rang log → Answered script command reply rang_after seen_after log
+
+-- how many of so many numbers from this one on pass
+abbrev pub count_from : (ℕ → Bool) → ℕ → ℕ → ℕ
+count_from test start zero = 0
+count_from test start (suc more) = bit (test start) + count_from test (suc start) more
+
+-- how many lots live
+abbrev pub living_in : Sizes → History → ℕ
+living_in sizes history =
+    count_from (λ i. lives i history) sizes.handles sizes.lots
+
+-- A one-shot with this tag was placed in some lot, and what was seen went on with it; one lot more lives.
+pub record PlacesTag (sizes : Sizes) (tag living living_after : ℕ) (seen seen_after : History) : Type 0 where
+  pub lot : ℕ
+  pub goes : GoesTo (begun_log lot home tag) (λ log. (is_lot sizes lot ≡ true) × (lives lot (history_of log) ≡ false)) seen seen_after
+  pub counts : IsAlone seen_after → living ≡ living_in sizes seen → living_after ≡ living_in sizes seen_after

@@ -1,5 +1,5 @@
 //! The callbacks of a loop script: each does the actions of its list, up to the next nest, and is entered again behind it.
-ghost use Rattle.std.specs.Prelude.{◌≡◌, Some, ◌⊎◌, ◌+◌, ◌<◌, ◌≤◌, ◌^◌, ◌∷◌, ◌++◌, [], ◌||◌, ℕ, List, None, min, length, map, option_map, true, if◌then◌else◌, MatchOption, IfOk};
+ghost use Rattle.std.specs.Prelude.{◌≡◌, Some, ◌⊎◌, ◌+◌, ◌<◌, ◌≤◌, ◌^◌, ◌∷◌, ◌++◌, [], ◌||◌, ℕ, List, None, min, length, map, option_map, true, false, if◌then◌else◌, MatchOption, IfOk};
 ghost use Rattle.std.specs.List.{AllByRecursion};
 ghost use Rattle.aio_model.specs.declared.ran_lists.Called.{Called};
 ghost use Rattle.aio_model.specs.LoopActs.{acts_called, waiting_after, before_nest};
@@ -40,6 +40,15 @@ fn name_of(bh: u32, job: Option<Tag>) -> Called
     }
 }
 
+/// Empties a list, and writes nothing where it is empty.
+fn empty(ran: &mut RanList)
+    ensures { ran.new ≡ [] }
+{
+    if !ran.as_slice().is_empty() {
+        *ran = RanList::build();
+    }
+}
+
 /// What is to be done from a first entry on: by a one-shot nothing.
 fn first_todo<'a>(lists: &'a [Vec<ActKind>], bh: u32, job: Option<Tag>) -> &'a [ActKind]
     requires { job ≡ None → bh < length lists.now }
@@ -59,6 +68,7 @@ impl<'a, R: Wait> Callbacks<'a, R> {
     ) -> Result<Callbacks<'a, R>, NoMemory>
         ensures lists { IfOk result (λ built. built.lists.now ≡ lists.now) }
         ensures waiting { IfOk result (λ built. built.waiting ≡ []) }
+        ensures rang { IfOk result (λ built. built.rang ≡ false) }
     {
         Ok(Callbacks {
             rt,
@@ -68,6 +78,15 @@ impl<'a, R: Wait> Callbacks<'a, R> {
             more: 0,
             rang: false,
         })
+    }
+
+    /// Who was called before is forgotten.
+    pub(crate) fn begin_poll(&mut self)
+        ensures names { Names self.new.ran self.new.more [] }
+        ensures rest { self.new ≡ record self.old { ran = self.new.ran; more = self.new.more } }
+    {
+        empty(&mut self.ran);
+        self.more = 0;
     }
 
     /// One more was called.

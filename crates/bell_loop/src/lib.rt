@@ -3,9 +3,12 @@
 
 mod acting;
 mod callbacks;
+mod listed;
+mod machine;
 mod stack;
 mod steps;
 mod tag;
 
-pub use callbacks::Callbacks;
+pub use listed::lists_of;
+pub use machine::Machine;
 pub use tag::Tag;

@@ -1,15 +1,17 @@
 //! The calls of home on the shared loop. Where home alone makes its history, each does to a log what the commands of a loop script are
 //! defined by.
-ghost use Rattle.std.specs.Prelude.{◌≡◌, ◌<◌, ℕ, [], map};
+ghost use Rattle.std.specs.Prelude.{◌≡◌, ◌≤◌, ◌<◌, ℕ, [], false, map, MatchBool};
 ghost use Rattle.aio_model.specs.declared.loop_replies.LoopReply.{LoopReply};
 ghost use Rattle.aio_model.specs.declared.loop_scripts.Command.{Command};
 ghost use Rattle.aio_model.specs.LoopLog.{flags_before, enqueued_log, canceled_log, set_log, is_set_in, cleared_log};
 ghost use Rattle.aio_model.specs.LoopSeats as Seats;
+ghost use Rattle.aio_model.specs.LoopFlags.{lives};
 ghost use Rattle.aio_core.specs.Standing.{asked_by};
 ghost use Rattle.aio_core.specs.Calls.{IsSeatOf};
-ghost use Rattle.aio_bh.specs.OneShots.{ServesHome};
+ghost use Rattle.aio_bh.specs.OneShots.{IsPoolFor, ServesHome};
+ghost use Rattle.lot_pool.specs.Pools.{IsPassOf};
 ghost use Rattle.bell_loop.specs.Entering.{acts_at, CanRun, Names};
-ghost use Rattle.bell_loop.specs.Running.{Answers, Idles, GoesTo, SameButSeen};
+ghost use Rattle.bell_loop.specs.Running.{Answers, Calm, Idles, IsAlone, GoesTo, PlacesTag, SameButSeen};
 
 use crate::callbacks::Callbacks;
 use crate::tag::Tag;
@@ -92,6 +94,66 @@ pub(crate) fn poll<'a, R: Wait>(
     ensures can { CanRun table.now.sizes.handles (map (λ l. l.items) callbacks.old.lists.now) callbacks.new.waiting }
     ensures none { callbacks.new.waiting ≡ [] }
     ensures answers { Answers table.now.sizes (acts_at (map (λ l. l.items) callbacks.old.lists.now)) Command.Poll (LoopReply.Ran callbacks.new.ran callbacks.new.more result.progress result.cut_nests) callbacks.old.rang callbacks.new.rang home.old.seat.known.seen home.new.seat.known.seen }
+    ensures none_lives { IsAlone home.new.seat.known.seen → Calm home.old.seat.known.seen → (i : ℕ) → lives i home.new.seat.known.seen ≡ false }
 {
     table.poll(rt, pool, pass, home, callbacks)
+}
+
+/// One try to place a one-shot in some lot of the pool. `living` counts it where it was placed.
+fn try_once<R: Wait>(
+    rt: &R,
+    table: &LoopTable<Tag>,
+    pool: &LotPool,
+    pass: &mut LotPass,
+    seat: &mut Seat<Tag>,
+    tag: u32,
+    living: &mut u32,
+) -> bool
+    requires idles { Idles table.now seat.old }
+    requires pool { IsPoolFor table.now.sizes pool.now }
+    requires pass { IsPassOf pool.now pass.old }
+    requires few { table.now.sizes.lots ≤ 4096 }
+    ensures idles { Idles table.now seat.new }
+    ensures pass { IsPassOf pool.now pass.new }
+    ensures same { SameButSeen seat.old.known seat.new.known }
+    ensures placed { MatchBool result (PlacesTag table.now.sizes tag living.old living.new seat.old.known.seen seat.new.known.seen) ((living.new ≡ living.old) × (seat.new.known.seen ≡ seat.old.known.seen)) }
+{
+    match table.once(rt, pool, pass, seat, Tag { tag }) {
+        Ok(()) => {
+            *living = living.saturating_add(1);
+            true
+        }
+        Err(_) => false,
+    }
+}
+
+/// A one-shot in some lot of the pool. False where every lot lives: `living` are so many, and counts this one. Where the pool is
+/// found empty and some lot doesn't live, it is tried again.
+pub(crate) fn once<R: Wait>(
+    rt: &R,
+    table: &LoopTable<Tag>,
+    pool: &LotPool,
+    pass: &mut LotPass,
+    seat: &mut Seat<Tag>,
+    tag: u32,
+    living: &mut u32,
+) -> bool
+    requires idles { Idles table.now seat.old }
+    requires pool { IsPoolFor table.now.sizes pool.now }
+    requires pass { IsPassOf pool.now pass.old }
+    ensures idles { Idles table.now seat.new }
+    ensures pass { IsPassOf pool.now pass.new }
+    ensures same { SameButSeen seat.old.known seat.new.known }
+    ensures placed { MatchBool result (PlacesTag table.now.sizes tag living.old living.new seat.old.known.seen seat.new.known.seen) ((living.new ≡ living.old) × (seat.new.known.seen ≡ seat.old.known.seen) × (living.old ≡ table.now.sizes.lots)) }
+{
+    let lots = table.indices() - table.handles();
+    for _ in rt.forever() {
+        if try_once(rt, table, pool, pass, seat, tag, living) {
+            return true;
+        }
+        if *living == lots {
+            return false;
+        }
+    }
+    unreachable!()
 }

@@ -40,6 +40,6 @@ returns-in-Some-clause-runs g c =
       did = (
         ap (λ s. s.lists) c.wait_behind.ensures.rest ∙ ap (λ s. s.lists) c.begin-todo.ensures.rest,
         subst (λ s. DoesEntry acts before (record { lent = lent; answer = Nests; made = all.made }) (noted s.waiting s.ran s.more s.rang)) (sym c.wait_behind.ensures.rest)
-        (DoesEntry-nested acts c.args.call.now.bh (option_map (λ t. t.tag) c.args.call.now.job) c.args.call.now.first c.args.call.now.nests_left c.begin-todo.result.now all.made _ _ _ _ _ _ _ _ c.begin-todo.ensures.names c.begin-todo.ensures.finds all.adds c.begin-todo.ensures.rang c.in-Some.later.now _ c.in-Some.ensures.later c.wait_behind.ensures.waiting),
+            (DoesEntry-nested acts c.args.call.now.bh (option_map (λ t. t.tag) c.args.call.now.job) c.args.call.now.first c.args.call.now.nests_left c.begin-todo.result.now all.made _ _ _ _ _ _ _ _ c.begin-todo.ensures.names c.begin-todo.ensures.finds all.adds c.begin-todo.ensures.rang c.in-Some.later.now _ c.in-Some.ensures.later c.wait_behind.ensures.waiting),
       );
     }
