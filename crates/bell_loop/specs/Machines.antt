@@ -8,6 +8,7 @@ use Rattle.aio_model.specs.declared.loop_scripts.Command.{Command}
 use Rattle.aio_model.specs.declared.loop_scripts.Command.TheVariants.{Schedule, Idle, Delete}
 use Rattle.aio_model.specs.declared.loop_scripts.LoopScript.{LoopScript}
 use Rattle.aio_model.specs.declared.loop_replies.LoopReply.{LoopReply}
+use Rattle.aio_model.specs.declared.ran_lists.Called.{Called}
 use Rattle.aio_model.specs.LoopHistory.{Sizes, History}
 use Rattle.aio_model.specs.LoopLog.{Log, history_of, is_rung}
 use Rattle.aio_model.specs.LoopActs.{Waiting}
@@ -74,3 +75,10 @@ state_of machine =
 abbrev pub Ready : {R : Type 0} → Machine R → Type 0
 Ready machine =
     IsReady machine.table machine.home.seat machine.pool machine.giving machine.placing (map (λ l. l.items) machine.callbacks.lists.now) machine.callbacks.waiting
+
+-- who was called in the last poll, and how many besides
+abbrev pub ran_in : {R : Type 0} → Machine R → List Called
+ran_in machine = machine.callbacks.ran
+
+abbrev pub more_in : {R : Type 0} → Machine R → ℕ
+more_in machine = machine.callbacks.more

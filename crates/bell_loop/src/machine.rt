@@ -3,7 +3,7 @@ ghost use Rattle.std.specs.Prelude.{◌≡◌, ◌+◌, ◌≤◌, ◌<◌, ◌|
 ghost use Rattle.bell_loop.specs.Entering.{CanRun};
 ghost use Rattle.aio_model.specs.declared.loop_replies.LoopReply.{LoopReply};
 ghost use Rattle.aio_model.specs.declared.loop_scripts.Command.{Command};
-ghost use Rattle.bell_loop.specs.Machines.{Answers, IsNew, Ready, state_of, enqueue_command};
+ghost use Rattle.bell_loop.specs.Machines.{Answers, IsNew, Ready, state_of, ran_in, more_in, enqueue_command};
 
 use crate::callbacks::Callbacks;
 use crate::steps;
@@ -79,9 +79,21 @@ impl<'a, R: Wait> Machine<'a, R> {
         Ok((machine, seat))
     }
 
+    pub fn handles(&self) -> u32
+        ensures { result ≡ (state_of self.now).sizes.handles }
+    {
+        self.table.handles()
+    }
+
+    pub fn events(&self) -> u32
+        ensures { result ≡ (state_of self.now).sizes.events }
+    {
+        self.table.events()
+    }
+
     /// Who was called in the last poll, and how many besides.
     pub fn called(&self) -> (&RanList, u64)
-        ensures { (result.0.now ≡ self.now.callbacks.ran) × (result.1 ≡ self.now.callbacks.more) }
+        ensures { (result.0.now ≡ ran_in self.now) × (result.1 ≡ more_in self.now) }
     {
         (&self.callbacks.ran, self.callbacks.more)
     }
@@ -89,7 +101,7 @@ impl<'a, R: Wait> Machine<'a, R> {
     /// An enqueue of a handle. The answer is the flags found.
     pub fn enqueue(&mut self, bh: u32, kind: Kind) -> Flags
         requires ready { Ready self.old }
-        requires handle { bh < self.old.table.sizes.handles }
+        requires handle { bh < (state_of self.old).sizes.handles }
         ensures ready { Ready self.new }
         ensures answers { Answers (enqueue_command kind bh) (LoopReply.Flagged (enqueue_command kind bh) result) (state_of self.old) (state_of self.new) }
     {
@@ -101,7 +113,7 @@ impl<'a, R: Wait> Machine<'a, R> {
     /// Cancels a handle. The answer is the flags found.
     pub fn cancel(&mut self, bh: u32) -> Flags
         requires ready { Ready self.old }
-        requires handle { bh < self.old.table.sizes.handles }
+        requires handle { bh < (state_of self.old).sizes.handles }
         ensures ready { Ready self.new }
         ensures answers { Answers (Command.Cancel bh) (LoopReply.Flagged (Command.Cancel bh) result) (state_of self.old) (state_of self.new) }
     {
@@ -110,7 +122,7 @@ impl<'a, R: Wait> Machine<'a, R> {
 
     pub fn set(&mut self, event: u32)
         requires ready { Ready self.old }
-        requires event { event < self.old.table.sizes.events }
+        requires event { event < (state_of self.old).sizes.events }
         ensures ready { Ready self.new }
         ensures answers { Answers (Command.Set event) (LoopReply.WasSet event) (state_of self.old) (state_of self.new) }
     {
@@ -121,7 +133,7 @@ impl<'a, R: Wait> Machine<'a, R> {
     /// Whether the event was set.
     pub fn clear(&mut self, event: u32) -> bool
         requires ready { Ready self.old }
-        requires event { event < self.old.table.sizes.events }
+        requires event { event < (state_of self.old).sizes.events }
         ensures ready { Ready self.new }
         ensures answers { Answers (Command.Clear event) (LoopReply.Cleared event result) (state_of self.old) (state_of self.new) }
     {
@@ -151,7 +163,7 @@ impl<'a, R: Wait> Machine<'a, R> {
     pub fn poll(&mut self) -> Polled
         requires ready { Ready self.old }
         ensures ready { Ready self.new }
-        ensures answers { Answers Command.Poll (LoopReply.Ran self.new.callbacks.ran self.new.callbacks.more result.progress result.cut_nests) (state_of self.old) (state_of self.new) }
+        ensures answers { Answers Command.Poll (LoopReply.Ran (ran_in self.new) (more_in self.new) result.progress result.cut_nests) (state_of self.old) (state_of self.new) }
     {
         self.callbacks.begin_poll();
         let polled = steps::poll(
