@@ -1,12 +1,12 @@
 -- What actions make of what home knows.
-use Rattle.std.proofs.Common.{◌≡◌, ℕ, Bool, true, false, List, [], ◌∷◌, ◌++◌, length, take, drop, get_or, ◌-◌, ◌≤◌, arith, refl, sym, ◌∙◌, ap, subst, append_assoc}
+use Rattle.std.proofs.Common.{◌≡◌, ℕ, true, false, List, [], ◌∷◌, ◌++◌, length, take, drop, get_or, ◌-◌, ◌≤◌, arith, refl, sym, ◌∙◌, ap, subst, append_assoc}
 use Rattle.std.proofs.Math.Seq.{take-length}
 use Rattle.std.proofs.lemmas.Bool.{and_from, and_parts}
 use Rattle.aio_model.specs.declared.flags.Flags.{Flags}
 use Rattle.aio_model.specs.declared.loop_scripts.ActKind.{ActKind}
 use Rattle.aio_model.specs.declared.loop_scripts.ActKind.TheVariants.{Cancel as CancelOf, Nest}
 use Rattle.aio_model.specs.LoopHistory.{Asked, Cancel, History}
-use Rattle.aio_model.specs.LoopSeats.{entries_of, home}
+use Rattle.aio_model.specs.LoopSeats.{entries_of}
 use Rattle.aio_model.specs.LoopLegal.{IsLegal}
 use Rattle.aio_model.specs.LoopFrame.{is_of_callback, are_of_callback}
 use Rattle.aio_model.specs.LoopState.{no_flags}

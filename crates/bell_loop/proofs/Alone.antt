@@ -1,11 +1,11 @@
 -- A history that home alone made, and what a poll then adds to it.
-use Rattle.std.proofs.Common.{◌≡◌, ℕ, zero, suc, ◌+◌, ◌<◌, ◌≤◌, Bool, true, false, ◌||◌, cond, eqb, MatchBool, Option, None, Some, List, [], ◌∷◌, ◌++◌, length, arith, inl, inr, refl, sym, ap, ◌∙◌, subst, append_assoc}
+use Rattle.std.proofs.Common.{◌≡◌, ℕ, zero, suc, ◌≤◌, Bool, true, false, ◌||◌, cond, eqb, MatchBool, Option, None, List, [], ◌∷◌, ◌++◌, length, arith, inl, inr, refl, sym, ap, ◌∙◌, subst, append_assoc}
 use Rattle.aio_model.specs.LoopHistory.{Sizes, Entry, Take, Dequeue, Free, History}
 use Rattle.aio_model.specs.LoopFlags.{is_lot}
-use Rattle.aio_model.specs.LoopLists.{seat_of, job_of}
+use Rattle.aio_model.specs.LoopLists.{seat_of}
 use Rattle.aio_model.specs.LoopLog.{rings}
 use Rattle.aio_model.specs.LoopSeats.{home, entries_of}
-use Rattle.aio_model.specs.LoopFrame.{Lent, Answer, Nests, Entered, Place, Makes, Dequeues, Enters, Body, Turn, Turns, TakesAndTurns, Frame, lent_of, nests_above}
+use Rattle.aio_model.specs.LoopFrame.{Lent, Answer, Nests, Entered, Place, Makes, Enters, Body, Turn, Turns, Frame, lent_of, nests_above}
 use Rattle.bell_loop.specs.Actions.{some_rings}
 use Rattle.bell_loop.specs.Running.{IsAlone, any_rings}
 use Rattle.bell_loop.proofs.Entries.{some_rings-append, or_assoc}

@@ -1,5 +1,5 @@
 -- The commands of a loop script, from what the steps of home tell.
-use Rattle.std.proofs.Common.{◌≡◌, ◌⊎◌, ℕ, ◌≤◌, ◌<◌, ◌+◌, Bool, true, false, ◌||◌, not, ◌&&◌, ltb, cond, MatchBool, List, [], ◌∷◌, inl, inr, arith, refl, sym, ap, ◌∙◌, subst}
+use Rattle.std.proofs.Common.{◌≡◌, ℕ, ◌≤◌, ◌<◌, ◌+◌, Bool, true, false, ◌||◌, not, ◌&&◌, ltb, cond, MatchBool, List, [], ◌∷◌, inl, inr, refl, sym, ap, ◌∙◌, subst}
 use Rattle.std.proofs.lemmas.Bool.{false≢true, ltb-true, ltb-false}
 use Rattle.aio_model.specs.declared.flags.Flags.{Flags}
 use Rattle.aio_model.specs.declared.kinds.Kind as asking
@@ -10,16 +10,16 @@ use Rattle.aio_model.specs.declared.loop_scripts.Command.TheVariants.{Cancel, Se
 use Rattle.aio_model.specs.declared.loop_scripts.LoopScript.{LoopScript}
 use Rattle.aio_model.specs.declared.loop_replies.LoopReply.{LoopReply}
 use Rattle.aio_model.specs.declared.loop_replies.LoopReply.TheVariants.{Flagged, Placed, WasSet, Cleared}
-use Rattle.aio_model.specs.LoopHistory.{Sizes, Asked, ToCallOnce, New, Enqueue, Put, History}
+use Rattle.aio_model.specs.LoopHistory.{Sizes, Asked, ToCallOnce, New, Put}
 use Rattle.aio_model.specs.LoopFlags.{is_lot, is_pending, lives}
 use Rattle.aio_model.specs.LoopLog.{Made, Log, history_of, is_rung, flags_before, asked_log, enqueued_log, canceled_log, set_log, cleared_log, is_set_in, begun_log}
 use Rattle.aio_model.specs.LoopSeats.{home}
-use Rattle.aio_model.specs.LoopReplies.{Does, sizes_of}
+use Rattle.aio_model.specs.LoopReplies.{Does}
 use Rattle.aio_core.specs.Standing.{asked_by}
 use Rattle.bell_loop.specs.Running as one
 use Rattle.bell_loop.specs.Entering.{acts_at}
 use Rattle.bell_loop.specs.Running.{Calm, IsAlone, GoesTo, IsOf, PlacesTag, living_in}
-use Rattle.bell_loop.specs.Machines.{MachineState, Answers, IsNew, Stands, enqueue_command}
+use Rattle.bell_loop.specs.Machines.{MachineState, Answers, IsNew, enqueue_command}
 use Rattle.bell_loop.proofs.Counting.{all_counted, none_counted, same_counted}
 use Rattle.bell_loop.proofs.Logs.{enqueued_rings}
 

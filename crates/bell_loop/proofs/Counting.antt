@@ -1,17 +1,17 @@
 -- Counting the lots that live.
-use Rattle.std.proofs.Common.{◌≡◌, ◌⊎◌, ℕ, zero, suc, ◌+◌, ◌-◌, ◌^◌, min, ◌<◌, ◌≤◌, Bool, true, false, not, ◌&&◌, ◌||◌, cond, eqb, ltb, [], ◌∷◌, ◌++◌, arith, inl, inr, refl, sym, ap, ◌∙◌, subst}
+use Rattle.std.proofs.Common.{◌≡◌, ◌⊎◌, ℕ, zero, suc, ◌+◌, ◌<◌, ◌≤◌, Bool, true, false, not, ◌&&◌, ◌||◌, cond, eqb, ltb, ◌∷◌, ◌++◌, arith, inl, inr, refl, sym, ap, ◌∙◌, subst}
 use Rattle.std.proofs.lemmas.Bool.{false≢true, eq-eqb, ne_eqb, eqb-true, ltb-true, ltb-false}
 use Rattle.aio_model.specs.declared.flags.Flags.{Flags}
 use Rattle.aio_model.specs.FlagsWord.{bit}
-use Rattle.aio_model.specs.LoopHistory.{Sizes, ToCallOnce, Entry, New, Enqueue, Put, History}
-use Rattle.aio_model.specs.LoopFlags.{is_lot, is_pending, lives, flags_of}
+use Rattle.aio_model.specs.LoopHistory.{Sizes, ToCallOnce, New, Enqueue, Put, History}
+use Rattle.aio_model.specs.LoopFlags.{is_pending, lives, flags_of}
 use Rattle.aio_model.specs.LoopLegal.{IsLegal}
 use Rattle.aio_model.specs.LoopLog.{Made, Log, history_of, asked_log, begun_log}
 use Rattle.aio_model.specs.LoopSeats.{home, entries_of}
 use Rattle.aio_core.specs.Known.{Known}
 use Rattle.aio_bh.specs.Enqueuing.{Stands}
-use Rattle.aio_bh.specs.OneShots.{PlacesOnce, one_shot_entries}
-use Rattle.bell_loop.specs.Running.{IsAlone, Calm, Lots, GoesTo, PlacesTag, count_from, living_in}
+use Rattle.aio_bh.specs.OneShots.{one_shot_entries}
+use Rattle.bell_loop.specs.Running.{IsAlone, Calm, Lots, PlacesTag, count_from, living_in}
 use Rattle.bell_loop.proofs.Alone.{alone_parts}
 use Rattle.bell_loop.proofs.Held.{NoneAnnounced-entry, NoneAnnounced-enqueue}
 

@@ -1,12 +1,11 @@
 -- In a poll no more callbacks wait than polls stand in one another, so each of them finds room to wait, and goes on with what it had
 -- left.
-use Rattle.std.proofs.Common.{◌≡◌, ◌⊎◌, ℕ, zero, suc, ◌+◌, ◌<◌, ◌≤◌, Bool, true, false, cond, MatchBool, Option, None, Some, List, [], ◌∷◌, ◌++◌, length, arith, inl, inr, refl, sym, ap, ◌∙◌, subst, append_assoc}
+use Rattle.std.proofs.Common.{◌≡◌, ℕ, zero, suc, ◌+◌, ◌<◌, ◌≤◌, Bool, true, false, MatchBool, Option, None, Some, List, [], ◌∷◌, ◌++◌, length, arith, inl, inr, refl, sym, ap, ◌∙◌, subst, append_assoc}
 use Rattle.std.proofs.lemmas.Bool.{false≢true}
 use Rattle.aio_model.specs.declared.loop_scripts.ActKind.{ActKind}
 use Rattle.aio_model.specs.LoopHistory.{Sizes, Free}
 use Rattle.aio_model.specs.LoopFlags.{is_lot}
-use Rattle.aio_model.specs.LoopLists.{job_of}
-use Rattle.aio_model.specs.LoopFrame.{Answer, Ended, Nests, Entered, Place, Makes, Dequeues, Enters, Body, Turn, Turns, TakesAndTurns, Frame, Runs, lent_of, nests_above}
+use Rattle.aio_model.specs.LoopFrame.{Answer, Ended, Nests, Entered, Place, Makes, Enters, Body, Turn, Turns, Frame, Runs, lent_of, nests_above}
 use Rattle.aio_model.specs.LoopActs.{Waiting, DoesActs, behind_nest, answer_of, waiting_after}
 use Rattle.aio_model.proofs.Frames.{Runs-append}
 use Rattle.bell_loop.specs.Entering.{DoesEntry, MayEnter, Noted}

@@ -4,12 +4,12 @@ use Rattle.aio_model.specs.declared.flags.Flags.{Flags}
 use Rattle.aio_model.specs.declared.loop_scripts.ActKind.{ActKind}
 use Rattle.aio_model.specs.declared.loop_scripts.ActKind.TheVariants.{Schedule, Idle, Delete, Cancel as CancelOf, Nest}
 use Rattle.aio_model.specs.declared.ran_lists.Called.{Called}
-use Rattle.aio_model.specs.LoopHistory.{Asked, Entry, Enqueue, Put, History}
+use Rattle.aio_model.specs.LoopHistory.{Asked, Enqueue, Put, History}
 use Rattle.aio_model.specs.LoopLog.{rings}
 use Rattle.aio_model.specs.LoopSeats.{home}
-use Rattle.aio_model.specs.LoopFrame.{Lent, Answer, Ended, Nests, Entered, lent_of}
-use Rattle.aio_model.specs.LoopActs.{Waiting, Add, DoesActs, acts_called, made_by, enqueue_made, before_nest, behind_nest, is_nest, answer_of, waiting_after}
-use Rattle.aio_model.specs.LoopReplies.{called_as, called_by}
+use Rattle.aio_model.specs.LoopFrame.{Ended, Nests, lent_of}
+use Rattle.aio_model.specs.LoopActs.{Waiting, Add, acts_called, made_by, before_nest, behind_nest, is_nest, answer_of, waiting_after}
+use Rattle.aio_model.specs.LoopReplies.{called_by}
 use Rattle.bell_loop.specs.Actions.{AreWithin, asks, some_asks, some_rings}
 use Rattle.bell_loop.specs.Entering.{Names, FindsTodo, MayEnter, DoesEntry, noted}
 

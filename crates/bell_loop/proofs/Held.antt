@@ -1,19 +1,17 @@
 -- Where home alone makes the history, nothing is announced between two of its calls, and a lot that lives is pending.
-use Rattle.std.proofs.Common.{◌≡◌, ◌⊎◌, ℕ, zero, suc, ◌+◌, ◌<◌, ◌≤◌, Bool, true, false, not, ◌&&◌, ◌||◌, cond, eqb, MatchBool, Option, None, Some, List, [], ◌∷◌, ◌++◌, length, arith, inl, inr, refl, sym, ap, ◌∙◌, subst, append_assoc}
-use Rattle.std.proofs.lemmas.Bool.{false≢true, eq-eqb, eqb-true, ne_eqb}
+use Rattle.std.proofs.Common.{◌≡◌, ℕ, ◌<◌, Bool, true, false, not, ◌&&◌, ◌||◌, cond, eqb, List, [], ◌∷◌, ◌++◌, arith, inl, inr, refl, sym, ap, ◌∙◌, subst, append_assoc}
+use Rattle.std.proofs.lemmas.Bool.{false≢true, eqb-true, ne_eqb}
 use Rattle.aio_model.specs.declared.flags.Flags.{Flags}
 use Rattle.aio_model.specs.declared.loop_scripts.ActKind.{ActKind}
 use Rattle.aio_model.specs.declared.loop_scripts.ActKind.TheVariants.{Schedule, Idle, Delete, Cancel as CancelOf, Nest}
-use Rattle.aio_model.specs.LoopHistory.{Sizes, Asked, ToCall, ToCallIdle, ToDelete, Entry, New, Enqueue, Put, Cancel, Take, Dequeue, Free, SetEvent, ClearEvent, History}
-use Rattle.aio_model.specs.LoopFlags.{is_lot, lives, is_pending, was_dequeued, ends_round, enqueues, puts, begins, frees}
-use Rattle.aio_model.specs.LoopLists.{is_announced, was_put, stack_of, out_of, job_of}
+use Rattle.aio_model.specs.LoopHistory.{Sizes, Asked, ToCall, ToCallIdle, ToDelete, Entry, Enqueue, Put, Cancel, History}
+use Rattle.aio_model.specs.LoopFlags.{is_pending, ends_round, enqueues, puts}
+use Rattle.aio_model.specs.LoopLists.{was_put}
 use Rattle.aio_model.specs.LoopLegal.{IsLegal, MayAsk}
-use Rattle.aio_model.specs.LoopSeats.{home, entries_of}
-use Rattle.aio_model.specs.LoopActs.{Add, made_by, enqueue_made, Waiting, DoesActs}
-use Rattle.aio_model.proofs.Indices.{by_index}
+use Rattle.aio_model.specs.LoopSeats.{home}
+use Rattle.aio_model.specs.LoopActs.{Add, made_by}
 use Rattle.aio_model.proofs.Rounds.{legal_cut}
 use Rattle.aio_model.specs.FlagsWord.{bit}
-use Rattle.aio_model.specs.LoopLaws.{times_of}
 use Rattle.bell_loop.specs.Running.{NoneAnnounced, Lots, StackBelow}
 
 -- one entry that is no enqueue

@@ -1,6 +1,6 @@
 -- The lists of actions of a loop script's handles.
 use Rattle.std.specs.List.{AllByRecursion}
-use Rattle.std.proofs.Common.{◌≡◌, ◌⊎◌, ℕ, zero, suc, length-append, ◌+◌, ◌<◌, ◌≤◌, Bool, List, [], ◌∷◌, ◌++◌, length, map, get_or, eqb, true, false, refl, sym, ◌∙◌, ap, subst, arith, inl, inr, ltb}
+use Rattle.std.proofs.Common.{◌≡◌, ◌⊎◌, ℕ, length-append, ◌+◌, ◌<◌, ◌≤◌, Bool, List, [], ◌∷◌, ◌++◌, length, map, get_or, eqb, true, false, refl, sym, ◌∙◌, ap, subst, arith, inl, inr, ltb}
 use Rattle.std.proofs.lemmas.List.{get_or_past, map-append, length-map}
 use Rattle.std.proofs.Math.ListN.{get_or-append}
 use Rattle.std.proofs.Math.Seq.{get_or-append_seam}

@@ -1,7 +1,6 @@
 -- Logs with entries added.
-use Rattle.std.proofs.Common.{◌≡◌, ℕ, Bool, true, false, cond, List, [], ◌∷◌, ◌++◌, refl, sym, ◌∙◌, ap, subst}
-use Rattle.aio_model.specs.declared.flags.Flags.{Flags}
-use Rattle.aio_model.specs.LoopHistory.{Asked, Entry, Enqueue, Put, History}
+use Rattle.std.proofs.Common.{◌≡◌, ℕ, true, false, cond, [], ◌∷◌, ◌++◌, refl, ap}
+use Rattle.aio_model.specs.LoopHistory.{Asked, Enqueue, Put, History}
 use Rattle.aio_model.specs.LoopFlags.{is_pending}
 use Rattle.aio_model.specs.LoopLog.{Made, Log, history_of, flags_before, asked_log, enqueued_log, is_rung}
 use Rattle.aio_model.specs.LoopSeats.{home}

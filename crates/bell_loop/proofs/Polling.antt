@@ -1,15 +1,13 @@
 -- A poll over the callbacks of a loop script, where home alone makes the history, is the poll of the script.
-use Rattle.std.proofs.Common.{◌≡◌, ℕ, ◌+◌, ◌-◌, ◌≤◌, Bool, true, false, ◌||◌, cond, MatchBool, Option, None, Some, List, [], ◌∷◌, ◌++◌, length, map, take, arith, refl, sym, ◌∙◌, ap, subst}
+use Rattle.std.proofs.Common.{◌≡◌, ℕ, ◌-◌, Bool, true, false, ◌||◌, cond, MatchBool, Option, None, Some, List, [], ◌∷◌, ◌++◌, length, map, take, arith, refl, sym, ◌∙◌, ap, subst}
 use Rattle.std.proofs.lemmas.List.{append-nil, append_cancel_right, map-append}
 use Rattle.aio_model.specs.declared.loop_scripts.ActKind.{ActKind}
 use Rattle.aio_model.specs.declared.loop_scripts.LoopScript.{LoopScript}
-use Rattle.aio_model.specs.declared.loop_replies.LoopReply.{LoopReply}
 use Rattle.aio_model.specs.declared.loop_replies.LoopReply.TheVariants.{Ran}
 use Rattle.aio_model.specs.declared.loop_scripts.Command.TheVariants.{Poll}
-use Rattle.aio_model.specs.declared.ran_lists.Called.{Called}
-use Rattle.aio_model.specs.LoopHistory.{Sizes, Entry, History}
+use Rattle.aio_model.specs.LoopHistory.{Sizes, History}
 use Rattle.aio_model.specs.LoopLegal.{IsLegal}
-use Rattle.aio_model.specs.LoopLog.{Made, Log, history_of, is_rung, rings}
+use Rattle.aio_model.specs.LoopLog.{Log, history_of, is_rung, rings}
 use Rattle.aio_model.specs.LoopFrame.{Lent, Entered, Place, Frame, Runs, start_of, called_of, cut_nests_of}
 use Rattle.aio_model.specs.LoopActs.{Waiting, DoesActs, acts_called, acts_of}
 use Rattle.aio_model.specs.LoopReplies.{Polls as PollsScript, made_log, counted, named_most, called_as, sizes_of}
@@ -17,16 +15,16 @@ use Rattle.aio_core.specs.Known.{Known}
 use Rattle.aio_bh.specs.declared.polled.Polled.{Polled}
 use Rattle.aio_bh.specs.Polling.{Polls}
 use Rattle.bell_loop.specs.Actions.{some_rings}
-use Rattle.bell_loop.specs.Entering.{DoesEntry, Names, Noted, noted, calls_after}
+use Rattle.bell_loop.specs.Entering.{DoesEntry, Names, Noted}
 use Rattle.aio_core.specs.Known.{is_running}
 use Rattle.aio_core.specs.Calls.{TableState, SeatState, IsSeatOf}
 use Rattle.bell_loop.specs.Running.{IsAlone, any_rings, Answers, Calm, Idles, StackBelow}
 use Rattle.aio_model.specs.LoopFlags.{lives}
 use Rattle.aio_model.specs.LoopLists.{out_of}
-use Rattle.bell_loop.proofs.Holding.{Holds, Holds-frame, Below-frame, none_lives}
-use Rattle.bell_loop.proofs.Alone.{alone_parts, Grown, Grown-frame}
+use Rattle.bell_loop.proofs.Holding.{Holds-frame, Below-frame, none_lives}
+use Rattle.bell_loop.proofs.Alone.{alone_parts, Grown-frame}
 use Rattle.bell_loop.proofs.Depths.{Keeps, Keeps-frame}
-use Rattle.bell_loop.proofs.Entries.{or_assoc, some_rings-append}
+use Rattle.bell_loop.proofs.Entries.{or_assoc}
 use Rattle.bell_loop.proofs.Logs.{history_of-made}
 
 other_acts : (f g : ℕ → List ActKind) → ((bh : ℕ) → f bh ≡ g bh) → (bh : ℕ) (job : Option ℕ) → acts_called f bh job ≡ acts_called g bh job

@@ -1,6 +1,5 @@
 -- A machine for loop scripts, and what its calls answer.
-use Rattle.std.specs.Prelude.{◌≡◌, ℕ, Bool, false, List, [], ◌++◌, map}
-use Rattle.aio_model.specs.declared.flags.Flags.{Flags}
+use Rattle.std.specs.Prelude.{◌≡◌, ℕ, Bool, List, [], ◌++◌, map}
 use Rattle.aio_model.specs.declared.kinds.Kind as asking
 use Rattle.aio_model.specs.declared.kinds.Kind.TheVariants.{Sched, Idle as IdleKind, Del}
 use Rattle.aio_model.specs.declared.loop_scripts.ActKind.{ActKind}

@@ -1,5 +1,4 @@
 use Rattle.std.proofs.Common.{◌≡◌, sym, subst}
-use Rattle.aio_model.specs.declared.kinds.Kind.TheVariants.{Sched, Idle, Del}
 use Rattle.aio_model.specs.LoopHistory.{ToCall, ToCallIdle, ToDelete}
 use Rattle.aio_model.specs.LoopLog.{flags_before, enqueued_log}
 use Rattle.aio_model.specs.LoopSeats.{home}
