@@ -18,7 +18,7 @@ use std::sync::Wait;
 
 /// The callbacks of a loop script, and what a poll has done with them so far.
 #[derive(Drop)]
-pub struct Callbacks<'a, R: Wait> {
+pub(crate) struct Callbacks<'a, R: Wait> {
     rt: &'a R,
     /// The actions of each handle's callback.
     pub(crate) lists: &'a [Vec<ActKind>],
