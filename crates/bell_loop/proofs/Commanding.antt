@@ -1,0 +1,167 @@
+-- The commands of a loop script, from what the steps of home tell.
+use Rattle.std.proofs.Common.{◌≡◌, ℕ, ◌≤◌, ◌<◌, ◌+◌, Bool, true, false, ◌||◌, not, ◌&&◌, ltb, cond, MatchBool, List, [], ◌∷◌, inl, inr, refl, sym, ap, ◌∙◌, subst}
+use Rattle.std.proofs.lemmas.Bool.{false≢true, ltb-true, ltb-false}
+use Rattle.aio_model.specs.declared.flags.Flags.{Flags}
+use Rattle.aio_model.specs.declared.kinds.Kind as asking
+use Rattle.aio_model.specs.declared.kinds.Kind.TheVariants.{Sched, Idle as IdleKind, Del}
+use Rattle.aio_model.specs.declared.loop_scripts.ActKind.{ActKind}
+use Rattle.aio_model.specs.declared.loop_scripts.Command.{Command}
+use Rattle.aio_model.specs.declared.loop_scripts.Command.TheVariants.{Cancel, Set, Clear, Once, Poll}
+use Rattle.aio_model.specs.declared.loop_scripts.LoopScript.{LoopScript}
+use Rattle.aio_model.specs.declared.loop_replies.LoopReply.{LoopReply}
+use Rattle.aio_model.specs.declared.loop_replies.LoopReply.TheVariants.{Flagged, Placed, WasSet, Cleared}
+use Rattle.aio_model.specs.LoopHistory.{Sizes, Asked, ToCallOnce, New, Put}
+use Rattle.aio_model.specs.LoopFlags.{is_lot, is_pending, lives}
+use Rattle.aio_model.specs.LoopLog.{Made, Log, history_of, is_rung, flags_before, asked_log, enqueued_log, canceled_log, set_log, cleared_log, is_set_in, begun_log}
+use Rattle.aio_model.specs.LoopSeats.{home}
+use Rattle.aio_model.specs.LoopReplies.{Does}
+use Rattle.aio_core.specs.Standing.{asked_by}
+use Rattle.bell_loop.specs.Running as one
+use Rattle.bell_loop.specs.Entering.{acts_at}
+use Rattle.bell_loop.specs.Running.{Calm, IsAlone, GoesTo, IsOf, PlacesTag, living_in}
+use Rattle.bell_loop.specs.Machines.{MachineState, Answers, IsNew, enqueue_command}
+use Rattle.bell_loop.proofs.Counting.{all_counted, none_counted, same_counted}
+use Rattle.bell_loop.proofs.Logs.{enqueued_rings}
+
+Answers-goes : (command : Command) (reply : LoopReply) (moves : Log → Log) (Told : Log → Type 0) (old new : MachineState) → new.sizes ≡ old.sizes → new.lists ≡ old.lists → new.living ≡ old.living → GoesTo moves Told old.seen new.seen → ((log : Log) (i : ℕ) → lives i (history_of (moves log)) ≡ lives i (history_of log)) → ((log : Log) → old.rang ≡ is_rung log → new.rang ≡ is_rung (moves log)) → ((script : LoopScript) (log : Log) → Told log → Does script command log (moves log) reply) → Answers command reply old new
+Answers-goes command reply moves Told old new sizes lists living goes lives_same rung does = record {
+  same = (sizes, lists);
+  between = goes.between;
+  longer = goes.longer;
+  at = λ alone script log of stands.
+      let moved = goes.at alone log stands.history in
+      let each : (i : ℕ) → lives i new.seen ≡ lives i old.seen = λ i. ap (lives i) (sym moved.0) ∙ lives_same log i ∙ ap (lives i) stands.history in
+      record {
+        after = moves log;
+        does = does script log moved.1;
+        stands = record {
+          history = moved.0;
+          rung = rung log stands.rung;
+          living = living ∙ stands.living ∙ sym (same_counted (λ i. lives i old.seen) (λ i. lives i new.seen) old.sizes.handles old.sizes.lots (λ i above. each i)) ∙ ap (λ s. living_in s new.seen) (sym sizes);
+          calm = goes.calm alone stands.calm;
+        };
+      };
+}
+
+enqueued_lives : (k : ℕ) (asked : Asked) (log : Log) (i : ℕ) → lives i (history_of (enqueued_log k asked home log)) ≡ lives i (history_of log)
+enqueued_lives k asked log i =
+    elim (is_pending k (history_of log)) as (λ b. lives i (history_of (cond b (asked_log k asked home log) (Made (Put k home) ∷ asked_log k asked home log))) ≡ lives i (history_of log)) [ true ↦ refl | false ↦ refl ]
+
+does_enqueue : (kind : asking.Kind) (i : ℕ) (was : Flags) (script : LoopScript) (log : Log) → was ≡ flags_before i log → Does script (enqueue_command kind i) log (enqueued_log i (asked_by kind) home log) (Flagged (enqueue_command kind i) was)
+does_enqueue Sched i was script log told = (64, refl, ap (Flagged (enqueue_command Sched i)) told)
+does_enqueue IdleKind i was script log told = (64, refl, ap (Flagged (enqueue_command IdleKind i)) told)
+does_enqueue Del i was script log told = (64, refl, ap (Flagged (enqueue_command Del i)) told)
+
+pub Answers-enqueue : (kind : asking.Kind) (i : ℕ) (was : Flags) (old new : MachineState) → new ≡ record old { seen = new.seen; rang = true } → GoesTo (enqueued_log i (asked_by kind) home) (λ log. was ≡ flags_before i log) old.seen new.seen → Answers (enqueue_command kind i) (Flagged (enqueue_command kind i) was) old new
+Answers-enqueue kind i was old new rest goes =
+    Answers-goes (enqueue_command kind i) (Flagged (enqueue_command kind i) was) (enqueued_log i (asked_by kind) home) (λ log. was ≡ flags_before i log) old new
+    (ap (λ (m : MachineState). m.sizes) rest) (ap (λ (m : MachineState). m.lists) rest) (ap (λ (m : MachineState). m.living) rest) goes (enqueued_lives i (asked_by kind))
+    (λ log rung. ap (λ (m : MachineState). m.rang) rest ∙ sym (enqueued_rings i (asked_by kind) home log)) (does_enqueue kind i was)
+
+pub Answers-cancel : (i : ℕ) (was : Flags) (old new : MachineState) → new ≡ record old { seen = new.seen } → GoesTo (canceled_log i home) (λ log. was ≡ flags_before i log) old.seen new.seen → Answers (Cancel i) (Flagged (Cancel i) was) old new
+Answers-cancel i was old new rest goes =
+    Answers-goes (Cancel i) (Flagged (Cancel i) was) (canceled_log i home) (λ log. was ≡ flags_before i log) old new
+    (ap (λ (m : MachineState). m.sizes) rest) (ap (λ (m : MachineState). m.lists) rest) (ap (λ (m : MachineState). m.living) rest) goes (λ log k. refl)
+    (λ log rung. ap (λ (m : MachineState). m.rang) rest ∙ rung) (λ script log told. (64, refl, ap (Flagged (Cancel i)) told))
+
+pub Answers-set : (e : ℕ) (old new : MachineState) → new ≡ record old { seen = new.seen; rang = true } → GoesTo (set_log e home) (λ _. Unit {0}) old.seen new.seen → Answers (Set e) (WasSet e) old new
+Answers-set e old new rest goes =
+    Answers-goes (Set e) (WasSet e) (set_log e home) (λ _. Unit {0}) old new
+    (ap (λ (m : MachineState). m.sizes) rest) (ap (λ (m : MachineState). m.lists) rest) (ap (λ (m : MachineState). m.living) rest) goes (λ log k. refl)
+    (λ log rung. ap (λ (m : MachineState). m.rang) rest) (λ script log told. (64, refl, refl))
+
+pub Answers-clear : (e : ℕ) (was : Bool) (old new : MachineState) → new ≡ record old { seen = new.seen } → GoesTo (cleared_log e) (λ log. was ≡ is_set_in e log) old.seen new.seen → Answers (Clear e) (Cleared e was) old new
+Answers-clear e was old new rest goes =
+    Answers-goes (Clear e) (Cleared e was) (cleared_log e) (λ log. was ≡ is_set_in e log) old new
+    (ap (λ (m : MachineState). m.sizes) rest) (ap (λ (m : MachineState). m.lists) rest) (ap (λ (m : MachineState). m.living) rest) goes (λ log k. refl)
+    (λ log rung. ap (λ (m : MachineState). m.rang) rest ∙ rung) (λ script log told. (refl, ap (Cleared e) told))
+
+in_lots : (sizes : Sizes) (lot : ℕ) → is_lot sizes lot ≡ true → (sizes.handles ≤ lot) × (lot < sizes.handles + sizes.lots)
+in_lots sizes lot is = within (ltb lot sizes.handles) (ltb lot (sizes.handles + sizes.lots)) refl refl is
+  where
+    within : (a b : Bool) → ltb lot sizes.handles ≡ a → ltb lot (sizes.handles + sizes.lots) ≡ b → (not a && b) ≡ true → (sizes.handles ≤ lot) × (lot < sizes.handles + sizes.lots)
+    within true b x y h = absurd (false≢true h)
+    within false true x y h = (ltb-false lot sizes.handles x, ltb-true lot (sizes.handles + sizes.lots) y)
+    within false false x y h = absurd (false≢true h)
+
+or_placed : (a : Bool) → (a || true) ≡ true
+or_placed true = refl
+or_placed false = refl
+
+or_not : (a : Bool) → (a || false) ≡ a
+or_not true = refl
+or_not false = refl
+
+pub Answers-once : (tag : ℕ) (placed : Bool) (old new : MachineState) → new ≡ record old { seen = new.seen; rang = old.rang || placed; living = new.living } → MatchBool placed (PlacesTag old.sizes tag old.living new.living old.seen new.seen) ((new.living ≡ old.living) × (new.seen ≡ old.seen) × (old.living ≡ old.sizes.lots)) → Answers (Once tag) (Placed tag placed) old new
+Answers-once tag true old new rest places = record {
+  same = (ap (λ (m : MachineState). m.sizes) rest, ap (λ (m : MachineState). m.lists) rest);
+  between = places.goes.between;
+  longer = places.goes.longer;
+  at = λ alone script log of stands.
+      let moved = places.goes.at alone log stands.history in
+      record {
+        after = begun_log places.lot home tag log;
+        does = inl (places.lot, 64, subst (λ z. is_lot z places.lot ≡ true) (sym of.sizes_are) moved.1.0, moved.1.1, refl, refl);
+        stands = record {
+          history = moved.0;
+          rung = ap (λ (m : MachineState). m.rang) rest ∙ or_placed old.rang ∙ sym (enqueued_rings places.lot ToCallOnce home (Made (New places.lot home tag) ∷ log));
+          living = places.counts alone stands.living ∙ ap (λ s. living_in s new.seen) (sym (ap (λ (m : MachineState). m.sizes) rest));
+          calm = places.goes.calm alone stands.calm;
+        };
+      };
+}
+Answers-once tag false old new rest none = record {
+  same = (ap (λ (m : MachineState). m.sizes) rest, ap (λ (m : MachineState). m.lists) rest);
+  between = [];
+  longer = none.1;
+  at = λ alone script log of stands.
+      let full : living_in old.sizes old.seen ≡ old.sizes.lots = sym stands.living ∙ none.2 in
+      let sizes : new.sizes ≡ old.sizes = ap (λ (m : MachineState). m.sizes) rest in
+      record {
+        after = log;
+        does = inr (
+          λ lot is.
+              let bounds = in_lots old.sizes lot (subst (λ z. is_lot z lot ≡ true) of.sizes_are is) in
+              ap (lives lot) stands.history ∙ all_counted (λ i. lives i old.seen) old.sizes.handles old.sizes.lots full lot bounds.0 bounds.1,
+          refl,
+          refl,
+        );
+        stands = record {
+          history = stands.history ∙ sym none.1;
+          rung = ap (λ (m : MachineState). m.rang) rest ∙ or_not old.rang ∙ stands.rung;
+          living = none.0 ∙ stands.living ∙ ap (λ s. living_in old.sizes s) (sym none.1) ∙ ap (λ z. living_in z new.seen) (sym sizes);
+          calm = subst Calm (sym none.1) stands.calm;
+        };
+      };
+}
+
+pub Answers-poll : (reply : LoopReply) (old new : MachineState) → new ≡ record old { seen = new.seen; rang = new.rang; living = 0 } → one.Answers old.sizes (acts_at old.lists) Poll reply old.rang new.rang old.seen new.seen → (IsAlone new.seen → Calm old.seen → (i : ℕ) → lives i new.seen ≡ false) → Answers Poll reply old new
+Answers-poll reply old new rest answers none = record {
+  same = (ap (λ (m : MachineState). m.sizes) rest, ap (λ (m : MachineState). m.lists) rest);
+  between = answers.between;
+  longer = answers.longer;
+  at = λ alone script log of stands.
+      let answered = answers.at alone script log of record { history = stands.history; rung = stands.rung; calm = stands.calm } in
+      record {
+        after = answered.after;
+        does = answered.does;
+        stands = record {
+          history = answered.stands.history;
+          rung = answered.stands.rung;
+          living = ap (λ (m : MachineState). m.living) rest ∙ sym (none_counted (λ i. lives i new.seen) new.sizes.handles new.sizes.lots (none alone stands.calm));
+          calm = answered.stands.calm;
+        };
+      };
+}
+
+pub IsNew-of : (sizes : Sizes) (lists : List (List ActKind)) (machine : MachineState) → machine.sizes ≡ sizes → machine.lists ≡ lists → machine.seen ≡ [] → machine.rang ≡ false → machine.living ≡ 0 → IsNew sizes lists machine
+IsNew-of sizes lists machine same_sizes same_lists nothing quiet none = record {
+  sizes_are = same_sizes;
+  lists_are = same_lists;
+  empty = record {
+    history = sym nothing;
+    rung = quiet;
+    living = none ∙ sym (none_counted (λ i. lives i machine.seen) machine.sizes.handles machine.sizes.lots (λ i. ap (lives i) nothing));
+    calm = subst Calm (sym nothing) record { announced = λ i. refl; lots = λ i alive. absurd (false≢true alive) };
+  };
+}

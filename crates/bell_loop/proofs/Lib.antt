@@ -1,0 +1,13 @@
+pub mod Actions
+pub mod Named
+pub mod Entries
+pub mod Depths
+pub mod Alone
+pub mod Logs
+pub mod Going
+pub mod Polling
+pub mod Held
+pub mod Holding
+pub mod Counting
+pub mod Commanding
+pub mod Listing

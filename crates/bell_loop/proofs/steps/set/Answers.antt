@@ -1,0 +1,6 @@
+use Rattle.bell_loop.proofs.Going.{Goes-set}
+use Rattle.bell_loop.proofs.steps.set.Goals as goal
+
+pub returns-clause-goes : goal.returns-clause-goes
+returns-clause-goes c =
+    Goes-set c.args.event _ _ c.requires.idles.first c.requires.idles.count c.set_event.ensures.makes

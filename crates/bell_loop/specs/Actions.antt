@@ -1,0 +1,55 @@
+-- What actions make of what home knows.
+use Rattle.std.specs.Prelude.{◌≡◌, ℕ, Bool, true, false, ◌||◌, List, [], ◌∷◌}
+use Rattle.std.specs.List.{AllByRecursion}
+use Rattle.aio_model.specs.declared.flags.Flags.{Flags}
+use Rattle.aio_model.specs.declared.loop_scripts.ActKind.{ActKind}
+use Rattle.aio_model.specs.declared.loop_scripts.ActKind.TheVariants.{Schedule, Idle, Delete, Cancel as CancelOf, Nest}
+use Rattle.aio_model.specs.LoopHistory.{History}
+use Rattle.aio_model.specs.LoopLegal.{IsLegal}
+use Rattle.aio_model.specs.LoopLog.{rings}
+use Rattle.aio_model.specs.LoopActs.{Add, made_by}
+use Rattle.aio_model.specs.InFlight.{AtRest}
+use Rattle.aio_core.specs.Known.{Known}
+use Rattle.aio_core.specs.Calls.{TableState, SeatState, IsSeatOf}
+use Rattle.aio_bh.specs.Running.{GivesBack}
+use Rattle.aio_script.specs.LoopBounds.{CallsHandle}
+
+-- actions on handles, of which there are so many
+abbrev pub AreWithin : ℕ → List ActKind → Type 0
+AreWithin handles todo = AllByRecursion (CallsHandle handles) todo
+
+-- the home's seat, as a callback is lent it
+pub record IsLent (table : TableState) (seat : SeatState) : Type 0 where
+  pub of : IsSeatOf table seat
+  pub rest : seat.known.phase ≡ AtRest
+  pub first : seat.known.first ≡ 64
+  pub count : seat.known.count ≡ 1
+  pub legal : IsLegal table.sizes seat.known.seen
+
+-- one action was done, and nothing else
+pub record Acts (what : ActKind) (before after : Known) : Type 0 where
+  pub was : Flags
+  pub back : GivesBack (made_by what was) before after
+
+-- these actions
+pub record ActsAll (todo : List ActKind) (before after : Known) : Type 0 where
+  pub made : History
+  pub adds : Add todo made
+  pub back : GivesBack made before after
+
+-- some entry notifies
+abbrev pub some_rings : History → Bool
+some_rings [] = false
+some_rings (e ∷ older) = rings e || some_rings older
+
+-- the action notifies
+abbrev pub asks : ActKind → Bool
+asks (Schedule i) = true
+asks (Idle i) = true
+asks (Delete i) = true
+asks (CancelOf i) = false
+asks Nest = false
+
+abbrev pub some_asks : List ActKind → Bool
+some_asks [] = false
+some_asks (act ∷ later) = asks act || some_asks later

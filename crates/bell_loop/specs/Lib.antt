@@ -1,0 +1,4 @@
+pub mod Actions
+pub mod Entering
+pub mod Running
+pub mod Machines

@@ -1,0 +1,83 @@
+-- A machine for loop scripts, and what its calls answer.
+use Rattle.std.specs.Prelude.{◌≡◌, ℕ, Bool, List, [], ◌++◌, map}
+use Rattle.aio_model.specs.declared.kinds.Kind as asking
+use Rattle.aio_model.specs.declared.kinds.Kind.TheVariants.{Sched, Idle as IdleKind, Del}
+use Rattle.aio_model.specs.declared.loop_scripts.ActKind.{ActKind}
+use Rattle.aio_model.specs.declared.loop_scripts.Command.{Command}
+use Rattle.aio_model.specs.declared.loop_scripts.Command.TheVariants.{Schedule, Idle, Delete}
+use Rattle.aio_model.specs.declared.loop_scripts.LoopScript.{LoopScript}
+use Rattle.aio_model.specs.declared.loop_replies.LoopReply.{LoopReply}
+use Rattle.aio_model.specs.declared.ran_lists.Called.{Called}
+use Rattle.aio_model.specs.LoopHistory.{Sizes, History}
+use Rattle.aio_model.specs.LoopLog.{Log, history_of, is_rung}
+use Rattle.aio_model.specs.LoopActs.{Waiting}
+use Rattle.aio_model.specs.LoopReplies.{Does}
+use Rattle.aio_core.specs.Calls.{TableState, SeatState}
+use Rattle.lot_pool.specs.Pools.{PoolState, PassState, IsPassOf}
+use Rattle.aio_bh.specs.OneShots.{ServesHome}
+use Rattle.bell_loop.specs.declared.machine.Machine.{Machine}
+use Rattle.bell_loop.specs.Entering.{CanRun, acts_at}
+use Rattle.bell_loop.specs.Running.{Calm, Idles, IsAlone, IsOf, living_in}
+
+pub record MachineState : Type 0 where
+  pub sizes : Sizes
+  pub lists : List (List ActKind)
+  pub seen : History
+  pub rang : Bool
+  pub living : ℕ
+
+-- between two commands home idles, the pool and its passes are the loop's, and no callback waits
+pub record IsReady (table : TableState) (home : SeatState) (pool : PoolState) (giving placing : PassState) (lists : List (List ActKind)) (waiting : Waiting) : Type 0 where
+  pub idles : Idles table home
+  pub serves : ServesHome table.sizes pool giving
+  pub places : IsPassOf pool placing
+  pub can : CanRun table.sizes.handles lists waiting
+  pub none : waiting ≡ []
+
+-- the log has the history that was seen, and the machine keeps what it tells
+pub record Stands (machine : MachineState) (log : Log) : Type 0 where
+  pub history : history_of log ≡ machine.seen
+  pub rung : machine.rang ≡ is_rung log
+  pub living : machine.living ≡ living_in machine.sizes machine.seen
+  pub calm : Calm machine.seen
+
+-- from the log on the command does what the definition says
+pub record Answered (script : LoopScript) (command : Command) (reply : LoopReply) (machine : MachineState) (log : Log) : Type 0 where
+  pub after : Log
+  pub does : Does script command log after reply
+  pub stands : Stands machine after
+
+-- What was seen went on. Where home alone made it, the command was answered so, for each script of these sizes and actions.
+pub record Answers (command : Command) (reply : LoopReply) (before after : MachineState) : Type 0 where
+  pub same : (after.sizes ≡ before.sizes) × (after.lists ≡ before.lists)
+  pub between : History
+  pub longer : after.seen ≡ between ++ before.seen
+  pub at : IsAlone after.seen → (script : LoopScript) (log : Log) → IsOf script before.sizes (acts_at before.lists) → Stands before log → Answered script command reply after log
+
+-- nothing was done yet
+pub record IsNew (sizes : Sizes) (lists : List (List ActKind)) (machine : MachineState) : Type 0 where
+  pub sizes_are : machine.sizes ≡ sizes
+  pub lists_are : machine.lists ≡ lists
+  pub empty : Stands machine []
+
+abbrev pub enqueue_command : asking.Kind → ℕ → Command
+enqueue_command Sched i = Schedule i
+enqueue_command IdleKind i = Idle i
+enqueue_command Del i = Delete i
+
+-- what a machine stands for
+abbrev pub state_of : {R : Type 0} → Machine R → MachineState
+state_of machine =
+    record { sizes = machine.table.sizes; lists = map (λ l. l.items) machine.callbacks.lists.now; seen = machine.home.seat.known.seen; rang = machine.callbacks.rang; living = machine.living }
+
+-- it may do a command
+abbrev pub Ready : {R : Type 0} → Machine R → Type 0
+Ready machine =
+    IsReady machine.table machine.home.seat machine.pool machine.giving machine.placing (map (λ l. l.items) machine.callbacks.lists.now) machine.callbacks.waiting
+
+-- who was called in the last poll, and how many besides
+abbrev pub ran_in : {R : Type 0} → Machine R → List Called
+ran_in machine = machine.callbacks.ran
+
+abbrev pub more_in : {R : Type 0} → Machine R → ℕ
+more_in machine = machine.callbacks.more

@@ -1,0 +1,180 @@
+//! A shared loop on which the commands of a loop script are done by home alone.
+ghost use Rattle.std.specs.Prelude.{◌≡◌, ◌+◌, ◌≤◌, ◌<◌, ◌||◌, [], length, map, IfOk};
+ghost use Rattle.bell_loop.specs.Entering.{CanRun};
+ghost use Rattle.aio_model.specs.declared.loop_replies.LoopReply.{LoopReply};
+ghost use Rattle.aio_model.specs.declared.loop_scripts.Command.{Command};
+ghost use Rattle.bell_loop.specs.Machines.{Answers, IsNew, Ready, state_of, ran_in, more_in, enqueue_command};
+
+use crate::callbacks::Callbacks;
+use crate::steps;
+use crate::tag::Tag;
+use aio_bh::{LotBuilt, LotPass, LotPool, Polled};
+use aio_core::{Built, Home, LoopTable, Seat};
+use aio_model::{ActKind, Flags, Kind, NoMemory, RanList};
+use std::alloc::Global;
+use std::sync::Wait;
+
+/// A loop on which the commands of a loop script are done. It takes memory when it is built, and never again.
+#[derive(Drop)]
+pub struct Machine<'a, R: Wait> {
+    rt: &'a R,
+    table: LoopTable<Tag>,
+    home: Home<Tag>,
+    pool: LotPool,
+    /// Gives lots back in a poll.
+    giving: LotPass,
+    /// Takes lots for one-shots.
+    placing: LotPass,
+    callbacks: Callbacks<'a, R>,
+    living: u32,
+}
+
+fn either(one: bool, other: bool) -> bool
+    ensures { result ≡ (one || other) }
+{
+    one || other
+}
+
+impl<'a, R: Wait> Machine<'a, R> {
+    /// A machine with these lists of actions, one for each handle, and the seat of all other numbers of its loop.
+    pub fn build(
+        rt: &'a R,
+        alloc: Global,
+        lists: &'a [Vec<ActKind>],
+        lots: u32,
+        events: u32,
+    ) -> Result<(Machine<'a, R>, Seat<Tag>), NoMemory>
+        requires few { length lists.now + lots ≤ 4096 }
+        requires few_events { events ≤ 64 }
+        requires can { CanRun (length lists.now) (map (λ l. l.items) lists.now) [] }
+        ensures ready { IfOk result (λ built. Ready built.0) }
+        ensures new { IfOk result (λ built. IsNew (record { handles = length lists.now; lots = lots; events = events }) (map (λ l. l.items) lists.now) (state_of built.0)) }
+    {
+        let handles = lists.len() as u32;
+        let Ok(
+            LotBuilt {
+                pool,
+                home: giving,
+                pass: placing,
+            },
+        ) = LotPool::build(rt, alloc, handles, lots)
+        else {
+            return Err(NoMemory);
+        };
+        let Ok(Built { table, home, seat }) = LoopTable::<Tag>::build(alloc, handles, lots, events)
+        else {
+            return Err(NoMemory);
+        };
+        let callbacks = Callbacks::build(rt, alloc, lists)?;
+        let machine = Machine {
+            rt,
+            table,
+            home,
+            pool,
+            giving,
+            placing,
+            callbacks,
+            living: 0,
+        };
+        Ok((machine, seat))
+    }
+
+    pub fn handles(&self) -> u32
+        ensures { result ≡ (state_of self.now).sizes.handles }
+    {
+        self.table.handles()
+    }
+
+    pub fn events(&self) -> u32
+        ensures { result ≡ (state_of self.now).sizes.events }
+    {
+        self.table.events()
+    }
+
+    /// Who was called in the last poll, and how many besides.
+    pub fn called(&self) -> (&RanList, u64)
+        ensures { (result.0.now ≡ ran_in self.now) × (result.1 ≡ more_in self.now) }
+    {
+        (&self.callbacks.ran, self.callbacks.more)
+    }
+
+    /// An enqueue of a handle. The answer is the flags found.
+    pub fn enqueue(&mut self, bh: u32, kind: Kind) -> Flags
+        requires ready { Ready self.old }
+        requires handle { bh < (state_of self.old).sizes.handles }
+        ensures ready { Ready self.new }
+        ensures answers { Answers (enqueue_command kind bh) (LoopReply.Flagged (enqueue_command kind bh) result) (state_of self.old) (state_of self.new) }
+    {
+        let was = steps::enqueue(self.rt, &self.table, &mut self.home.seat, bh, kind);
+        self.callbacks.rang = true;
+        was
+    }
+
+    /// Cancels a handle. The answer is the flags found.
+    pub fn cancel(&mut self, bh: u32) -> Flags
+        requires ready { Ready self.old }
+        requires handle { bh < (state_of self.old).sizes.handles }
+        ensures ready { Ready self.new }
+        ensures answers { Answers (Command.Cancel bh) (LoopReply.Flagged (Command.Cancel bh) result) (state_of self.old) (state_of self.new) }
+    {
+        steps::cancel(&self.table, &mut self.home.seat, bh)
+    }
+
+    pub fn set(&mut self, event: u32)
+        requires ready { Ready self.old }
+        requires event { event < (state_of self.old).sizes.events }
+        ensures ready { Ready self.new }
+        ensures answers { Answers (Command.Set event) (LoopReply.WasSet event) (state_of self.old) (state_of self.new) }
+    {
+        steps::set(&self.table, &mut self.home.seat, event);
+        self.callbacks.rang = true;
+    }
+
+    /// Whether the event was set.
+    pub fn clear(&mut self, event: u32) -> bool
+        requires ready { Ready self.old }
+        requires event { event < (state_of self.old).sizes.events }
+        ensures ready { Ready self.new }
+        ensures answers { Answers (Command.Clear event) (LoopReply.Cleared event result) (state_of self.old) (state_of self.new) }
+    {
+        steps::clear(&self.table, &mut self.home, event)
+    }
+
+    /// Whether a one-shot with this tag was placed. It wasn't where every lot lives.
+    pub fn once(&mut self, tag: u32) -> bool
+        requires ready { Ready self.old }
+        ensures ready { Ready self.new }
+        ensures answers { Answers (Command.Once tag) (LoopReply.Placed tag result) (state_of self.old) (state_of self.new) }
+    {
+        let placed = steps::once(
+            self.rt,
+            &self.table,
+            &self.pool,
+            &mut self.placing,
+            &mut self.home.seat,
+            tag,
+            &mut self.living,
+        );
+        self.callbacks.rang = either(self.callbacks.rang, placed);
+        placed
+    }
+
+    /// A poll. What it called, and how many it called besides, is with the callbacks.
+    pub fn poll(&mut self) -> Polled
+        requires ready { Ready self.old }
+        ensures ready { Ready self.new }
+        ensures answers { Answers Command.Poll (LoopReply.Ran (ran_in self.new) (more_in self.new) result.progress result.cut_nests) (state_of self.old) (state_of self.new) }
+    {
+        self.callbacks.begin_poll();
+        let polled = steps::poll(
+            self.rt,
+            &self.table,
+            &self.pool,
+            &mut self.giving,
+            &mut self.home,
+            &mut self.callbacks,
+        );
+        self.living = 0;
+        polled
+    }
+}

@@ -1,0 +1,159 @@
+//! The calls of home on the shared loop. Where home alone makes its history, each does to a log what the commands of a loop script are
+//! defined by.
+ghost use Rattle.std.specs.Prelude.{◌≡◌, ◌≤◌, ◌<◌, ℕ, [], false, map, MatchBool};
+ghost use Rattle.aio_model.specs.declared.loop_replies.LoopReply.{LoopReply};
+ghost use Rattle.aio_model.specs.declared.loop_scripts.Command.{Command};
+ghost use Rattle.aio_model.specs.LoopLog.{flags_before, enqueued_log, canceled_log, set_log, is_set_in, cleared_log};
+ghost use Rattle.aio_model.specs.LoopSeats as Seats;
+ghost use Rattle.aio_model.specs.LoopFlags.{lives};
+ghost use Rattle.aio_core.specs.Standing.{asked_by};
+ghost use Rattle.aio_core.specs.Calls.{IsSeatOf};
+ghost use Rattle.aio_bh.specs.OneShots.{IsPoolFor, ServesHome};
+ghost use Rattle.lot_pool.specs.Pools.{IsPassOf};
+ghost use Rattle.bell_loop.specs.Entering.{acts_at, CanRun, Names};
+ghost use Rattle.bell_loop.specs.Running.{Answers, Calm, Idles, IsAlone, GoesTo, PlacesTag, SameButSeen};
+
+use crate::callbacks::Callbacks;
+use crate::tag::Tag;
+use aio_bh::{BottomHalves, LotPass, LotPool, Polled};
+use aio_core::{Home, LoopTable, Seat};
+use aio_model::{Flags, Kind};
+use aio_notify::LoopEvents;
+use std::sync::Wait;
+
+/// An enqueue of a handle.
+pub(crate) fn enqueue<R: Wait>(
+    rt: &R,
+    table: &LoopTable<Tag>,
+    seat: &mut Seat<Tag>,
+    bh: u32,
+    kind: Kind,
+) -> Flags
+    requires idles { Idles table.now seat.old }
+    requires handle { bh < table.now.sizes.handles }
+    ensures idles { Idles table.now seat.new }
+    ensures goes { GoesTo (enqueued_log bh (asked_by kind) Seats.home) (λ log. result ≡ flags_before bh log) seat.old.known.seen seat.new.known.seen }
+    ensures same { SameButSeen seat.old.known seat.new.known }
+{
+    match kind {
+        Kind::Sched => table.schedule(rt, seat, bh),
+        Kind::Idle => table.schedule_idle(rt, seat, bh),
+        Kind::Del => table.delete(rt, seat, bh),
+    }
+}
+
+/// The end of an enqueue of a handle.
+pub(crate) fn cancel(table: &LoopTable<Tag>, seat: &mut Seat<Tag>, bh: u32) -> Flags
+    requires idles { Idles table.now seat.old }
+    requires handle { bh < table.now.sizes.handles }
+    ensures idles { Idles table.now seat.new }
+    ensures goes { GoesTo (canceled_log bh Seats.home) (λ log. result ≡ flags_before bh log) seat.old.known.seen seat.new.known.seen }
+    ensures same { SameButSeen seat.old.known seat.new.known }
+{
+    table.cancel(seat, bh)
+}
+
+pub(crate) fn set(table: &LoopTable<Tag>, seat: &mut Seat<Tag>, event: u32)
+    requires idles { Idles table.now seat.old }
+    requires event { event < table.now.sizes.events }
+    ensures idles { Idles table.now seat.new }
+    ensures goes { GoesTo (set_log event Seats.home) (λ _. Unit {0}) seat.old.known.seen seat.new.known.seen }
+    ensures same { SameButSeen seat.old.known seat.new.known }
+{
+    table.set_event(seat, event);
+}
+
+/// Whether the event was set.
+pub(crate) fn clear(table: &LoopTable<Tag>, home: &mut Home<Tag>, event: u32) -> bool
+    requires idles { Idles table.now home.old.seat }
+    requires event { event < table.now.sizes.events }
+    ensures idles { Idles table.now home.new.seat }
+    ensures goes { GoesTo (cleared_log event) (λ log. result ≡ is_set_in event log) home.old.seat.known.seen home.new.seat.known.seen }
+    ensures same { SameButSeen home.old.seat.known home.new.seat.known }
+{
+    table.clear_event(home, event)
+}
+
+/// A poll, whose callbacks are those of the script. Who was called, and whether it notified, is kept with the callbacks.
+pub(crate) fn poll<'a, R: Wait>(
+    rt: &R,
+    table: &LoopTable<Tag>,
+    pool: &LotPool,
+    pass: &mut LotPass,
+    home: &mut Home<Tag>,
+    callbacks: &mut Callbacks<'a, R>,
+) -> Polled
+    requires idles { Idles table.now home.old.seat }
+    requires serves { ServesHome table.now.sizes pool.now pass.old }
+    requires can { CanRun table.now.sizes.handles (map (λ l. l.items) callbacks.old.lists.now) callbacks.old.waiting }
+    requires none { callbacks.old.waiting ≡ [] }
+    requires names { Names callbacks.old.ran callbacks.old.more [] }
+    ensures idles { Idles table.now home.new.seat }
+    ensures serves { ServesHome table.now.sizes pool.now pass.new }
+    ensures lists { callbacks.new.lists ≡ callbacks.old.lists }
+    ensures can { CanRun table.now.sizes.handles (map (λ l. l.items) callbacks.old.lists.now) callbacks.new.waiting }
+    ensures none { callbacks.new.waiting ≡ [] }
+    ensures answers { Answers table.now.sizes (acts_at (map (λ l. l.items) callbacks.old.lists.now)) Command.Poll (LoopReply.Ran callbacks.new.ran callbacks.new.more result.progress result.cut_nests) callbacks.old.rang callbacks.new.rang home.old.seat.known.seen home.new.seat.known.seen }
+    ensures none_lives { IsAlone home.new.seat.known.seen → Calm home.old.seat.known.seen → (i : ℕ) → lives i home.new.seat.known.seen ≡ false }
+{
+    table.poll(rt, pool, pass, home, callbacks)
+}
+
+/// One try to place a one-shot in some lot of the pool. `living` counts it where it was placed.
+fn try_once<R: Wait>(
+    rt: &R,
+    table: &LoopTable<Tag>,
+    pool: &LotPool,
+    pass: &mut LotPass,
+    seat: &mut Seat<Tag>,
+    tag: u32,
+    living: &mut u32,
+) -> bool
+    requires idles { Idles table.now seat.old }
+    requires pool { IsPoolFor table.now.sizes pool.now }
+    requires pass { IsPassOf pool.now pass.old }
+    requires few { table.now.sizes.lots ≤ 4096 }
+    ensures idles { Idles table.now seat.new }
+    ensures pass { IsPassOf pool.now pass.new }
+    ensures same { SameButSeen seat.old.known seat.new.known }
+    ensures placed { MatchBool result (PlacesTag table.now.sizes tag living.old living.new seat.old.known.seen seat.new.known.seen) ((living.new ≡ living.old) × (seat.new.known.seen ≡ seat.old.known.seen)) }
+{
+    match table.once(rt, pool, pass, seat, Tag { tag }) {
+        Ok(()) => {
+            *living = living.saturating_add(1);
+            true
+        }
+        Err(_) => false,
+    }
+}
+
+/// A one-shot in some lot of the pool. False where every lot lives: `living` are so many, and counts this one. Where the pool is
+/// found empty and some lot doesn't live, it is tried again.
+pub(crate) fn once<R: Wait>(
+    rt: &R,
+    table: &LoopTable<Tag>,
+    pool: &LotPool,
+    pass: &mut LotPass,
+    seat: &mut Seat<Tag>,
+    tag: u32,
+    living: &mut u32,
+) -> bool
+    requires idles { Idles table.now seat.old }
+    requires pool { IsPoolFor table.now.sizes pool.now }
+    requires pass { IsPassOf pool.now pass.old }
+    ensures idles { Idles table.now seat.new }
+    ensures pass { IsPassOf pool.now pass.new }
+    ensures same { SameButSeen seat.old.known seat.new.known }
+    ensures placed { MatchBool result (PlacesTag table.now.sizes tag living.old living.new seat.old.known.seen seat.new.known.seen) ((living.new ≡ living.old) × (seat.new.known.seen ≡ seat.old.known.seen) × (living.old ≡ table.now.sizes.lots)) }
+{
+    let lots = table.indices() - table.handles();
+    for _ in rt.forever() {
+        if try_once(rt, table, pool, pass, seat, tag, living) {
+            return true;
+        }
+        if *living == lots {
+            return false;
+        }
+    }
+    unreachable!()
+}

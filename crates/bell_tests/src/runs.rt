@@ -1,0 +1,189 @@
+//! Loop scripts without a commit, and what their commands print.
+ghost use Rattle.std.specs.Prelude.{◌≡◌, ◌≤◌, [], length, map, IfOk};
+ghost use Rattle.bell_loop.specs.Entering.{CanRun};
+ghost use Rattle.bell_loop.specs.Machines.{Ready};
+
+use aio_model::{ActKind, Command, Kind, LoopReply, LoopScript};
+use aio_script::{Page, WriteFault, hand_over, print_poll, print_reply, read_loop_script};
+use aio_words::MemSink;
+use bell_loop::{Machine, lists_of};
+use std::alloc::Global;
+use std::process::Abort;
+use std::sync::Wait;
+use std::test::Fail;
+
+/// A loop script, and the lists of its callbacks.
+#[derive(Drop)]
+struct Prepared {
+    script: LoopScript,
+    lists: Vec<Vec<ActKind>>,
+}
+
+fn prepare(alloc: Global, text: &[u8]) -> Result<Prepared, Fail>
+    requires { length text.now ≤ 4294967295 }
+    ensures lists { IfOk result (λ p. CanRun (length p.lists.items) (map (λ l. l.items) p.lists.items) []) }
+    ensures few { IfOk result (λ p. (length p.lists.items ≤ 64) × (p.script.lots ≤ 64) × (p.script.events ≤ 64)) }
+{
+    let Ok(script) = read_loop_script(alloc, text) else {
+        return Err(Fail::from("no loop script"));
+    };
+    let lists = lists_of(alloc, script.acts.as_slice(), script.handles)?;
+    Ok(Prepared { script, lists })
+}
+
+/// Prints what an enqueue or a cancel found.
+fn ring_handle<R: Wait>(
+    machine: &mut Machine<'_, R>,
+    command: Command,
+    sink: &mut MemSink,
+    page: &mut Page,
+) -> Result<(), WriteFault>
+    requires ready { Ready machine.old }
+    ensures ready { Ready machine.new }
+{
+    match command {
+        Command::Schedule(i) if i < machine.handles() => {
+            let was = machine.enqueue(i, Kind::Sched);
+            print_reply(sink, page, &LoopReply::Flagged(Command::Schedule(i), was))
+        }
+        Command::Idle(i) if i < machine.handles() => {
+            let was = machine.enqueue(i, Kind::Idle);
+            print_reply(sink, page, &LoopReply::Flagged(Command::Idle(i), was))
+        }
+        Command::Delete(i) if i < machine.handles() => {
+            let was = machine.enqueue(i, Kind::Del);
+            print_reply(sink, page, &LoopReply::Flagged(Command::Delete(i), was))
+        }
+        Command::Cancel(i) if i < machine.handles() => {
+            let was = machine.cancel(i);
+            print_reply(sink, page, &LoopReply::Flagged(Command::Cancel(i), was))
+        }
+        _ => Ok(()),
+    }
+}
+
+/// Does a command, and prints its reply.
+fn ring<R: Wait>(
+    machine: &mut Machine<'_, R>,
+    command: Command,
+    sink: &mut MemSink,
+    page: &mut Page,
+) -> Result<(), WriteFault>
+    requires ready { Ready machine.old }
+    ensures ready { Ready machine.new }
+{
+    match command {
+        Command::Poll => {
+            let polled = machine.poll();
+            let (ran, more) = machine.called();
+            print_poll(sink, page, ran, more, polled.progress, polled.cut_nests)
+        }
+        Command::Once(tag) => {
+            let placed = machine.once(tag);
+            print_reply(sink, page, &LoopReply::Placed(tag, placed))
+        }
+        Command::Set(event) if event < machine.events() => {
+            machine.set(event);
+            print_reply(sink, page, &LoopReply::WasSet(event))
+        }
+        Command::Clear(event) if event < machine.events() => {
+            let was = machine.clear(event);
+            print_reply(sink, page, &LoopReply::Cleared(event, was))
+        }
+        _ => ring_handle(machine, command, sink, page),
+    }
+}
+
+/// What the commands of a text print.
+fn printed<R: Wait>(rt: &R, alloc: Global, text: &[u8]) -> Result<Vec<u8>, Fail>
+    requires { length text.now ≤ 4294967295 }
+{
+    let Prepared { script, lists } = prepare(alloc, text)?;
+    let mut sink = MemSink::build(alloc, 65_536, &[])?;
+    let mut page = Page::build(alloc)?;
+    let Ok((mut machine, _)) = Machine::build(
+        rt,
+        alloc,
+        lists.as_slice(),
+        script.lots,
+        script.events,
+    ) else {
+        return Err(Fail::from("no memory"));
+    };
+    for command in script.commands.as_slice() {
+        if ring(&mut machine, *command, &mut sink, &mut page).is_err() {
+            return Err(Fail::from("a reply was not printed"));
+        }
+    }
+    if hand_over(&mut sink, &mut page).is_err() {
+        return Err(Fail::from("the last replies were not printed"));
+    }
+    Ok(Vec::from_slice(alloc, sink.bytes())?)
+}
+
+type Row = (&'static str, &'static str);
+
+/// The newest is called first; a second schedule finds the first; a cancel leaves the index pending, and a deletion stays; who schedules
+/// itself is called in the next poll; a nested poll comes before the rest of its callback; an idle one is no progress; lots are free
+/// again after the poll; the fifth nest of a callback is cut, and the first of the eighth poll in one another.
+const ROWS: [Row; 12] = [
+    (
+        "loop 3 0 0\nschedule 0\nschedule 1\nschedule 2\npoll\n",
+        "schedule 0 was -----\nschedule 1 was -----\nschedule 2 was -----\npoll ran 2 1 0 progress yes cut 0\n",
+    ),
+    (
+        "loop 1 0 0\nschedule 0\nschedule 0\npoll\npoll\n",
+        "schedule 0 was -----\nschedule 0 was PS---\npoll ran 0 progress yes cut 0\npoll ran - progress no cut 0\n",
+    ),
+    (
+        "loop 1 0 0\nschedule 0\ncancel 0\npoll\nschedule 0\ncancel 0\nschedule 0\npoll\n",
+        "schedule 0 was -----\ncancel 0 was PS---\npoll ran - progress no cut 0\nschedule 0 was -----\ncancel 0 was PS---\nschedule 0 was P----\npoll ran 0 progress yes cut 0\n",
+    ),
+    (
+        "loop 1 0 0\ndelete 0\nschedule 0\npoll\nschedule 0\npoll\n",
+        "delete 0 was -----\nschedule 0 was P-D--\npoll ran - progress no cut 0\nschedule 0 was --D--\npoll ran - progress no cut 0\n",
+    ),
+    (
+        "loop 1 0 0\non 0 schedule 0\nschedule 0\npoll\npoll\n",
+        "schedule 0 was -----\npoll ran 0 progress yes cut 0\npoll ran 0 progress yes cut 0\n",
+    ),
+    (
+        "loop 3 0 0\non 1 schedule 2\non 1 nest\nschedule 0\nschedule 1\npoll\n",
+        "schedule 0 was -----\nschedule 1 was -----\npoll ran 1 0 2 progress yes cut 0\n",
+    ),
+    (
+        "loop 1 0 0\nidle 0\nschedule 0\npoll\n",
+        "idle 0 was -----\nschedule 0 was PS--I\npoll ran 0 progress no cut 0\n",
+    ),
+    (
+        "loop 1 0 4\nset 3\nclear 3\nclear 3\n",
+        "set 3\nclear 3 was 1\nclear 3 was 0\n",
+    ),
+    (
+        "loop 1 1 0\nonce 7\nonce 8\npoll\nonce 8\n",
+        "once 7 put\nonce 8 noroom\npoll ran o7 progress yes cut 0\nonce 8 put\n",
+    ),
+    (
+        "loop 1 0 0\non 0 nest\non 0 nest\non 0 nest\non 0 nest\non 0 nest\nschedule 0\npoll\n",
+        "schedule 0 was -----\npoll ran 0 progress yes cut 1\n",
+    ),
+    (
+        "loop 1 0 0\non 0 delete 0\non 0 schedule 0\nschedule 0\npoll\npoll\nschedule 0\npoll\n",
+        "schedule 0 was -----\npoll ran 0 progress yes cut 0\npoll ran - progress no cut 0\nschedule 0 was --D--\npoll ran - progress no cut 0\n",
+    ),
+    (
+        "loop 10 0 0\non 0 schedule 1\non 0 nest\non 1 schedule 2\non 1 nest\non 2 schedule 3\non 2 nest\non 3 schedule 4\non 3 nest\non 4 schedule 5\non 4 nest\non 5 schedule 6\non 5 nest\non 6 schedule 7\non 6 nest\non 7 schedule 8\non 7 nest\non 8 schedule 9\non 8 nest\nschedule 0\npoll\npoll\n",
+        "schedule 0 was -----\npoll ran 0 1 2 3 4 5 6 7 progress yes cut 1\npoll ran 8 9 progress yes cut 0\n",
+    ),
+];
+
+#[test]
+fn rows(rt: HostRuntime) -> Result<(), Fail> {
+    for (text, wanted) in ROWS.as_slice() {
+        if text.len() <= 1_000 {
+            let text_printed = printed(&rt, rt.alloc(), text.as_bytes())?;
+            assert_eq!(rt; text_printed.as_slice(), wanted.as_bytes(), "{text}");
+        }
+    }
+    Ok(())
+}
