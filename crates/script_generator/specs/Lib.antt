@@ -1,0 +1,2 @@
+pub mod Generated
+pub use Rattle.aio_model.specs.Asked
