@@ -1,6 +1,6 @@
 -- The words of the command line that the program takes, and what they ask for. Each word is a key and a value behind
 -- it. A key stands at most once, in any order.
-use Rattle.std.specs.Prelude.{ℕ, ◌<◌, ◌&&◌, ◌||◌, Bool, true, false, nat_eq, nat_le, nat_lt, List, [], ◌∷◌, length, drop, codes, count_by, Option, Some, None, if◌then◌else◌}
+use Rattle.std.specs.Prelude.{ℕ, ◌&&◌, ◌||◌, Bool, nat_eq, nat_le, nat_lt, List, [], ◌∷◌, length, drop, codes, count_by, Option, Some, None, if◌then◌else◌}
 use Rattle.std.specs.List.{list_all, starts_with}
 use Rattle.std.specs.Char.{is_ascii_digit}
 use Rattle.aio_script.specs.Text.{is, value_of}

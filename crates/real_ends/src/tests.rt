@@ -14,7 +14,7 @@ fn path_of<R: Env + AllocGlobal>(rt: &R, name: &str) -> Result<String, Fail> {
 }
 
 /// Puts two bytes behind the second, and finds five from the start on. None where the device hasn't ten bytes.
-fn put_and_find<D: Device>(device: &mut D) -> Result<Option<[u8; 5]>, Failed> {
+fn put_and_find<D: Device + Send>(device: &mut D) -> Result<Option<[u8; 5]>, Failed> {
     if device.size()? != 10 {
         return Ok(None);
     }
@@ -103,7 +103,7 @@ fn either_device(rt: HostRuntime) -> Result<(), Fail> {
 }
 
 /// How far the clock shows itself to be moved on by a pause.
-fn moved_by<C: Clock>(clock: &mut C, ns: u64) -> u64 {
+fn moved_by<C: Clock + Send>(clock: &mut C, ns: u64) -> u64 {
     let before = clock.now();
     clock.pause(ns);
     clock.now().saturating_sub(before)

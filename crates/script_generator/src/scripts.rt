@@ -1,5 +1,6 @@
 //! The generated script, line by line.
 ghost use Rattle.std.specs.Prelude.{◌≡◌, ◌++◌, ◌∷◌, [], ◌≤◌, ◌<◌, ◌+◌, IfOk};
+ghost use Rattle.aio_script.specs.Bounds.{IsBounded};
 ghost use Rattle.script_generator.specs.Generated.{ask_line, bytes_to, drawn, drawn_after, generated, lines_to, move_lines, request_at, streams_to};
 ghost use Rattle.aio_model.specs.declared.scripts.What.TheVariants.{Ask};
 
@@ -23,6 +24,15 @@ const ZEROED: u32 = 8_192;
 /// A request of it may reach past the image's end.
 pub fn generate(alloc: Global, n: u32, from: u32) -> Result<Script, NoMemory>
     requires some { 1 ≤ n }
+    requires few { n ≤ 4096 }
+    requires from { from ≤ 65535 }
+    ensures script { IfOk result (λ script. script ≡ generated n from) }
+    ensures bounded { IfOk result IsBounded }
+{
+    make_script(alloc, n, from)
+}
+
+fn make_script(alloc: Global, n: u32, from: u32) -> Result<Script, NoMemory>
     requires few { n ≤ 4096 }
     requires from { from ≤ 65535 }
     ensures { IfOk result (λ script. script ≡ generated n from) }

@@ -1,6 +1,9 @@
-//! The first lines of a generated script and its last ones. The places were worked out by hand.
-use crate::generate;
-use aio_model::{Request, Script, Step, Stream, What};
+//! The first lines of a generated script and its last ones, and what is printed of a run. All was worked out by hand.
+use crate::{Sums, generate, print_gen};
+use aio_model::{Bytes, Placed, Reply, Request, Script, Step, Stream, What};
+use aio_script::WriteFault;
+use aio_words::MemSink;
+use std::alloc::Global;
 use std::test::Fail;
 
 /// What a line is to say.
@@ -119,5 +122,85 @@ fn the_greatest(rt: HostRuntime) -> Result<(), Fail> {
     assert!(rt; stands_at(&script, 32, &[(7, Says::Flush), (7, Says::Move(1))]));
     assert!(rt; stands_at(&script, 212, &[(0, Says::Write(270_272, 200))]));
     assert!(rt; stands_at(&script, 4_350, &[(7, Says::Flush), (7, Says::Move(3))]));
+    Ok(())
+}
+
+/// The replies to the first script's requests, in the order of its lines: the zeroing reaches past the image's end.
+fn replies(alloc: Global) -> Result<Vec<Placed>, Fail> {
+    let mut served = Vec::new(alloc);
+    for stream in 0..8 {
+        let reply = match stream {
+            0..=2 => Reply::Put(64),
+            3..=5 => Reply::Got(Bytes::of(vec![in alloc; 7; 64]?)),
+            6 => Reply::Einval,
+            _ => Reply::Flushed,
+        };
+        let placed = Placed {
+            stream,
+            index: 0,
+            reply,
+        };
+        served.push(placed)?;
+    }
+    Ok(served)
+}
+
+/// The sums, where there are no more replies than a script has requests.
+fn sums_of(n: u32, from: u32, moved: u32, served: &[Placed]) -> Option<Sums> {
+    if served.len() > 4_096 {
+        return None;
+    }
+    Some(Sums::of(n, from, 8, moved, served))
+}
+
+const PRINTED: &str = "gen 8 1\nbegun 8 moved 0\nbytes 192 192 0\nend 8 1\n";
+
+#[test]
+fn prints_the_sums(rt: HostRuntime) -> Result<(), Fail> {
+    let alloc = rt.alloc();
+    let served = replies(alloc)?;
+    let sums = sums_of(8, 1, 0, served.as_slice()).expect(&rt, "few replies");
+    let mut sink = MemSink::build(alloc, 1_000, &[])?;
+    assert_eq!(rt; print_gen(&mut sink, &sums), Ok(()));
+    assert_eq!(rt; sink.bytes(), PRINTED.as_bytes());
+    Ok(())
+}
+
+/// A reply that was cut short counts as an error, and its bytes aren't counted.
+#[test]
+fn sums_of_errors_and_greatest_numbers(rt: HostRuntime) -> Result<(), Fail> {
+    let alloc = rt.alloc();
+    let mut served = Vec::new(alloc);
+    for reply in [
+        Reply::Eio(4_096),
+        Reply::Zeroed(8_192),
+        Reply::Zeroed(4_294_967_295),
+    ] {
+        let placed = Placed {
+            stream: 6,
+            index: 0,
+            reply,
+        };
+        served.push(placed)?;
+    }
+    let sums = sums_of(4_096, 65_535, 4_294_967_295, served.as_slice()).expect(&rt, "few replies");
+    let mut sink = MemSink::build(alloc, 1_000, &[])?;
+    assert_eq!(rt; print_gen(&mut sink, &sums), Ok(()));
+    assert_eq!(rt;
+        sink.bytes(),
+        b"gen 4096 65535\nbegun 8 moved 4294967295\nbytes 0 0 4294975487\nend 4096 1\n".as_slice()
+    );
+    Ok(())
+}
+
+/// The sink has room for 20 bytes, so that it has a front of the text.
+#[test]
+fn a_sink_that_is_full(rt: HostRuntime) -> Result<(), Fail> {
+    let alloc = rt.alloc();
+    let served = replies(alloc)?;
+    let sums = sums_of(8, 1, 0, served.as_slice()).expect(&rt, "few replies");
+    let mut sink = MemSink::build(alloc, 20, &[])?;
+    assert_eq!(rt; print_gen(&mut sink, &sums), Err(WriteFault));
+    assert!(rt; PRINTED.as_bytes().starts_with(sink.bytes()));
     Ok(())
 }
