@@ -1,0 +1,13 @@
+-- What the digits so far stand for.
+use Rattle.std.proofs.Common.{◌≡◌, ◌^◌, ◌<◌, true, take}
+use Rattle.std.specs.Char.{is_ascii_digit}
+use Rattle.std.specs.List.{list_all}
+use Rattle.aio_script.specs.Text.{value_of}
+use Rattle.program_words.proofs.numbers.read_digits.Given as goal
+
+abbrev pub invariant-loop-digit : goal.invariant-loop-digit
+invariant-loop-digit l = record {
+  digits : list_all is_ascii_digit (take l.digit-index l.text) ≡ true;
+  value : l.value ≡ value_of (take l.digit-index l.text);
+  small : l.value < 10 ^ l.digit-index;
+}

@@ -1,0 +1,2 @@
+pub mod AnyDevices
+pub mod FileState
