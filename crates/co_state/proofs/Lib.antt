@@ -1,3 +1,3 @@
 pub mod Held
 pub mod Standing
-pub mod Tables
+pub mod Trees
