@@ -1,8 +1,8 @@
 -- A digital search tree, after an entry is put in or taken out.
-use Rattle.std.proofs.Common.{◌≡◌, ◌≢◌, ◌⊎◌, inl, inr, ℕ, ◌+◌, ◌/◌, Bool, true, false, ◌||◌, cond, List, [], ◌∷◌, length, ◌++◌, Option, Some, None, is_none, IsSome, refl, subst, sym, ap, ◌∙◌, arith, ne_eqb, eq-eqb, eqb, length-append}
+use Rattle.std.proofs.Common.{◌<◌, ◌≡◌, ◌≢◌, ◌⊎◌, inl, inr, ℕ, ◌+◌, ◌/◌, Bool, true, false, ◌||◌, cond, List, [], ◌∷◌, length, ◌++◌, Option, Some, None, is_none, IsSome, refl, subst, sym, ap, ◌∙◌, arith, ne_eqb, eq-eqb, eqb, length-append}
 use Rattle.std.proofs.lemmas.Bool.{cases_eq, cases_Bool, eqb-true, both_ways}
 use Rattle.co_state.specs.declared.tree.Entry.{Entry}
-use Rattle.co_state.specs.Lookup.{Shape, Bare, At, turns_zero, sought, inserted, root_of, popped, removed, is_in, size_of, AllTurn, IsFork, IsSorted, key_in, ids_in, is_among, AreOnce, AreListed}
+use Rattle.co_state.specs.Lookup.{Shape, Bare, At, turns_zero, sought, inserted, root_of, popped, removed, is_in, size_of, AllTurn, AreBelow, IsFork, IsSorted, key_in, ids_in, is_among, AreOnce, AreListed}
 
 or_parts : (a b : Bool) → (a || b) ≡ false → (a ≡ false) × (b ≡ false)
 or_parts true b e = absurd (cc e)
@@ -15,10 +15,10 @@ or_cases : (a b : Bool) → (a || b) ≡ true → (a ≡ true) ⊎ (b ≡ true)
 or_cases true b e = inl refl
 or_cases false b e = inr e
 
-or_first : (a b : Bool) → a ≡ true → (a || b) ≡ true
+pub or_first : (a b : Bool) → a ≡ true → (a || b) ≡ true
 or_first a b p = rw p refl
 
-or_second : (a b : Bool) → b ≡ true → (a || b) ≡ true
+pub or_second : (a b : Bool) → b ≡ true → (a || b) ≡ true
 or_second true b p = refl
 or_second false b p = p
 
@@ -86,7 +86,7 @@ without_it b c P cases not none = elim (cases_Bool b) [
   | inr away ↦ away
 ]
 
-differ_by : (a b : ℕ) → eqb a b ≡ false → a ≢ b
+pub differ_by : (a b : ℕ) → eqb a b ≡ false → a ≢ b
 differ_by a b e same = both_ways (eqb a b) e (eq-eqb a b same)
 
 pub insert_sorted : (at : ℕ → ℕ) (t : Shape) (new : Entry) → IsSorted at t → is_in new.id t ≡ false → IsSorted at (inserted t new (at new.id))
@@ -146,6 +146,12 @@ insert_own (At e z o) new rest none =
       ]
     ]
 
+pub insert_below : (t : Shape) (new : Entry) (rest : ℕ) → AreBelow t → new.id < 4294967296 → AreBelow (inserted t new rest)
+insert_below t new rest below fits q there = elim (inserted_is_in t new rest q there) [
+  | inl is ↦ subst (λ n. n < 4294967296) is fits
+  | inr was ↦ below q was
+]
+
 pub insert_size : (t : Shape) (new : Entry) (rest : ℕ) → size_of (inserted t new rest) ≡ size_of t + 1
 insert_size Bare new rest = refl
 insert_size (At e z o) new rest =
@@ -192,7 +198,7 @@ false_true e = absurd (cc e)
 unlike : (a b : ℕ) (t : Shape) → is_in a t ≡ false → is_in b t ≡ true → eqb a b ≡ false
 unlike a b t none there = ne_eqb a b (λ is. absurd (cc (none, ap (λ n. is_in n t) is, there)))
 
-root_is_in : (e : Entry) (z o : Shape) → is_in e.id (At e z o) ≡ true
+pub root_is_in : (e : Entry) (z o : Shape) → is_in e.id (At e z o) ≡ true
 root_is_in e z o = or_first (eqb e.id e.id) (is_in e.id z || is_in e.id o) (same_yes e.id)
 
 root_key : (e : Entry) (z o : Shape) (q rest : ℕ) → eqb e.id q ≡ true → sought (At e z o) q rest ≡ Some e.key
@@ -392,6 +398,9 @@ removes at (At e z o) id sorted some =
 
 pub remove_sorted : (t : Shape) (id : ℕ) → IsSorted (λ q. q) t → IsSome (key_in t id) → IsSorted (λ q. q) (removed t id id)
 remove_sorted t id sorted some = (removes (λ q. q) t id sorted some).sorted
+
+pub remove_less : (t : Shape) (id : ℕ) → IsSorted (λ q. q) t → IsSome (key_in t id) → (q : ℕ) → is_in q (removed t id id) ≡ true → is_in q t ≡ true
+remove_less t id sorted some = (removes (λ q. q) t id sorted some).less
 
 pub remove_size : (t : Shape) (id : ℕ) → IsSorted (λ q. q) t → IsSome (key_in t id) → size_of (removed t id id) + 1 ≡ size_of t
 remove_size t id sorted some = (removes (λ q. q) t id sorted some).size

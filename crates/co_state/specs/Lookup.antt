@@ -1,5 +1,5 @@
 -- Under which key each coroutine lies: a digital search tree of entries, each a number with its key.
-use Rattle.std.specs.Prelude.{◌≡◌, ℕ, ◌+◌, ◌/◌, ◌%◌, Bool, true, false, ◌||◌, List, [], ◌∷◌, ◌++◌, nat_eq, Option, Some, None, IsSome, if◌then◌else◌}
+use Rattle.std.specs.Prelude.{◌≡◌, ℕ, ◌+◌, ◌/◌, ◌%◌, ◌<◌, max, Bool, true, false, ◌||◌, List, [], ◌∷◌, ◌++◌, nat_eq, Option, Some, None, IsSome, if◌then◌else◌}
 use Rattle.co_state.specs.declared.tree.Entry.{Entry}
 use Rattle.co_state.specs.declared.tree.Tree.{Tree}
 use Rattle.co_state.specs.declared.tree.Tree.TheVariants.{Empty, Fork'}
@@ -56,6 +56,15 @@ is_in q (At entry zero one) = nat_eq entry.id q || (is_in q zero || is_in q one)
 abbrev pub size_of : Shape → ℕ
 size_of Bare = 0
 size_of (At entry zero one) = size_of zero + size_of one + 1
+
+-- how many nodes the longest path has
+abbrev pub depth_of : Shape → ℕ
+depth_of Bare = 0
+depth_of (At entry zero one) = max (depth_of zero) (depth_of one) + 1
+
+-- each number has 32 bits
+abbrev pub AreBelow : Shape → Type 0
+AreBelow tree = (q : ℕ) → is_in q tree ≡ true → q < 4294967296
 
 -- all numbers there have this for their next bit; at gives a number's bits that aren't used up yet
 abbrev pub AllTurn : (ℕ → ℕ) → Bool → Shape → Type 0

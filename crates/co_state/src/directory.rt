@@ -1,6 +1,6 @@
 //! Under which key each coroutine lies, by its number: a tree, and boxes that aren't in it now.
 ghost use Rattle.std.specs.Prelude.{◌≡◌, ℕ, ◌+◌, ◌<◌, ◌≤◌, [], Some, None, IsSome, length, IfOk, nat_eq, if◌then◌else◌};
-ghost use Rattle.co_state.specs.Lookup.{Bare, shape, ids_in, key_in, AreListed};
+ghost use Rattle.co_state.specs.Lookup.{Bare, depth_of, shape, ids_in, key_in, AreListed};
 
 use crate::tree::{Entry, Node, Tree, insert, key_of, remove};
 use std::alloc::{AllocError, Global};
@@ -26,11 +26,11 @@ impl Model for Directory {
 
     ghost coded = { Prim.hlevel (codes, e.the_row.coded) };
 
-    ghost use Rattle.co_state.specs.Lookup.{IsSorted, shape, size_of};
+    ghost use Rattle.co_state.specs.Lookup.{IsSorted, AreBelow, shape, size_of};
 
     ghost view = { λ d. record { tree = d.tree; room = d.count + length d.spares.items } };
 
-    ghost invariant = { λ d. IsSorted (λ q. q) (shape d.tree) × (d.count ≡ size_of (shape d.tree)) × (d.count + length d.spares.items ≤ vec_capacity d.spares) };
+    ghost invariant = { λ d. IsSorted (λ q. q) (shape d.tree) × (d.count ≡ size_of (shape d.tree)) × (d.count + length d.spares.items ≤ vec_capacity d.spares) × AreBelow (shape d.tree) };
 }
 
 impl Directory {
@@ -60,7 +60,8 @@ impl Directory {
 
     /// The key of a number.
     pub(crate) fn key(&self, id: u32) -> Option<usize>
-        ensures { result ≡ key_in (shape self.now.tree) id }
+        ensures key { result ≡ key_in (shape self.now.tree) id }
+        ensures shallow { depth_of (shape self.now.tree) ≤ 33 }
     {
         key_of(&self.tree, id, id)
     }

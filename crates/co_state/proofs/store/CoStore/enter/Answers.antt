@@ -10,13 +10,13 @@ use Rattle.co_state.proofs.store.CoStore.enter.Goals as goal
 
 pub returns-in_default : goal.returns-in_default
 returns-in_default g c =
-    let none = ap (λ s. map.get s.held c.args.id) (sym c.self.view_is) ∙ held_absent c.self.inside.directory c.self.inside.slots c.args.id (sym c.key.ensures ∙ c.in_default.is) in
+    let none = ap (λ s. map.get s.held c.args.id) (sym c.self.view_is) ∙ held_absent c.self.inside.directory c.self.inside.slots c.args.id (sym c.key.ensures.key ∙ c.in_default.is) in
     at_none _ _ _ none (refl, refl, refl)
 
 pub resume-requires-clause-of : goal.resume-requires-clause-of
 resume-requires-clause-of g c =
     let inside = c.self.inside in
-    let found : key_for inside.directory c.args.id ≡ Some c.in-Some.key = sym c.key.ensures ∙ c.in-Some.is in
+    let found : key_for inside.directory c.args.id ≡ Some c.in-Some.key = sym c.key.ensures.key ∙ c.in-Some.is in
     let there = sym c.in-Some-get_mut.ensures.value in
     let of = c.self.invariant.1 c.args.id c.in-Some-get_mut.slot.now.co (held_present inside.directory inside.slots c.args.id c.in-Some.key c.in-Some-get_mut.slot.now found there) in
     let origin = sym (c.requires.origin ∙ ap (λ s. s.origin) (sym c.self.view_is)) in
@@ -25,7 +25,7 @@ resume-requires-clause-of g c =
 pub invariant_of-self-in-Yield : goal.invariant_of-self-in-Yield
 invariant_of-self-in-Yield g c =
     let inside = c.self.inside in
-    let found : key_for inside.directory c.args.id ≡ Some c.in-Some.key = sym c.key.ensures ∙ c.in-Some.is in
+    let found : key_for inside.directory c.args.id ≡ Some c.in-Some.key = sym c.key.ensures.key ∙ c.in-Some.is in
     let there = sym c.in-Some-get_mut.ensures.value in
     let after = write_in inside.room inside.directory inside.slots c.args.id c.in-Some.key c.in-Some-get_mut.slot.now c.resume.new.self c.self.invariant.0 found there in
     let origin = c.requires.origin ∙ ap (λ s. s.origin) (sym c.self.view_is) in
@@ -35,7 +35,7 @@ invariant_of-self-in-Yield g c =
 pub invariant_of-self-in-Sleep : goal.invariant_of-self-in-Sleep
 invariant_of-self-in-Sleep g c =
     let inside = c.self.inside in
-    let found : key_for inside.directory c.args.id ≡ Some c.in-Some.key = sym c.key.ensures ∙ c.in-Some.is in
+    let found : key_for inside.directory c.args.id ≡ Some c.in-Some.key = sym c.key.ensures.key ∙ c.in-Some.is in
     let there = sym c.in-Some-get_mut.ensures.value in
     let after = write_in inside.room inside.directory inside.slots c.args.id c.in-Some.key c.in-Some-get_mut.slot.now c.resume.new.self c.self.invariant.0 found there in
     let origin = c.requires.origin ∙ ap (λ s. s.origin) (sym c.self.view_is) in
@@ -45,7 +45,7 @@ invariant_of-self-in-Sleep g c =
 pub invariant_of-self : goal.invariant_of-self
 invariant_of-self g c =
     let inside = c.self.inside in
-    let found : key_for inside.directory c.args.id ≡ Some c.in-Some.key = sym c.key.ensures ∙ c.in-Some.is in
+    let found : key_for inside.directory c.args.id ≡ Some c.in-Some.key = sym c.key.ensures.key ∙ c.in-Some.is in
     let there = sym c.in-Some-get_mut.ensures.value in
     let after = write_and_take inside.room inside.directory c.remove.new.self inside.slots c.remove-in-Done.new.self c.args.id _ c.in-Some.key c.in-Some-get_mut.slot.now c.resume.new.self c.self.invariant.0 found there refl c.remove-in-Done.ensures.updates c.remove-in-Done.ensures.len c.remove-in-Done.ensures.capacity c.remove.ensures.keys c.remove.ensures.len c.remove.ensures.room in
     (after.kept, subst (λ m. AllOf g.C.Origin.is_of m inside.origin.value) (sym after.is) (all_of-remove g.C.Origin.is_of _ _ c.args.id c.self.invariant.1))
@@ -53,7 +53,7 @@ invariant_of-self g c =
 pub invariant_of-self-in-Move : goal.invariant_of-self-in-Move
 invariant_of-self-in-Move g c =
     let inside = c.self.inside in
-    let found : key_for inside.directory c.args.id ≡ Some c.in-Some.key = sym c.key.ensures ∙ c.in-Some.is in
+    let found : key_for inside.directory c.args.id ≡ Some c.in-Some.key = sym c.key.ensures.key ∙ c.in-Some.is in
     let there = sym c.in-Some-get_mut.ensures.value in
     let after = write_and_take inside.room inside.directory c.remove-in-Move.new.self inside.slots c.remove-in-Move-2.new.self c.args.id _ c.in-Some.key c.in-Some-get_mut.slot.now c.resume.new.self c.self.invariant.0 found there refl c.remove-in-Move-2.ensures.updates c.remove-in-Move-2.ensures.len c.remove-in-Move-2.ensures.capacity c.remove-in-Move.ensures.keys c.remove-in-Move.ensures.len c.remove-in-Move.ensures.room in
     (after.kept, subst (λ m. AllOf g.C.Origin.is_of m inside.origin.value) (sym after.is) (all_of-remove g.C.Origin.is_of _ _ c.args.id c.self.invariant.1))
@@ -61,7 +61,7 @@ invariant_of-self-in-Move g c =
 pub returns-in-Yield : goal.returns-in-Yield
 returns-in-Yield g c =
     let inside = c.self.inside in
-    let found : key_for inside.directory c.args.id ≡ Some c.in-Some.key = sym c.key.ensures ∙ c.in-Some.is in
+    let found : key_for inside.directory c.args.id ≡ Some c.in-Some.key = sym c.key.ensures.key ∙ c.in-Some.is in
     let there = sym c.in-Some-get_mut.ensures.value in
     let after = write_in inside.room inside.directory inside.slots c.args.id c.in-Some.key c.in-Some-get_mut.slot.now c.resume.new.self c.self.invariant.0 found there in
     let is = ap (λ s. map.get s.held c.args.id) (sym c.self.view_is) ∙ held_present inside.directory inside.slots c.args.id c.in-Some.key c.in-Some-get_mut.slot.now found there in
@@ -77,7 +77,7 @@ returns-in-Yield g c =
 pub returns-in-Sleep : goal.returns-in-Sleep
 returns-in-Sleep g c =
     let inside = c.self.inside in
-    let found : key_for inside.directory c.args.id ≡ Some c.in-Some.key = sym c.key.ensures ∙ c.in-Some.is in
+    let found : key_for inside.directory c.args.id ≡ Some c.in-Some.key = sym c.key.ensures.key ∙ c.in-Some.is in
     let there = sym c.in-Some-get_mut.ensures.value in
     let after = write_in inside.room inside.directory inside.slots c.args.id c.in-Some.key c.in-Some-get_mut.slot.now c.resume.new.self c.self.invariant.0 found there in
     let is = ap (λ s. map.get s.held c.args.id) (sym c.self.view_is) ∙ held_present inside.directory inside.slots c.args.id c.in-Some.key c.in-Some-get_mut.slot.now found there in
@@ -93,7 +93,7 @@ returns-in-Sleep g c =
 pub returns-in-Done : goal.returns-in-Done
 returns-in-Done g c =
     let inside = c.self.inside in
-    let found : key_for inside.directory c.args.id ≡ Some c.in-Some.key = sym c.key.ensures ∙ c.in-Some.is in
+    let found : key_for inside.directory c.args.id ≡ Some c.in-Some.key = sym c.key.ensures.key ∙ c.in-Some.is in
     let there = sym c.in-Some-get_mut.ensures.value in
     let after = write_and_take inside.room inside.directory c.remove.new.self inside.slots c.remove-in-Done.new.self c.args.id _ c.in-Some.key c.in-Some-get_mut.slot.now c.resume.new.self c.self.invariant.0 found there refl c.remove-in-Done.ensures.updates c.remove-in-Done.ensures.len c.remove-in-Done.ensures.capacity c.remove.ensures.keys c.remove.ensures.len c.remove.ensures.room in
     let is = ap (λ s. map.get s.held c.args.id) (sym c.self.view_is) ∙ held_present inside.directory inside.slots c.args.id c.in-Some.key c.in-Some-get_mut.slot.now found there in
@@ -109,7 +109,7 @@ returns-in-Done g c =
 pub returns-in-Move : goal.returns-in-Move
 returns-in-Move g c =
     let inside = c.self.inside in
-    let found : key_for inside.directory c.args.id ≡ Some c.in-Some.key = sym c.key.ensures ∙ c.in-Some.is in
+    let found : key_for inside.directory c.args.id ≡ Some c.in-Some.key = sym c.key.ensures.key ∙ c.in-Some.is in
     let there = sym c.in-Some-get_mut.ensures.value in
     let after = write_and_take inside.room inside.directory c.remove-in-Move.new.self inside.slots c.remove-in-Move-2.new.self c.args.id _ c.in-Some.key c.in-Some-get_mut.slot.now c.resume.new.self c.self.invariant.0 found there refl c.remove-in-Move-2.ensures.updates c.remove-in-Move-2.ensures.len c.remove-in-Move-2.ensures.capacity c.remove-in-Move.ensures.keys c.remove-in-Move.ensures.len c.remove-in-Move.ensures.room in
     let is = ap (λ s. map.get s.held c.args.id) (sym c.self.view_is) ∙ held_present inside.directory inside.slots c.args.id c.in-Some.key c.in-Some-get_mut.slot.now found there in

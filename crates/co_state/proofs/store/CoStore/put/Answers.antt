@@ -25,13 +25,13 @@ pub returns-clause-refused : goal.returns-clause-refused
 returns-clause-refused g c =
     let inside = c.self.inside in
     let free : length (ids_of inside.directory) < inside.room = omega (arith, c.if-len-self.false, c.len.ensures.len) in
-    not_refused inside.room inside.directory inside.slots c.args.id c.self.invariant.0 c.len.ensures.listed (sym c.key.ensures ∙ none_of c.key.result (sym c.is_some.ensures ∙ c.if-is_some.false)) free
+    not_refused inside.room inside.directory inside.slots c.args.id c.self.invariant.0 c.len.ensures.listed (sym c.key.ensures.key ∙ none_of c.key.result (sym c.is_some.ensures ∙ c.if-is_some.false)) free
     ∙ ap (λ s. map.contains_key s.held c.args.id || nat_le s.room (map.len s.held)) c.self.view_is
 
 pub returns-then-is_some-clause-refused : goal.returns-then-is_some-clause-refused
 returns-then-is_some-clause-refused g c =
     let inside = c.self.inside in
-    refused_present inside.room inside.directory inside.slots c.args.id c.self.invariant.0 (subst IsSome c.key.ensures (sym c.is_some.ensures ∙ c.if-is_some.true))
+    refused_present inside.room inside.directory inside.slots c.args.id c.self.invariant.0 (subst IsSome c.key.ensures.key (sym c.is_some.ensures ∙ c.if-is_some.true))
     ∙ ap (λ s. map.contains_key s.held c.args.id || nat_le s.room (map.len s.held)) c.self.view_is
 
 pub returns-then-len-self-clause-refused : goal.returns-then-len-self-clause-refused
