@@ -63,7 +63,7 @@ impl Directory {
         ensures key { result ≡ key_in (shape self.now.tree) id }
         ensures shallow { depth_of (shape self.now.tree) ≤ 33 }
     {
-        key_of(&self.tree, id, id)
+        key_of(&self.tree, id)
     }
 
     pub(crate) fn insert(&mut self, id: u32, key: usize)

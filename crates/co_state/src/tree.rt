@@ -43,22 +43,20 @@ impl Node {
     }
 }
 
-/// The key of a number, of which `rest` are the bits not used up yet.
-pub(crate) fn key_of(tree: &Tree, id: u32, rest: u32) -> Option<usize>
-    ensures { result ≡ sought (shape tree.now) id rest }
+/// The key of a number.
+pub(crate) fn key_of(tree: &Tree, id: u32) -> Option<usize>
+    ensures { result ≡ sought (shape tree.now) id id }
 {
-    match tree {
-        Tree::Empty => None,
-        Tree::Fork(node) => {
-            if node.entry.id == id {
-                Some(node.entry.key)
-            } else if rest % 2 == 0 {
-                key_of(&node.zero, id, rest / 2)
-            } else {
-                key_of(&node.one, id, rest / 2)
-            }
+    let mut below = tree;
+    let mut rest = id;
+    while let Tree::Fork(node) = below {
+        if node.entry.id == id {
+            return Some(node.entry.key);
         }
+        below = if rest % 2 == 0 { &node.zero } else { &node.one };
+        rest /= 2;
     }
+    None
 }
 
 /// Puts an entry at the end of its number's path, in the box of a spare node.
