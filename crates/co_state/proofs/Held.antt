@@ -1,15 +1,15 @@
 -- The coroutines by number, seen as a map, after a slot is written, filled or emptied.
-use Rattle.std.proofs.Common.{◌≡◌, ◌≢◌, inl, inr, ℕ, zero, suc, ◌+◌, ◌<◌, Bool, true, false, cond, ◌||◌, nat_cmp, List, [], ◌∷◌, length, get_or, Option, Some, None, is_some, IsSome, refl, sym, ap, ◌∙◌, subst, arith, ne_eqb, eq-eqb, eqb}
+use Rattle.std.proofs.Common.{◌≡◌, inl, inr, ℕ, suc, ◌+◌, Bool, true, false, cond, ◌||◌, nat_cmp, List, [], ◌∷◌, length, Option, Some, None, is_some, IsSome, refl, sym, ap, ◌∙◌, subst, arith, ne_eqb, eq-eqb, eqb}
 use Rattle.std.proofs.lemmas.Bool.{cases_eq, cases_Bool, or_left, or_right}
 use Rattle.std.specs.Cmp.{nat_cmp_total, unsigned_tied}
 use Rattle.std.specs.FinMap.{nat_cmp-IsAntisymmetric}
 use Rattle.std.specs.FinMap as map
 use Rattle.slab.specs.Slab.{Slab}
 use Rattle.co_state.specs.Coroutines.{AllOf}
-use Rattle.co_state.specs.Lookup.{Table, ids_in, key_in, is_among, AreOnce}
+use Rattle.co_state.specs.Lookup.{Table, shape, is_among, AreOnce, AreListed}
 use Rattle.co_state.specs.Kept.{coroutine_of, under, with_this, collected, key_for, ids_of, held_in, AreKept}
 use Rattle.co_state.specs.declared.store.Slot.{Slot}
-use Rattle.co_state.proofs.Tables.{no_key, key_of_one}
+use Rattle.co_state.proofs.Trees.{no_key, key_of_one}
 
 -- maps of numbers
 module _ {C : Type 0} where
@@ -92,7 +92,7 @@ module _ {C : Type 0} where
         | inl among ↦ ap (λ b. cond b (at q) None) among
         | inr none ↦
             ap (λ b. cond b (at q) None) none
-            ∙ sym (ap (under s) (no_key d.places q none))
+            ∙ sym (ap (under s) (no_key (shape d.tree) q none))
       ]
 
   -- as many as there are numbers
@@ -112,9 +112,9 @@ module _ {C : Type 0} where
       let mine : eqb id id ≡ true = eq-eqb id id refl in
       one_more at id ids (at id) (some id (or_left (eqb id id) (is_among id ids) mine)) none later
 
-  pub len-held : (room : ℕ) (d : Table) (s : Slab (Slot C)) → AreKept room d s → AreOnce (ids_of d) → map.len (held_in d s) ≡ length (ids_of d)
-  len-held room d s kept once =
-      len-collected (λ id. under s (key_for d id)) (ids_of d) once (λ q among.
-      let at = key_of_one d.places q among in
+  pub len-held : (room : ℕ) (d : Table) (s : Slab (Slot C)) → AreKept room d s → AreListed (shape d.tree) → map.len (held_in d s) ≡ length (ids_of d)
+  len-held room d s kept listed =
+      len-collected (λ id. under s (key_for d id)) (ids_of d) listed.once (λ q among.
+      let at = key_of_one (shape d.tree) q listed among in
       let there = kept.numbered q at.0 at.1 in
       subst IsSome (sym (ap (under s) at.1 ∙ ap coroutine_of there.1)) refl)

@@ -1,3 +1,4 @@
+pub mod Depth
 pub mod Held
 pub mod Standing
-pub mod Tables
+pub mod Trees

@@ -1,12 +1,12 @@
 -- What the calls on a store leave standing.
-use Rattle.std.proofs.Common.{◌≡◌, ◌≢◌, inl, inr, ℕ, ◌+◌, ◌<◌, ◌≤◌, Bool, true, false, cond, ◌||◌, nat_cmp, nat_le, List, [], ◌∷◌, length, get_or, count_by, Option, Some, None, is_some, IsSome, MatchOption, refl, sym, ap, ◌∙◌, subst, arith, ne_eqb, eq-eqb, eqb, leb, le-leb, leb-true}
+use Rattle.std.proofs.Common.{◌≡◌, ◌≢◌, inl, inr, ℕ, ◌+◌, ◌<◌, ◌≤◌, Bool, true, false, cond, ◌||◌, nat_cmp, nat_le, List, [], length, get_or, count_by, Option, Some, None, is_some, IsSome, MatchOption, refl, sym, ap, ◌∙◌, subst, arith, ne_eqb, eq-eqb, eqb, leb, le-leb, leb-true}
 use Rattle.std.proofs.lemmas.Bool.{cases_eq, cases_Bool}
 use Rattle.std.proofs.lemmas.List.Sums.{sum_by-set}
 use Rattle.std.specs.FinMap as map
 use Rattle.slab.specs.Slab.{Slab, get, slab_len, Updates, with_value}
 use Rattle.slab.proofs.SlabLemmas.{Updates-with_value, ContainsKey-within}
 use Rattle.co_state.specs.Coroutines.{Coroutines}
-use Rattle.co_state.specs.Lookup.{Table, ids_in, key_in, AreOnce}
+use Rattle.co_state.specs.Lookup.{Table, shape, AreListed}
 use Rattle.co_state.specs.Kept.{coroutine_of, under, AreNumbered, collected, key_for, ids_of, held_in, AreKept}
 use Rattle.co_state.specs.declared.store.Slot.{Slot}
 use Rattle.co_state.proofs.Held.{get_inserted, get_removed, same_held, remove-insert, get-held, len-held}
@@ -19,6 +19,10 @@ at_none (Some x) A B e a = absurd (cc)
 pub at_some : {X : Type 0} (o : Option X) (A : Type 0) (B : X → Type 0) (x : X) → o ≡ Some x → B x → MatchOption o A B
 at_some None A B x e b = absurd (cc)
 at_some (Some y) A B x e b = let same : x ≡ y = cc in subst B same b
+
+pub none_of : {X : Type 0} (o : Option X) → is_some o ≡ false → o ≡ None
+none_of None e = refl
+none_of (Some x) e = absurd (cc e)
 
 either_true : (a b : Bool) → b ≡ true → true ≡ (a || b)
 either_true true b e = refl
@@ -102,8 +106,8 @@ module _ {C : Type 0} where
   no_key : (o : Option ℕ) (s : Slab (Slot C)) (F : ℕ → Option ℕ) (key : ℕ) → AreNumbered s F → get s key ≡ None → (q : ℕ) → F q ≡ Some key → ⊥
   no_key o s F key numbered vacant q found = let there = numbered q key found in absurd (cc (there.1, vacant))
 
-  pub put_in : (room : ℕ) (d d' : Table) (s s' : Slab (Slot C)) (id key : ℕ) (co : C) → AreKept room d s → length (ids_of d) < room → get s key ≡ None → Updates s s' key (Some (record { id = id; co = co })) → slab_len s' ≡ slab_len s + 1 → s'.capacity ≡ s.capacity → ((q : ℕ) → key_for d' q ≡ cond (eqb q id) (Some key) (key_for d q)) → length (ids_of d') ≡ length (ids_of d) + 1 → d'.homes ≡ d.homes → length d'.places ≡ length d.places → Holds room d' s' (map.insert (held_in d s) id co)
-  put_in room d d' s s' id key co kept free vacant updates filled capacity keys more same_homes same_places =
+  pub put_in : (room : ℕ) (d d' : Table) (s s' : Slab (Slot C)) (id key : ℕ) (co : C) → AreKept room d s → length (ids_of d) < room → get s key ≡ None → Updates s s' key (Some (record { id = id; co = co })) → slab_len s' ≡ slab_len s + 1 → s'.capacity ≡ s.capacity → ((q : ℕ) → key_for d' q ≡ cond (eqb q id) (Some key) (key_for d q)) → length (ids_of d') ≡ length (ids_of d) + 1 → d'.room ≡ d.room → Holds room d' s' (map.insert (held_in d s) id co)
+  put_in room d d' s s' id key co kept free vacant updates filled capacity keys more same_room =
       let mine : eqb id id ≡ true = eq-eqb id id refl in
       let own_key : key_for d' id ≡ Some key = keys id ∙ ap (λ b. cond b (Some key) (key_for d id)) mine in
       let all = changed d d' s s' (Some (record { id = id; co = co })) id key (Some co) kept.numbered updates
@@ -117,7 +121,7 @@ module _ {C : Type 0} where
           filled = omega (arith, kept.filled);
           fits = omega arith;
           slots = omega (arith, kept.slots);
-          places = omega (arith, kept.places, same_homes, same_places);
+          places = omega (arith, kept.places, same_room);
         };
         is = same_held _ _ (λ q. all.held q ∙ sym (get_inserted (held_in d s) id co q));
       }
@@ -156,8 +160,8 @@ module _ {C : Type 0} where
         is = same_held _ _ (λ q. all.held q ∙ sym (get_inserted (held_in d s) id co q));
       }
 
-  pub take_out : (room : ℕ) (d d' : Table) (s s' : Slab (Slot C)) (id key : ℕ) → AreKept room d s → key_for d id ≡ Some key → Updates s s' key None → slab_len s' + 1 ≡ slab_len s → s'.capacity ≡ s.capacity → ((q : ℕ) → key_for d' q ≡ cond (eqb q id) None (key_for d q)) → length (ids_of d') + 1 ≡ length (ids_of d) → d'.homes ≡ d.homes → length d'.places ≡ length d.places → Holds room d' s' (map.remove (held_in d s) id)
-  take_out room d d' s s' id key kept found updates filled capacity keys fewer same_homes same_places =
+  pub take_out : (room : ℕ) (d d' : Table) (s s' : Slab (Slot C)) (id key : ℕ) → AreKept room d s → key_for d id ≡ Some key → Updates s s' key None → slab_len s' + 1 ≡ slab_len s → s'.capacity ≡ s.capacity → ((q : ℕ) → key_for d' q ≡ cond (eqb q id) None (key_for d q)) → length (ids_of d') + 1 ≡ length (ids_of d) → d'.room ≡ d.room → Holds room d' s' (map.remove (held_in d s) id)
+  take_out room d d' s s' id key kept found updates filled capacity keys fewer same_room =
       let mine : eqb id id ≡ true = eq-eqb id id refl in
       let none : key_for d' id ≡ None = keys id ∙ ap (λ b. cond b None (key_for d id)) mine in
       let named = kept.numbered id key found in
@@ -172,16 +176,16 @@ module _ {C : Type 0} where
           filled = omega (arith, kept.filled);
           fits = omega (arith, kept.fits);
           slots = omega (arith, kept.slots);
-          places = omega (arith, kept.places, same_homes, same_places);
+          places = omega (arith, kept.places, same_room);
         };
         is = same_held _ _ (λ q. all.held q ∙ sym (get_removed (held_in d s) id q));
       }
 
-  pub write_and_take : (room : ℕ) (d d' : Table) (s s' : Slab (Slot C)) (id n key : ℕ) (slot : Slot C) (co : C) → AreKept room d s → key_for d id ≡ Some key → get s key ≡ Some slot → n ≡ id → Updates (with_value s key (record { id = slot.id; co = co })) s' key None → slab_len s' + 1 ≡ slab_len (with_value s key (record { id = slot.id; co = co })) → s'.capacity ≡ s.capacity → ((q : ℕ) → key_for d' q ≡ cond (eqb q n) None (key_for d q)) → length (ids_of d') + 1 ≡ length (ids_of d) → d'.homes ≡ d.homes → length d'.places ≡ length d.places → Holds room d' s' (map.remove (held_in d s) id)
-  write_and_take room d d' s s' id n key slot co kept found there named updates filled capacity keys fewer same_homes same_places =
+  pub write_and_take : (room : ℕ) (d d' : Table) (s s' : Slab (Slot C)) (id n key : ℕ) (slot : Slot C) (co : C) → AreKept room d s → key_for d id ≡ Some key → get s key ≡ Some slot → n ≡ id → Updates (with_value s key (record { id = slot.id; co = co })) s' key None → slab_len s' + 1 ≡ slab_len (with_value s key (record { id = slot.id; co = co })) → s'.capacity ≡ s.capacity → ((q : ℕ) → key_for d' q ≡ cond (eqb q n) None (key_for d q)) → length (ids_of d') + 1 ≡ length (ids_of d) → d'.room ≡ d.room → Holds room d' s' (map.remove (held_in d s) id)
+  write_and_take room d d' s s' id n key slot co kept found there named updates filled capacity keys fewer same_room =
       let written = write_in room d s id key slot co kept found there in
       let keys_of = subst (λ (n : ℕ). (q : ℕ) → key_for d' q ≡ cond (eqb q n) None (key_for d q)) named keys in
-      let out = take_out room d d' (with_value s key (record { id = slot.id; co = co })) s' id key written.kept found updates filled capacity keys_of fewer same_homes same_places in
+      let out = take_out room d d' (with_value s key (record { id = slot.id; co = co })) s' id key written.kept found updates filled capacity keys_of fewer same_room in
       record { kept = out.kept; is = out.is ∙ ap (λ m. map.remove m id) written.is ∙ remove-insert (held_in d s) id co }
 
   abbrev co_or : C → Option (Slot C) → C
@@ -208,15 +212,15 @@ module _ {C : Type 0} where
   refused_present room d s id kept some =
       first_true _ _ (ap is_some (get-held d s id) ∙ present_by d s id (key_for d id) kept.numbered refl some)
 
-  pub refused_full : (room : ℕ) (d : Table) (s : Slab (Slot C)) (id : ℕ) → AreKept room d s → AreOnce (ids_of d) → room ≤ length (ids_of d) → true ≡ (map.contains_key (held_in d s) id || nat_le room (map.len (held_in d s)))
+  pub refused_full : (room : ℕ) (d : Table) (s : Slab (Slot C)) (id : ℕ) → AreKept room d s → AreListed (shape d.tree) → room ≤ length (ids_of d) → true ≡ (map.contains_key (held_in d s) id || nat_le room (map.len (held_in d s)))
   refused_full room d s id kept once full =
       either_true _ _ (ap (nat_le room) (len-held room d s kept once) ∙ le-leb room (length (ids_of d)) full)
 
-  pub not_refused : (room : ℕ) (d : Table) (s : Slab (Slot C)) (id : ℕ) → AreKept room d s → AreOnce (ids_of d) → key_for d id ≡ None → length (ids_of d) < room → false ≡ (map.contains_key (held_in d s) id || nat_le room (map.len (held_in d s)))
+  pub not_refused : (room : ℕ) (d : Table) (s : Slab (Slot C)) (id : ℕ) → AreKept room d s → AreListed (shape d.tree) → key_for d id ≡ None → length (ids_of d) < room → false ≡ (map.contains_key (held_in d s) id || nat_le room (map.len (held_in d s)))
   not_refused room d s id kept once none free =
       neither _ _ (ap is_some (held_absent d s id none)) (ap (nat_le room) (len-held room d s kept once) ∙ leb_false room (length (ids_of d)) free)
 
-  pub starts : (room : ℕ) (d : Table) (s : Slab (Slot C)) → ((q : ℕ) → key_for d q ≡ None) → ids_of d ≡ [] → s.slots ≡ [] → room ≤ s.capacity → room + d.homes ≤ length d.places → Holds room d s map.empty
+  pub starts : (room : ℕ) (d : Table) (s : Slab (Slot C)) → ((q : ℕ) → key_for d q ≡ None) → ids_of d ≡ [] → s.slots ≡ [] → room ≤ s.capacity → d.room ≡ room → Holds room d s map.empty
   starts room d s keyless none empty slots places =
       record {
         kept = record {
@@ -224,7 +228,7 @@ module _ {C : Type 0} where
           filled = ap (count_by is_some) empty ∙ sym (ap (λ (xs : List ℕ). length xs) none);
           fits = omega (arith, ap (λ (xs : List ℕ). length xs) none);
           slots = slots;
-          places = places;
+          places = omega (arith, places);
         };
         is = ap (λ (xs : List ℕ). map.from_entries {R = nat_cmp} (collected (λ id. under s (key_for d id)) xs)) none;
       }

@@ -1,9 +1,9 @@
 -- How the fields of a store keep it.
-use Rattle.std.specs.Prelude.{◌≡◌, ℕ, ◌+◌, ◌≤◌, List, [], ◌∷◌, length, Option, Some, None}
+use Rattle.std.specs.Prelude.{◌≡◌, ℕ, ◌≤◌, List, [], ◌∷◌, length, Option, Some, None}
 use Rattle.std.specs.Ordering.{nat_cmp}
 use Rattle.std.specs.FinMap as map
 use Rattle.slab.specs.Slab.{Slab, get, slab_len}
-use Rattle.co_state.specs.Lookup.{Table, ids_in, key_in}
+use Rattle.co_state.specs.Lookup.{Table, shape, ids_in, key_in}
 use Rattle.co_state.specs.declared.store.Slot.{Slot}
 
 module _ {C : Type 0} where
@@ -30,10 +30,10 @@ module _ {C : Type 0} where
   AreNumbered slab key_of = (id key : ℕ) → key_of id ≡ Some key → (co : C) × (get slab key ≡ Some (record { id = id; co = co }))
 
 abbrev pub key_for : Table → ℕ → Option ℕ
-key_for directory = key_in directory.places
+key_for directory = key_in (shape directory.tree)
 
 abbrev pub ids_of : Table → List ℕ
-ids_of directory = ids_in directory.places
+ids_of directory = ids_in (shape directory.tree)
 
 -- the coroutines by number
 abbrev pub held_in : {C : Type 0} → Table → Slab (Slot C) → map.FinMap nat_cmp C
@@ -44,4 +44,4 @@ pub record AreKept {C : Type 0} (room : ℕ) (directory : Table) (slab : Slab (S
   pub filled : slab_len slab ≡ length (ids_of directory)
   pub fits : length (ids_of directory) ≤ room
   pub slots : room ≤ slab.capacity
-  pub places : room + directory.homes ≤ length directory.places
+  pub places : room ≤ directory.room

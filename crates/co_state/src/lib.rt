@@ -8,6 +8,7 @@ mod co;
 mod cx;
 mod directory;
 mod store;
+mod tree;
 
 pub use aio_model::NoMemory;
 pub use co::{Co, CoStep, Origin};

@@ -85,14 +85,14 @@ impl<C: Origin> CoStore<C> {
         ensures back { IfErr result (λ back. back ≡ co) }
         ensures same { OnErr result (self.new ≡ self.old) }
     {
-        let Err(at) = self.directory.place(id) else {
+        if self.directory.key(id).is_some() {
             return Err(co);
-        };
+        }
         if self.directory.len() >= self.room as usize {
             return Err(co);
         }
         let key = self.slots.insert_reserved(Slot { id, co });
-        self.directory.insert(at, id, key);
+        self.directory.insert(id, key);
         Ok(())
     }
 
@@ -106,22 +106,21 @@ impl<C: Origin> CoStore<C> {
             ((result ≡ Absent) × (self.new ≡ self.old) × (cx.new ≡ cx.old))
             (λ co. Enters C.is_of C.resumes self.old self.new id co cx.new result) }
     {
-        let Ok(at) = self.directory.place(id) else {
+        let Some(key) = self.directory.key(id) else {
             return Entered::Absent;
         };
-        let key = self.directory.key_at(at);
         let Some(slot) = self.slots.get_mut(key) else {
             unreachable!()
         };
         match slot.co.resume(env, cx) {
             CoStep::Done => {
-                self.directory.remove(at);
+                self.directory.remove(id);
                 Entered::Done(self.slots.remove(key).co)
             }
             CoStep::Yield => Entered::Yielded,
             CoStep::Sleep(ns) => Entered::Slept(ns),
             CoStep::Move(home) => {
-                self.directory.remove(at);
+                self.directory.remove(id);
                 Entered::Moving(self.slots.remove(key).co, home)
             }
         }

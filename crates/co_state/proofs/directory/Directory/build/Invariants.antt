@@ -1,6 +1,6 @@
-use Rattle.std.proofs.Common.{◌≡◌, ℕ, length, None}
-use Rattle.co_state.specs.Lookup.{entry_at}
+use Rattle.std.proofs.Common.{◌≡◌, ◌≤◌, length}
+use Rattle.std.specs.Vec.{vec_capacity}
 use Rattle.co_state.proofs.directory.Directory.build.Given as goal
 
 abbrev pub invariant-loop : goal.invariant-loop
-invariant-loop l = (length l.entries.items ≡ l.counter) × ((at : ℕ) → entry_at l.entries.items at ≡ None)
+invariant-loop l = (length l.spares.items ≡ l.counter) × (l.fn.room ≤ vec_capacity l.spares)

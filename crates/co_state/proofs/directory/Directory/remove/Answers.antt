@@ -1,35 +1,27 @@
-use Rattle.std.proofs.Common.{◌≡◌, ◌∙◌, ◌+◌, ℕ, None, true, ap, sym, subst, set, cond, eqb, length, arith}
-use Rattle.co_state.specs.Lookup.{Table, ids_in, key_in, entry_at, id_of, is_taken, Gap}
-use Rattle.co_state.proofs.Tables.{begins_gap, removes, removed_count, removed_key, taken_count, closes_whole}
+use Rattle.std.proofs.Common.{◌∙◌, ◌+◌, IsSome, None, length, cond, eqb, sym, ap, subst, arith}
+use Rattle.co_state.specs.Lookup.{Table, shape, ids_in, key_in, size_of, IsSorted, AreBelow}
+use Rattle.co_state.proofs.Trees.{remove_less, remove_sorted, remove_size, key_removed, length_ids}
 use Rattle.co_state.proofs.directory.Directory.remove.Goals as goal
-
-pub close-requires-clause-gap : goal.close-requires-clause-gap
-close-requires-clause-gap c =
-    let inside = c.self.inside in
-    subst (λ es. Gap inside.homes es es c.args.at (c.args.at + 1)) (sym c.deref_mut.ensures.value)
-    (begins_gap inside.homes inside.entries.items c.args.at c.self.invariant.0 (rw (← c.self.view_is) at c.requires.taken))
-
-pub overflow_sub-self : goal.overflow_sub-self
-overflow_sub-self c =
-    let inside = c.self.inside in
-    omega (arith, c.self.invariant.1, taken_count inside.entries.items c.args.at (rw (← c.self.view_is) at c.requires.taken))
-
-pub returns-clause-keys : goal.returns-clause-keys
-returns-clause-keys c q =
-    let inside = c.self.inside in
-    removed_key inside.entries.items _ inside.homes c.args.at c.self.invariant.0 (rw (← c.self.view_is) at c.requires.taken) (closes_whole inside.homes inside.entries.len c.args.at inside.entries.items c.deref_mut.result.now c.close.new.entries c.deref_mut.ensures.value inside.entries.ok.0 c.close.ensures) q
-    ∙ ap (λ (t : Table). cond (eqb q (id_of (entry_at t.places c.args.at))) None (key_in t.places q)) c.self.view_is
-
-pub returns-clause-len : goal.returns-clause-len
-returns-clause-len c =
-    let inside = c.self.inside in
-    removed_count inside.entries.items _ inside.homes c.args.at c.self.invariant.0 (rw (← c.self.view_is) at c.requires.taken) (closes_whole inside.homes inside.entries.len c.args.at inside.entries.items c.deref_mut.result.now c.close.new.entries c.deref_mut.ensures.value inside.entries.ok.0 c.close.ensures)
-    ∙ ap (λ (t : Table). length (ids_in t.places)) c.self.view_is
 
 pub invariant_of-self : goal.invariant_of-self
 invariant_of-self c =
     let inside = c.self.inside in
-    let taken = rw (← c.self.view_is) at c.requires.taken in (
-      removes inside.entries.items _ inside.homes c.args.at c.self.invariant.0 taken (closes_whole inside.homes inside.entries.len c.args.at inside.entries.items c.deref_mut.result.now c.close.new.entries c.deref_mut.ensures.value inside.entries.ok.0 c.close.ensures),
-      omega (arith, c.self.invariant.1, removed_count inside.entries.items _ inside.homes c.args.at c.self.invariant.0 taken (closes_whole inside.homes inside.entries.len c.args.at inside.entries.items c.deref_mut.result.now c.close.new.entries c.deref_mut.ensures.value inside.entries.ok.0 c.close.ensures)),
+    let some = subst (λ (t : Table). IsSome (key_in (shape t.tree) c.args.id)) (sym c.self.view_is) c.requires.there in
+    let size = remove_size (shape inside.tree) c.args.id c.self.invariant.0 some in (
+      subst (IsSorted (λ q. q)) (sym c.remove.ensures.left) (remove_sorted (shape inside.tree) c.args.id c.self.invariant.0 some),
+      omega (arith, c.self.invariant.1, size, ap size_of c.remove.ensures.left),
+      omega (arith, c.self.invariant.1, c.self.invariant.2, size, inside.spares.ok.0, c.push_reserved.new.self.ok.0, c.push_reserved.ensures.len, c.push_reserved.ensures.capacity),
+      subst AreBelow (sym c.remove.ensures.left) (λ q there. c.self.invariant.3 q (remove_less (shape inside.tree) c.args.id c.self.invariant.0 some q there)),
     )
+
+pub returns-clause-keys : goal.returns-clause-keys
+returns-clause-keys c q =
+    let inside = c.self.inside in
+    let some = subst (λ (t : Table). IsSome (key_in (shape t.tree) c.args.id)) (sym c.self.view_is) c.requires.there in
+    ap (λ t. key_in t q) c.remove.ensures.left ∙ key_removed (shape inside.tree) c.args.id c.self.invariant.0 some q ∙ ap (λ (t : Table). cond (eqb q c.args.id) None (key_in (shape t.tree) q)) c.self.view_is
+
+pub returns-clause-len : goal.returns-clause-len
+returns-clause-len c =
+    let inside = c.self.inside in
+    let some = subst (λ (t : Table). IsSome (key_in (shape t.tree) c.args.id)) (sym c.self.view_is) c.requires.there in
+    ap (λ n. n + 1) (length_ids (shape c.remove.new.tree) ∙ ap size_of c.remove.ensures.left) ∙ remove_size (shape inside.tree) c.args.id c.self.invariant.0 some ∙ sym (length_ids (shape inside.tree)) ∙ ap (λ (t : Table). length (ids_in (shape t.tree))) c.self.view_is

@@ -10,24 +10,24 @@ use Rattle.co_state.proofs.store.CoStore.enter.Goals as goal
 
 pub returns-in_default : goal.returns-in_default
 returns-in_default g c =
-    let none = ap (λ s. map.get s.held c.args.id) (sym c.self.view_is) ∙ held_absent c.self.inside.directory c.self.inside.slots c.args.id c.in_default.ensures.known in
+    let none = ap (λ s. map.get s.held c.args.id) (sym c.self.view_is) ∙ held_absent c.self.inside.directory c.self.inside.slots c.args.id (sym c.key.ensures.key ∙ c.in_default.is) in
     at_none _ _ _ none (refl, refl, refl)
 
 pub resume-requires-clause-of : goal.resume-requires-clause-of
 resume-requires-clause-of g c =
     let inside = c.self.inside in
-    let found : key_for inside.directory c.args.id ≡ Some c.key_at-key.result = ap (key_for inside.directory) (sym c.in-Ok.ensures.place.is) ∙ c.key_at-key.ensures in
-    let there = sym c.in-Some.ensures.value in
-    let of = c.self.invariant.1 c.args.id c.in-Some.slot.now.co (held_present inside.directory inside.slots c.args.id c.key_at-key.result c.in-Some.slot.now found there) in
+    let found : key_for inside.directory c.args.id ≡ Some c.in-Some.key = sym c.key.ensures.key ∙ c.in-Some.is in
+    let there = sym c.in-Some-get_mut.ensures.value in
+    let of = c.self.invariant.1 c.args.id c.in-Some-get_mut.slot.now.co (held_present inside.directory inside.slots c.args.id c.in-Some.key c.in-Some-get_mut.slot.now found there) in
     let origin = sym (c.requires.origin ∙ ap (λ s. s.origin) (sym c.self.view_is)) in
-    subst (g.C.Origin.is_of c.in-Some.slot.now.co) origin of
+    subst (g.C.Origin.is_of c.in-Some-get_mut.slot.now.co) origin of
 
 pub invariant_of-self-in-Yield : goal.invariant_of-self-in-Yield
 invariant_of-self-in-Yield g c =
     let inside = c.self.inside in
-    let found : key_for inside.directory c.args.id ≡ Some c.key_at-key.result = ap (key_for inside.directory) (sym c.in-Ok.ensures.place.is) ∙ c.key_at-key.ensures in
-    let there = sym c.in-Some.ensures.value in
-    let after = write_in inside.room inside.directory inside.slots c.args.id c.key_at-key.result c.in-Some.slot.now c.resume.new.self c.self.invariant.0 found there in
+    let found : key_for inside.directory c.args.id ≡ Some c.in-Some.key = sym c.key.ensures.key ∙ c.in-Some.is in
+    let there = sym c.in-Some-get_mut.ensures.value in
+    let after = write_in inside.room inside.directory inside.slots c.args.id c.in-Some.key c.in-Some-get_mut.slot.now c.resume.new.self c.self.invariant.0 found there in
     let origin = c.requires.origin ∙ ap (λ s. s.origin) (sym c.self.view_is) in
     let of = subst (g.C.Origin.is_of c.resume.new.self) origin c.in-Yield.ensures.of in
     (after.kept, subst (λ m. AllOf g.C.Origin.is_of m inside.origin.value) (sym after.is) (all_of-insert g.C.Origin.is_of _ _ c.args.id c.resume.new.self of c.self.invariant.1))
@@ -35,9 +35,9 @@ invariant_of-self-in-Yield g c =
 pub invariant_of-self-in-Sleep : goal.invariant_of-self-in-Sleep
 invariant_of-self-in-Sleep g c =
     let inside = c.self.inside in
-    let found : key_for inside.directory c.args.id ≡ Some c.key_at-key.result = ap (key_for inside.directory) (sym c.in-Ok.ensures.place.is) ∙ c.key_at-key.ensures in
-    let there = sym c.in-Some.ensures.value in
-    let after = write_in inside.room inside.directory inside.slots c.args.id c.key_at-key.result c.in-Some.slot.now c.resume.new.self c.self.invariant.0 found there in
+    let found : key_for inside.directory c.args.id ≡ Some c.in-Some.key = sym c.key.ensures.key ∙ c.in-Some.is in
+    let there = sym c.in-Some-get_mut.ensures.value in
+    let after = write_in inside.room inside.directory inside.slots c.args.id c.in-Some.key c.in-Some-get_mut.slot.now c.resume.new.self c.self.invariant.0 found there in
     let origin = c.requires.origin ∙ ap (λ s. s.origin) (sym c.self.view_is) in
     let of = subst (g.C.Origin.is_of c.resume.new.self) origin c.in-Sleep.ensures.of in
     (after.kept, subst (λ m. AllOf g.C.Origin.is_of m inside.origin.value) (sym after.is) (all_of-insert g.C.Origin.is_of _ _ c.args.id c.resume.new.self of c.self.invariant.1))
@@ -45,31 +45,31 @@ invariant_of-self-in-Sleep g c =
 pub invariant_of-self : goal.invariant_of-self
 invariant_of-self g c =
     let inside = c.self.inside in
-    let found : key_for inside.directory c.args.id ≡ Some c.key_at-key.result = ap (key_for inside.directory) (sym c.in-Ok.ensures.place.is) ∙ c.key_at-key.ensures in
-    let there = sym c.in-Some.ensures.value in
-    let after = write_and_take inside.room inside.directory c.remove.new.self inside.slots c.remove-in-Done.new.self c.args.id _ c.key_at-key.result c.in-Some.slot.now c.resume.new.self c.self.invariant.0 found there c.in-Ok.ensures.place.is c.remove-in-Done.ensures.updates c.remove-in-Done.ensures.len c.remove-in-Done.ensures.capacity c.remove.ensures.keys c.remove.ensures.len c.remove.ensures.homes c.remove.ensures.sized in
+    let found : key_for inside.directory c.args.id ≡ Some c.in-Some.key = sym c.key.ensures.key ∙ c.in-Some.is in
+    let there = sym c.in-Some-get_mut.ensures.value in
+    let after = write_and_take inside.room inside.directory c.remove.new.self inside.slots c.remove-in-Done.new.self c.args.id _ c.in-Some.key c.in-Some-get_mut.slot.now c.resume.new.self c.self.invariant.0 found there refl c.remove-in-Done.ensures.updates c.remove-in-Done.ensures.len c.remove-in-Done.ensures.capacity c.remove.ensures.keys c.remove.ensures.len c.remove.ensures.room in
     (after.kept, subst (λ m. AllOf g.C.Origin.is_of m inside.origin.value) (sym after.is) (all_of-remove g.C.Origin.is_of _ _ c.args.id c.self.invariant.1))
 
 pub invariant_of-self-in-Move : goal.invariant_of-self-in-Move
 invariant_of-self-in-Move g c =
     let inside = c.self.inside in
-    let found : key_for inside.directory c.args.id ≡ Some c.key_at-key.result = ap (key_for inside.directory) (sym c.in-Ok.ensures.place.is) ∙ c.key_at-key.ensures in
-    let there = sym c.in-Some.ensures.value in
-    let after = write_and_take inside.room inside.directory c.remove-in-Move.new.self inside.slots c.remove-in-Move-2.new.self c.args.id _ c.key_at-key.result c.in-Some.slot.now c.resume.new.self c.self.invariant.0 found there c.in-Ok.ensures.place.is c.remove-in-Move-2.ensures.updates c.remove-in-Move-2.ensures.len c.remove-in-Move-2.ensures.capacity c.remove-in-Move.ensures.keys c.remove-in-Move.ensures.len c.remove-in-Move.ensures.homes c.remove-in-Move.ensures.sized in
+    let found : key_for inside.directory c.args.id ≡ Some c.in-Some.key = sym c.key.ensures.key ∙ c.in-Some.is in
+    let there = sym c.in-Some-get_mut.ensures.value in
+    let after = write_and_take inside.room inside.directory c.remove-in-Move.new.self inside.slots c.remove-in-Move-2.new.self c.args.id _ c.in-Some.key c.in-Some-get_mut.slot.now c.resume.new.self c.self.invariant.0 found there refl c.remove-in-Move-2.ensures.updates c.remove-in-Move-2.ensures.len c.remove-in-Move-2.ensures.capacity c.remove-in-Move.ensures.keys c.remove-in-Move.ensures.len c.remove-in-Move.ensures.room in
     (after.kept, subst (λ m. AllOf g.C.Origin.is_of m inside.origin.value) (sym after.is) (all_of-remove g.C.Origin.is_of _ _ c.args.id c.self.invariant.1))
 
 pub returns-in-Yield : goal.returns-in-Yield
 returns-in-Yield g c =
     let inside = c.self.inside in
-    let found : key_for inside.directory c.args.id ≡ Some c.key_at-key.result = ap (key_for inside.directory) (sym c.in-Ok.ensures.place.is) ∙ c.key_at-key.ensures in
-    let there = sym c.in-Some.ensures.value in
-    let after = write_in inside.room inside.directory inside.slots c.args.id c.key_at-key.result c.in-Some.slot.now c.resume.new.self c.self.invariant.0 found there in
-    let is = ap (λ s. map.get s.held c.args.id) (sym c.self.view_is) ∙ held_present inside.directory inside.slots c.args.id c.key_at-key.result c.in-Some.slot.now found there in
-    at_some _ _ _ c.in-Some.slot.now.co is (record {
+    let found : key_for inside.directory c.args.id ≡ Some c.in-Some.key = sym c.key.ensures.key ∙ c.in-Some.is in
+    let there = sym c.in-Some-get_mut.ensures.value in
+    let after = write_in inside.room inside.directory inside.slots c.args.id c.in-Some.key c.in-Some-get_mut.slot.now c.resume.new.self c.self.invariant.0 found there in
+    let is = ap (λ s. map.get s.held c.args.id) (sym c.self.view_is) ∙ held_present inside.directory inside.slots c.args.id c.in-Some.key c.in-Some-get_mut.slot.now found there in
+    at_some _ _ _ c.in-Some-get_mut.slot.now.co is (record {
       step = step.Yield;
       after = c.resume.new.self;
       of = subst (g.C.Origin.is_of c.resume.new.self) c.requires.origin c.in-Yield.ensures.of;
-      resumed = subst (λ o. g.C.Co.resumes c.in-Some.slot.now.co o c.resume.new.cx step.Yield c.resume.new.self) c.requires.origin c.in-Yield.ensures.resumes;
+      resumed = subst (λ o. g.C.Co.resumes c.in-Some-get_mut.slot.now.co o c.resume.new.cx step.Yield c.resume.new.self) c.requires.origin c.in-Yield.ensures.resumes;
       answers = refl;
       left = seen_change (λ m. map.insert m c.args.id c.resume.new.self) inside.room inside.origin.value _ _ c.args.self.now after.is c.self.view_is;
     })
@@ -77,15 +77,15 @@ returns-in-Yield g c =
 pub returns-in-Sleep : goal.returns-in-Sleep
 returns-in-Sleep g c =
     let inside = c.self.inside in
-    let found : key_for inside.directory c.args.id ≡ Some c.key_at-key.result = ap (key_for inside.directory) (sym c.in-Ok.ensures.place.is) ∙ c.key_at-key.ensures in
-    let there = sym c.in-Some.ensures.value in
-    let after = write_in inside.room inside.directory inside.slots c.args.id c.key_at-key.result c.in-Some.slot.now c.resume.new.self c.self.invariant.0 found there in
-    let is = ap (λ s. map.get s.held c.args.id) (sym c.self.view_is) ∙ held_present inside.directory inside.slots c.args.id c.key_at-key.result c.in-Some.slot.now found there in
-    at_some _ _ _ c.in-Some.slot.now.co is (record {
+    let found : key_for inside.directory c.args.id ≡ Some c.in-Some.key = sym c.key.ensures.key ∙ c.in-Some.is in
+    let there = sym c.in-Some-get_mut.ensures.value in
+    let after = write_in inside.room inside.directory inside.slots c.args.id c.in-Some.key c.in-Some-get_mut.slot.now c.resume.new.self c.self.invariant.0 found there in
+    let is = ap (λ s. map.get s.held c.args.id) (sym c.self.view_is) ∙ held_present inside.directory inside.slots c.args.id c.in-Some.key c.in-Some-get_mut.slot.now found there in
+    at_some _ _ _ c.in-Some-get_mut.slot.now.co is (record {
       step = step.Sleep c.in-Sleep.ns;
       after = c.resume.new.self;
       of = subst (g.C.Origin.is_of c.resume.new.self) c.requires.origin c.in-Sleep.ensures.of;
-      resumed = subst (λ o. g.C.Co.resumes c.in-Some.slot.now.co o c.resume.new.cx (step.Sleep c.in-Sleep.ns) c.resume.new.self) c.requires.origin c.in-Sleep.ensures.resumes;
+      resumed = subst (λ o. g.C.Co.resumes c.in-Some-get_mut.slot.now.co o c.resume.new.cx (step.Sleep c.in-Sleep.ns) c.resume.new.self) c.requires.origin c.in-Sleep.ensures.resumes;
       answers = refl;
       left = seen_change (λ m. map.insert m c.args.id c.resume.new.self) inside.room inside.origin.value _ _ c.args.self.now after.is c.self.view_is;
     })
@@ -93,31 +93,31 @@ returns-in-Sleep g c =
 pub returns-in-Done : goal.returns-in-Done
 returns-in-Done g c =
     let inside = c.self.inside in
-    let found : key_for inside.directory c.args.id ≡ Some c.key_at-key.result = ap (key_for inside.directory) (sym c.in-Ok.ensures.place.is) ∙ c.key_at-key.ensures in
-    let there = sym c.in-Some.ensures.value in
-    let after = write_and_take inside.room inside.directory c.remove.new.self inside.slots c.remove-in-Done.new.self c.args.id _ c.key_at-key.result c.in-Some.slot.now c.resume.new.self c.self.invariant.0 found there c.in-Ok.ensures.place.is c.remove-in-Done.ensures.updates c.remove-in-Done.ensures.len c.remove-in-Done.ensures.capacity c.remove.ensures.keys c.remove.ensures.len c.remove.ensures.homes c.remove.ensures.sized in
-    let is = ap (λ s. map.get s.held c.args.id) (sym c.self.view_is) ∙ held_present inside.directory inside.slots c.args.id c.key_at-key.result c.in-Some.slot.now found there in
-    at_some _ _ _ c.in-Some.slot.now.co is (record {
+    let found : key_for inside.directory c.args.id ≡ Some c.in-Some.key = sym c.key.ensures.key ∙ c.in-Some.is in
+    let there = sym c.in-Some-get_mut.ensures.value in
+    let after = write_and_take inside.room inside.directory c.remove.new.self inside.slots c.remove-in-Done.new.self c.args.id _ c.in-Some.key c.in-Some-get_mut.slot.now c.resume.new.self c.self.invariant.0 found there refl c.remove-in-Done.ensures.updates c.remove-in-Done.ensures.len c.remove-in-Done.ensures.capacity c.remove.ensures.keys c.remove.ensures.len c.remove.ensures.room in
+    let is = ap (λ s. map.get s.held c.args.id) (sym c.self.view_is) ∙ held_present inside.directory inside.slots c.args.id c.in-Some.key c.in-Some-get_mut.slot.now found there in
+    at_some _ _ _ c.in-Some-get_mut.slot.now.co is (record {
       step = step.Done;
       after = c.resume.new.self;
       of = subst (g.C.Origin.is_of c.resume.new.self) c.requires.origin c.in-Done.ensures.of;
-      resumed = subst (λ o. g.C.Co.resumes c.in-Some.slot.now.co o c.resume.new.cx step.Done c.resume.new.self) c.requires.origin c.in-Done.ensures.resumes;
-      answers = ap entered.Done (taken_co inside.slots c.key_at-key.result c.in-Some.slot.now _ c.remove-in-Done.result there c.remove-in-Done.ensures.value);
+      resumed = subst (λ o. g.C.Co.resumes c.in-Some-get_mut.slot.now.co o c.resume.new.cx step.Done c.resume.new.self) c.requires.origin c.in-Done.ensures.resumes;
+      answers = ap entered.Done (taken_co inside.slots c.in-Some.key c.in-Some-get_mut.slot.now _ c.remove-in-Done.result there c.remove-in-Done.ensures.value);
       left = seen_change (λ m. map.remove m c.args.id) inside.room inside.origin.value _ _ c.args.self.now after.is c.self.view_is;
     })
 
 pub returns-in-Move : goal.returns-in-Move
 returns-in-Move g c =
     let inside = c.self.inside in
-    let found : key_for inside.directory c.args.id ≡ Some c.key_at-key.result = ap (key_for inside.directory) (sym c.in-Ok.ensures.place.is) ∙ c.key_at-key.ensures in
-    let there = sym c.in-Some.ensures.value in
-    let after = write_and_take inside.room inside.directory c.remove-in-Move.new.self inside.slots c.remove-in-Move-2.new.self c.args.id _ c.key_at-key.result c.in-Some.slot.now c.resume.new.self c.self.invariant.0 found there c.in-Ok.ensures.place.is c.remove-in-Move-2.ensures.updates c.remove-in-Move-2.ensures.len c.remove-in-Move-2.ensures.capacity c.remove-in-Move.ensures.keys c.remove-in-Move.ensures.len c.remove-in-Move.ensures.homes c.remove-in-Move.ensures.sized in
-    let is = ap (λ s. map.get s.held c.args.id) (sym c.self.view_is) ∙ held_present inside.directory inside.slots c.args.id c.key_at-key.result c.in-Some.slot.now found there in
-    at_some _ _ _ c.in-Some.slot.now.co is (record {
+    let found : key_for inside.directory c.args.id ≡ Some c.in-Some.key = sym c.key.ensures.key ∙ c.in-Some.is in
+    let there = sym c.in-Some-get_mut.ensures.value in
+    let after = write_and_take inside.room inside.directory c.remove-in-Move.new.self inside.slots c.remove-in-Move-2.new.self c.args.id _ c.in-Some.key c.in-Some-get_mut.slot.now c.resume.new.self c.self.invariant.0 found there refl c.remove-in-Move-2.ensures.updates c.remove-in-Move-2.ensures.len c.remove-in-Move-2.ensures.capacity c.remove-in-Move.ensures.keys c.remove-in-Move.ensures.len c.remove-in-Move.ensures.room in
+    let is = ap (λ s. map.get s.held c.args.id) (sym c.self.view_is) ∙ held_present inside.directory inside.slots c.args.id c.in-Some.key c.in-Some-get_mut.slot.now found there in
+    at_some _ _ _ c.in-Some-get_mut.slot.now.co is (record {
       step = step.Move c.in-Move.home;
       after = c.resume.new.self;
       of = subst (g.C.Origin.is_of c.resume.new.self) c.requires.origin c.in-Move.ensures.of;
-      resumed = subst (λ o. g.C.Co.resumes c.in-Some.slot.now.co o c.resume.new.cx (step.Move c.in-Move.home) c.resume.new.self) c.requires.origin c.in-Move.ensures.resumes;
-      answers = ap (λ co. entered.Moving co c.in-Move.home) (taken_co inside.slots c.key_at-key.result c.in-Some.slot.now _ c.remove-in-Move-2.result there c.remove-in-Move-2.ensures.value);
+      resumed = subst (λ o. g.C.Co.resumes c.in-Some-get_mut.slot.now.co o c.resume.new.cx (step.Move c.in-Move.home) c.resume.new.self) c.requires.origin c.in-Move.ensures.resumes;
+      answers = ap (λ co. entered.Moving co c.in-Move.home) (taken_co inside.slots c.in-Some.key c.in-Some-get_mut.slot.now _ c.remove-in-Move-2.result there c.remove-in-Move-2.ensures.value);
       left = seen_change (λ m. map.remove m c.args.id) inside.room inside.origin.value _ _ c.args.self.now after.is c.self.view_is;
     })
