@@ -1,0 +1,4 @@
+pub mod Turns
+pub mod ImageCalls
+pub mod Own
+pub mod Steps
