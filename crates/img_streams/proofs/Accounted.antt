@@ -1,10 +1,9 @@
 -- What each call on an image makes of the calling stream's note and account.
-use Rattle.std.proofs.Common.{◌≡◌, ℕ, ◌+◌, ◌<◌, ◌≤◌, Option, Some, None, IfSome, List, [], ◌∷◌, ◌++◌, set, length, slice_index, refl, sym, ap, ◌∙◌, subst, arith, length-append}
+use Rattle.std.proofs.Common.{◌≡◌, ℕ, ◌+◌, ◌<◌, ◌≤◌, Option, Some, None, IfSome, List, [], ◌∷◌, ◌++◌, set, length, refl, sym, ap, ◌∙◌, subst, arith, length-append}
 use Rattle.std.proofs.lemmas.List.{length-set}
 use Rattle.aio_model.specs.declared.requests.Request.{Request}
 use Rattle.aio_model.specs.RwTable.{wake_one}
-use Rattle.aio_model.specs.Asked.{Asked, request_named}
-use Rattle.aio_model.specs.Serving.{length_of, end_of}
+use Rattle.aio_model.specs.Serving.{end_of}
 use Rattle.co_state.specs.declared.cx.CoId.{CoId}
 use Rattle.img_requests.specs.declared.present.Present.{Present}
 use Rattle.img_requests.specs.declared.answers.Piece.{Piece}
@@ -17,7 +16,6 @@ use Rattle.img_shared.specs.declared.phases.Phase.{Phase}
 use Rattle.img_shared.specs.declared.phases.Phase.TheVariants.{Idle, Waiting, Active, Retired}
 use Rattle.img_shared.specs.Calls.{Enters, IsServing, Serves, Leaves}
 use Rattle.img_shared.specs.Images.{ImageState}
-use Rattle.img_shared.specs.Journals.{entries_of}
 use Rattle.img_shared.specs.Notes.{Note, Placement, entries_from, told_in, note}
 use Rattle.img_shared.specs.Phases.{phase_at, done_in, IsWaiting, CanLeave, taken_up}
 use Rattle.img_shared.proofs.Sounds.{phase_set}

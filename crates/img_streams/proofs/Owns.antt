@@ -1,12 +1,10 @@
 -- A stream's own note over a turn at the lock.
-use Rattle.std.proofs.Common.{◌≡◌, ◌≢◌, ℕ, ◌<◌, ◌≤◌, Bool, true, false, Option, Some, None, IfSome, List, [], ◌∷◌, ◌++◌, set, length, slice_index, refl, sym, ap, ◌∙◌, subst, arith, length-append}
-use Rattle.std.proofs.lemmas.List.{length-set}
+use Rattle.std.proofs.Common.{◌≡◌, ℕ, ◌<◌, Bool, Option, List, length, slice_index, sym, ap, ◌∙◌, arith}
 use Rattle.aio_model.specs.LockHistory.{value_of}
 use Rattle.co_state.specs.declared.cx.CoId.{CoId}
 use Rattle.co_mutex.specs.declared.lock.CoMutex.{CoMutex}
 use Rattle.co_mutex.specs.declared.lock.Pass.{Pass}
 use Rattle.co_mutex.specs.Calls.{word_of, Unlocks}
-use Rattle.co_mutex.specs.Known.{Known}
 use Rattle.co_mutex.specs.Passes.{IsPassOf, built_of, known}
 use Rattle.img_shared.specs.Images.{ImageState}
 use Rattle.img_shared.specs.Journals.{entries_of}

@@ -3,9 +3,9 @@ use Rattle.std.proofs.Common.{◌≡◌, ◌≢◌, ℕ, Bool, true, false, Opti
 use Rattle.aio_model.specs.LockHistory.{LockEntry, Got, Wait, Grant, Release, value_of}
 use Rattle.aio_model.specs.LockNotes.{SameNotes}
 use Rattle.co_state.specs.declared.cx.CoId.{CoId}
-use Rattle.co_mutex.specs.Places.{AtRest, Queued, Holds}
+use Rattle.co_mutex.specs.Places.{AtRest, Queued}
 use Rattle.co_mutex.specs.Known.{Known}
-use Rattle.co_mutex.specs.Calls.{Comes, HoldsNow, Unlocks, Queues}
+use Rattle.co_mutex.specs.Calls.{Comes, Unlocks}
 use Rattle.img_streams.specs.Turns.{KeepsLock, GoesOnWaiting, Takes, HoldsOnce}
 
 module _ {T : Type 0} (built : T) where

@@ -1,5 +1,5 @@
 -- What one turn at the lock does on the image: it notes where the stream is, and makes one call.
-use Rattle.std.specs.Prelude.{◌≡◌, ℕ, set, List, slice_index, Option, option_map}
+use Rattle.std.specs.Prelude.{◌≡◌, ℕ, set, slice_index, Option, option_map}
 use Rattle.aio_model.specs.Holds.{Has}
 use Rattle.aio_model.specs.Readers.{hold_of}
 use Rattle.aio_model.specs.RwTable.{wake_one, unlocked}

@@ -2,7 +2,6 @@
 use Rattle.std.specs.Prelude.{◌≡◌, ℕ, Bool, true, false, Option, None, List, [], ◌∷◌}
 use Rattle.aio_model.specs.LockHistory.{LockEntry, Got, Wait, Grant, Release}
 use Rattle.co_state.specs.declared.cx.CoId.{CoId}
-use Rattle.co_mutex.specs.declared.lock.Guard.{Guard}
 use Rattle.co_mutex.specs.declared.answers.Lock.{Lock}
 use Rattle.co_mutex.specs.declared.answers.Lock.TheVariants.{Held, Queued as Waits}
 use Rattle.co_mutex.specs.LockWords.{grant_at}

@@ -2,10 +2,20 @@
 #![tactic(auto)]
 
 mod answers;
+mod buffers;
+mod gate;
 mod hold;
 mod image_calls;
+mod lines;
+mod progress;
 mod rule;
+mod states;
+mod stream;
 pub mod turns;
+mod wakes;
 
 pub use answers::{Grant, Visit};
+pub use gate::Passed;
+pub use progress::At;
 pub use rule::{ImageRule, StreamNote};
+pub use stream::{ServeEnv, Stream, StreamCo};

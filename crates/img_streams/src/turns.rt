@@ -10,6 +10,7 @@ ghost use Rattle.img_streams.specs.Own.{own_note, IsOf, Turned, OnDid, OnWaits};
 ghost use Rattle.img_streams.specs.Steps.{IsEntered, IsTakenUp, IsServed, HasLeft, HasRetired};
 
 use crate::answers::{Grant, Visit};
+use crate::gate::Passed;
 use crate::hold::reach;
 use crate::image_calls;
 use crate::rule::ImageRule;
@@ -20,15 +21,17 @@ use co_state::CoId;
 use img_shared::{Enter, Piece};
 use std::sync::Wait;
 
-/// Enters the stream's next request.
+/// Enters the stream's next request, for which it has passed the gate.
 pub fn enter<D: Device, R: Wait>(
     rt: &R,
     lock: &CoMutex<ImageRule<D>>,
     pass: &mut Pass<ImageRule<D>>,
     queued: bool,
     co: CoId,
+    passed: Passed,
     request: &Request,
 ) -> Visit<Enter>
+    requires passed { passed ≡ record { stream = co.co; index = length (own_note D.bytes lock.now pass.old).entries } }
     requires of { IsOf D.bytes lock.now pass.old co.co queued }
     requires idle { (own_note D.bytes lock.now pass.old).phase ≡ Idle }
     requires due { length (own_note D.bytes lock.now pass.old).entries < (own_note D.bytes lock.now pass.old).requests }
@@ -36,6 +39,7 @@ pub fn enter<D: Device, R: Wait>(
     ensures turn { Turned D.bytes lock.now (λ answer found left. Enters (come_to co found) co.co request.now answer left) co queued pass.old result pass.new }
     ensures entered { OnDid result (λ answer. IsEntered D.bytes co.co request.now (own_note D.bytes lock.now pass.old) answer (own_note D.bytes lock.now pass.new)) }
 {
+    let _ = passed;
     match reach(rt, lock, pass, queued, co) {
         Lock::Queued(named) => Visit::Waits(named),
         Lock::Held(mut guard) => {

@@ -1,4 +1,4 @@
-use Rattle.std.proofs.Common.{◌≡◌, ◌∙◌, ap, refl, sym, subst, length, arith}
+use Rattle.std.proofs.Common.{◌∙◌, ap, refl, arith}
 use Rattle.img_shared.specs.Notes.{Note}
 use Rattle.img_streams.specs.ImageCalls.{come_to}
 use Rattle.img_streams.specs.Own.{own_note}

@@ -1,6 +1,5 @@
-use Rattle.std.proofs.Common.{◌≡◌, ◌∙◌, ap, refl, sym, subst, length, arith}
+use Rattle.std.proofs.Common.{◌∙◌, ap, refl, sym}
 use Rattle.img_shared.specs.Notes.{Note}
-use Rattle.img_shared.specs.Images.{ImageState}
 use Rattle.img_streams.specs.ImageCalls.{come_to}
 use Rattle.img_streams.specs.Own.{own_note}
 use Rattle.img_streams.proofs.Owns.{own_found, own_left, known_found, row_found, entries_found, requests_found, calls}

@@ -1,10 +1,10 @@
-use Rattle.std.proofs.Common.{◌≡◌, ◌∙◌, ap, refl, sym, subst, length, arith}
+use Rattle.std.proofs.Common.{refl, sym, subst}
 use Rattle.img_shared.specs.Notes.{Note}
 use Rattle.img_shared.specs.Phases.{done_in}
 use Rattle.img_shared.specs.Calls.{IsServing}
 use Rattle.img_streams.specs.ImageCalls.{come_to}
 use Rattle.img_streams.specs.Own.{own_note}
-use Rattle.img_streams.proofs.Owns.{own_found, own_left, known_found, row_found, entries_found, requests_found, calls}
+use Rattle.img_streams.proofs.Owns.{own_found, own_left, known_found, row_found, calls}
 use Rattle.img_streams.proofs.Accounted.{is_served, came_to, keeps_served}
 use Rattle.img_streams.proofs.turns.serve.Goals as goal
 

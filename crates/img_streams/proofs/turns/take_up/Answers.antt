@@ -1,9 +1,8 @@
-use Rattle.std.proofs.Common.{◌≡◌, ◌∙◌, ap, refl, sym, subst, length, arith}
+use Rattle.std.proofs.Common.{refl, sym, subst}
 use Rattle.img_shared.specs.Notes.{Note}
 use Rattle.img_shared.specs.Phases.{IsWaiting}
-use Rattle.img_streams.specs.ImageCalls.{come_to}
 use Rattle.img_streams.specs.Own.{own_note}
-use Rattle.img_streams.proofs.Owns.{own_found, own_left, known_found, row_found, entries_found, requests_found, calls}
+use Rattle.img_streams.proofs.Owns.{own_found, own_left, known_found, row_found, calls}
 use Rattle.img_streams.proofs.Accounted.{is_taken_up, keeps_taken_up}
 use Rattle.img_streams.proofs.turns.take_up.Goals as goal
 
