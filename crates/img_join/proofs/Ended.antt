@@ -1,5 +1,5 @@
 -- All streams have retired: what they served is a serial history of the script.
-use Rattle.std.proofs.Common.{◌≡◌, ℕ, zero, suc, ◌+◌, ◌<◌, ◌≤◌, ◌==◌, inl, inr, List, [], ◌∷◌, ◌++◌, length, map, slice_index, get_or, Option, option_map, refl, sym, ap, subst, ◌∙◌, arith, length-append, append_assoc}
+use Rattle.std.proofs.Common.{◌≡◌, ℕ, zero, suc, ◌+◌, ◌<◌, ◌≤◌, ◌==◌, inl, inr, List, [], ◌∷◌, ◌++◌, length, map, slice_index, get_or, count_by, Option, option_map, refl, sym, ap, subst, ◌∙◌, arith, length-append, append_assoc}
 use Rattle.std.specs.List.{AllByRecursion}
 use Rattle.std.proofs.lemmas.Bool.{cases_Bool, cases_lt, cond-true, cond-false}
 use Rattle.std.proofs.lemmas.List.{get_or_at, length-map}
@@ -8,15 +8,17 @@ use Rattle.aio_model.specs.declared.replies.Reply.TheVariants.{Einval}
 use Rattle.aio_model.specs.declared.replies.Placed.{Placed}
 use Rattle.aio_model.specs.declared.scripts.Step.{Step}
 use Rattle.aio_model.specs.Asked.{Asked, asked, requests_of}
-use Rattle.aio_model.specs.SerialHistory.{CountsFrom, bytes_left, IsSerialHistory}
+use Rattle.aio_model.specs.SerialHistory.{CountsFrom, bytes_left, IsSerialHistory, eios_of}
+use Rattle.aio_words.specs.Faults.{HasRisenBy}
 use Rattle.img_requests.specs.Journal.{reply_of}
 use Rattle.img_requests.specs.Progress.{Replied}
 use Rattle.img_shared.specs.Calls.{IsWhole}
-use Rattle.img_shared.specs.Journals.{entries_of, noted, Noted, of_stream}
+use Rattle.img_shared.specs.Journals.{entries_of, noted, Noted, of_stream, eios_in}
 use Rattle.img_join.specs.Answers.{IsAnswered, placed_of}
-use Rattle.img_join.specs.Ended.{AreApart, AreOurs, HasRetired, replies_to}
-use Rattle.img_join.specs.Placing.{row_at}
+use Rattle.img_join.specs.Ended.{AreApart, AreOurs, HasRetired, IsServedWhole, replies_to}
+use Rattle.img_join.specs.Placing.{row_at, placed_from, HaveAll}
 use Rattle.img_join.proofs.Accounts.{length_from}
+use Rattle.img_join.proofs.ByEntry.{placed_same, eios_placed}
 use Rattle.img_join.proofs.Joined as joining
 use Rattle.img_shared.specs.declared.journal.Entry.{Entry}
 use Rattle.img_shared.specs.declared.phases.Phase.{Phase}
@@ -24,7 +26,7 @@ use Rattle.img_shared.specs.declared.phases.Phase.TheVariants.{Idle, Retired}
 use Rattle.img_shared.specs.Soundness.{IsDue}
 use Rattle.img_shared.specs.Images.{ImageState}
 use Rattle.img_shared.specs.Notes.{Placement, entries_from}
-use Rattle.img_shared.specs.Phases.{phase_at, Writing}
+use Rattle.img_shared.specs.Phases.{phase_at, Writing, has_failed}
 use Rattle.img_join.specs.Accounts.{IsAnsweredBy, AllAnswered}
 
 module _ {D : Type 0} (bytes : D → Option (List ℕ)) where
@@ -114,3 +116,32 @@ module _ {D : Type 0} (bytes : D → Option (List ℕ)) (extent faults size_faul
         } in
         let both = joining.joined (slice_index ids) reply (length ids) lines image.size (bytes image.opening) (bytes image.left) (map (noted bytes) image.journal) ended in
         (both.0, clean ∙ both.1)
+
+less_risen : (n m before now : ℕ) → HasRisenBy (n + m) before now → HasRisenBy n before now
+less_risen n m before now risen = omega (arith, risen)
+
+-- the replies that were put together are those
+pub served_whole : {D : Type 0} → (bytes : D → Option (List ℕ)) (extent faults size_faults : D → ℕ) (ids : List ℕ) (image : ImageState D)
+    (rows : List (List (List ℕ))) (placed : List Placed)
+    → length image.requests ≡ length ids → IsWhole bytes extent faults size_faults image
+    → HaveAll ids image.journal rows → placed ≡ placed_from ids image.journal rows
+    → (lines : List Step) → AreApart ids → AreOurs ids lines
+    → ((k : ℕ) → k < length ids → HasRetired bytes lines ids image k (row_at rows k))
+    → IsServedWhole bytes faults lines image placed
+served_whole bytes extent faults size_faults ids image rows placed many whole have put lines apart ours retired =
+    let said = reply bytes extent faults size_faults lines ids image rows in
+    let same : placed ≡ served bytes extent faults size_faults lines ids image rows =
+    put ∙ placed_same bytes ids said (λ k. 0) 0 image.journal rows have (λ k j. ap (said k) (let z : 0 + j ≡ j = omega arith in z)) (λ k. whole.ordered k) in
+    let both = finished bytes extent faults size_faults lines ids image rows many whole apart ours retired in
+    let eios : eios_of placed ≡ eios_in image.journal = ap eios_of put ∙ eios_placed ids image.journal rows in
+    record {
+      history = subst (IsSerialHistory image.size (asked lines) (bytes image.opening)) (sym same) both.0;
+      left = both.1 ∙ ap (λ (l : List Placed). option_map (bytes_left (asked lines) l) (bytes image.opening)) (sym same);
+      counted = subst (λ (n : ℕ). HasRisenBy n (faults image.opening) (faults image.device)) (sym eios)
+          (less_risen (eios_in image.journal) (count_by has_failed image.phases) (faults image.opening) (faults image.device) whole.counted);
+    }
+
+pub known_ids : {D : Type 0} → (n m : ℕ) (journal : List (Entry D)) → m ≡ n → AllByRecursion (λ (entry : Entry D). entry.stream < m) journal
+    → AllByRecursion (λ (entry : Entry D). entry.stream < n) journal
+known_ids n m [] same known = tt
+known_ids n m (one ∷ journal) same known = (omega (arith, known.0, same), known_ids n m journal same known.1)

@@ -1,4 +1,5 @@
 pub mod Accounts
+pub mod ByEntry
 pub mod Ended
 pub mod Joined
 pub mod Opening

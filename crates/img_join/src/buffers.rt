@@ -4,7 +4,7 @@ ghost use Rattle.img_join.specs.Placing.{first_of, rest_of, row_at};
 use std::collections::VecDeque;
 use std::marker::Model;
 
-/// The buffers of each stream, in the order of its requests.
+/// The buffers of each stream, in the order of its requests. Contracts see the rows of their bytes.
 #[derive(Drop)]
 pub struct Buffers {
     rows: Vec<VecDeque<Vec<u8>>>,
@@ -19,7 +19,14 @@ impl Model for Buffers {
 }
 
 impl Buffers {
-    /// The stream's next buffer.
+    /// The rows, one for each stream.
+    pub fn of(rows: Vec<VecDeque<Vec<u8>>>) -> Buffers
+        ensures { result ≡ map (λ row. map (λ buffer. buffer.items) row.items) rows.items }
+    {
+        Buffers { rows }
+    }
+
+    /// Takes the stream's next buffer.
     pub fn next(&mut self, stream: u32) -> Vec<u8>
         requires known { stream < length self.old }
         requires some { 0 < length (row_at self.old stream) }

@@ -3,7 +3,8 @@
 #![tactic(auto)]
 
 mod buffers;
-mod placed;
+mod finishing;
+mod placing;
 
 pub use buffers::Buffers;
-pub use placed::place_all;
+pub use finishing::finish;

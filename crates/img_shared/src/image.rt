@@ -21,6 +21,7 @@ use std::snapshot::Snapshot;
 
 /// An image whose streams hold it for reading or writing. Streams are numbers from 0 on. Contracts see the device, the
 /// journal, each stream's phase and home, and who holds.
+#[derive(Drop)]
 pub struct Image<D: Device> {
     device: D,
     size: u64,

@@ -6,7 +6,7 @@ use aio_model::{Bytes, Placed};
 use img_shared::Entry;
 
 /// The replies in the order of the journal, each under its stream's id.
-pub fn place_all<D>(
+pub(crate) fn place_all<D>(
     entries: &[Entry<D>],
     ids: &[u32],
     mut buffers: Buffers,

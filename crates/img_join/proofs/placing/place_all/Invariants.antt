@@ -1,6 +1,6 @@
 use Rattle.std.proofs.Common.{◌≡◌, ◌++◌, length, drop, vec_capacity}
 use Rattle.img_join.specs.Placing.{HaveAll, placed_from}
-use Rattle.img_join.proofs.placed.place_all.Given as goal
+use Rattle.img_join.proofs.placing.place_all.Given as goal
 
 -- what was placed, and then the rest, is the whole
 abbrev pub invariant-loop-entry : goal.invariant-loop-entry
