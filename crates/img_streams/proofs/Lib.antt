@@ -10,3 +10,6 @@ pub mod Serving
 pub mod Leaving
 pub mod Retiring
 pub mod Beginning
+pub mod Settling
+pub mod Buffering
+pub mod Starting

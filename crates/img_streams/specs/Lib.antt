@@ -5,3 +5,5 @@ pub mod Steps
 pub mod Lines
 pub mod Deeds
 pub mod Streams
+pub mod Retired
+pub mod Rooms

@@ -43,6 +43,12 @@ StandsSo lines id stream line queued note at.Retiring =
     (note.phase ≡ Idle) × (line ≡ length lines)
 StandsSo lines id stream line queued note at.Gone = (note.phase ≡ Retired) × (queued ≡ false)
 
+-- the stream has retired
+abbrev pub HasGone : At → Type 0
+HasGone at.Gone = Unit {0}
+HasGone _ = ⊥
+
+-- the gate was passed
 abbrev pub IsEntering : At → Type 0
 IsEntering (at.Entering passed) = Unit {0}
 IsEntering _ = ⊥

@@ -3,11 +3,13 @@
 
 mod answers;
 mod buffers;
+mod closing;
 mod gate;
 mod hold;
 mod image_calls;
 mod lines;
 mod progress;
+mod room;
 mod rule;
 mod states;
 mod stream;
@@ -15,7 +17,9 @@ pub mod turns;
 mod wakes;
 
 pub use answers::{Grant, Visit};
+pub use closing::settle;
 pub use gate::Passed;
 pub use progress::At;
+pub use room::Room;
 pub use rule::{ImageRule, StreamNote};
 pub use stream::{ServeEnv, Stream, StreamCo};

@@ -1,7 +1,12 @@
 //! The coroutine of a stream, and what it is lent.
 ghost use Rattle.std.specs.Prelude.{◌≡◌};
+ghost use Rattle.aio_model.specs.declared.scripts.Script.{Script};
+ghost use Rattle.co_mutex.specs.declared.lock.CoMutex.{CoMutex};
+ghost use Rattle.img_streams.specs.Rooms.{CanStart};
+ghost use Rattle.img_streams.specs.Streams.{IsStreamOf, source};
 
 use crate::progress::At;
+use crate::room::Room;
 use crate::rule::ImageRule;
 use aio_model::Script;
 use aio_words::{Device, Gate};
@@ -45,6 +50,48 @@ impl<P: LockRule> Drop for Stream<P> {
             buffer: _,
             later: _,
         } = self;
+    }
+}
+
+impl<D: Device> Stream<ImageRule<D>> {
+    /// The coroutine of a stream that has made no call yet: of its pass and its number with its home, its id in the script,
+    /// and its memory.
+    pub fn of(pass: Pass<ImageRule<D>>, co: CoId, id: u32, room: Room) -> Stream<ImageRule<D>>
+        ensures of { (lock : CoMutex _ _ _) (script : Script) → CanStart lock script pass co id room → IsStreamOf D.bytes result (source lock script) }
+    {
+        Stream {
+            pass,
+            queued: false,
+            co,
+            id,
+            line: 0,
+            index: 0,
+            at: At::Between,
+            filled: room.filled,
+            buffer: room.buffer,
+            later: room.later,
+        }
+    }
+}
+
+impl<P: LockRule> Stream<P> {
+    pub(crate) fn apart(self) -> (Pass<P>, Vec<Vec<u8>>)
+        ensures pass { result.0 ≡ self.pass }
+        ensures filled { result.1 ≡ self.filled }
+    {
+        let Self {
+            pass,
+            queued: _,
+            co: _,
+            id: _,
+            line: _,
+            index: _,
+            at: _,
+            filled,
+            buffer: _buffer,
+            later: _later,
+        } = self;
+        (pass, filled)
     }
 }
 
