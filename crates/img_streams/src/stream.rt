@@ -99,6 +99,7 @@ impl<P: LockRule> Stream<P> {
 pub type StreamCo<D> = Stream<ImageRule<D>>;
 
 /// What a loop lends to the coroutines of streams. `rt` is the leave to wait.
+#[derive(Drop)]
 pub struct ServeEnv<'a, D: Device, G: Gate, R: Wait> {
     pub rt: &'a R,
     pub lock: &'a CoMutex<ImageRule<D>>,
