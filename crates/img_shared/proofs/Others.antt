@@ -65,10 +65,6 @@ module _ {D : Type 0} (bytes : D → Option (List ℕ)) where
       }
 
   module _ (old : ImageState D) (sound : IsSound bytes old) (s : ℕ) where
-    -- a phase and the holds change
-    pub others_phase : (x : Phase) (access : ReadersWriter) → SameNotes bytes s old (record old { phases = set old.phases s x; access = access })
-    others_phase x access k ne = note_same old (record old { phases = set old.phases s x; access = access }) k refl refl refl (length-set old.phases s x) refl (phase_else old.phases s x k ne) refl
-
     -- a request is refused
     pub others_refused : (mark : Mark) (b a : Snapshot (Snapshot D)) → SameNotes bytes s old (record old { journal = old.journal ++ entry_next s old.journal mark b a ∷ [] })
     others_refused mark b a k ne =

@@ -1,8 +1,15 @@
 -- What an image's invariant shows.
-use Rattle.std.proofs.Common.{ℕ, List, Option}
+use Rattle.std.proofs.Common.{◌≡◌, ℕ, set, List, [], ◌∷◌, ◌++◌, length, Option, refl}
 use Rattle.aio_model.proofs.Granted.{writer_alone}
-use Rattle.img_shared.specs.Calls.{IsWhole}
+use Rattle.aio_model.specs.RwTable.{unlocked}
+use Rattle.img_requests.specs.declared.present.Present.{Present}
+use Rattle.img_requests.specs.Journal.{mark_at}
+use Rattle.img_shared.specs.declared.journal.Entry.{Entry}
+use Rattle.img_shared.specs.declared.phases.Phase.TheVariants.{Idle, Active}
+use Rattle.img_shared.specs.Calls.{IsWhole, Leaves}
 use Rattle.img_shared.specs.Images.{ImageState}
+use Rattle.img_shared.specs.Journals.{entry_next}
+use Rattle.img_shared.specs.Phases.{phase_at}
 use Rattle.img_shared.specs.Soundness.{IsKept}
 
 pub whole_of : {D : Type 0} → (bytes : D → Option (List ℕ)) (extent faults size_faults : D → ℕ) (image : ImageState D)
@@ -19,4 +26,21 @@ whole_of bytes extent faults size_faults image kept = record {
   long = kept.charged.long;
   sizes = kept.charged.sizes;
   counted = kept.charged.counted;
+}
+
+-- what leaving did
+pub leaves_so : {D : Type 0} → (s place : ℕ) (old : ImageState D) (present : Present) (entry : Entry D) → phase_at old.phases s ≡ Active present
+    → place ≡ length old.journal
+    → entry ≡ entry_next s old.journal (mark_at present.stage present.kind present.length present.done) entry.before entry.after
+    → entry.before.value.value ≡ old.left → entry.after.value.value ≡ old.device
+    → Leaves s place old (record old { left = old.device; journal = old.journal ++ entry ∷ []; phases = set old.phases s Idle; access = (unlocked s old.access).state })
+leaves_so s place old present entry was at is before after = record {
+  present = present;
+  was = was;
+  entry = entry;
+  place_is = at;
+  entry_is = is;
+  before = before;
+  after = after;
+  image = refl;
 }

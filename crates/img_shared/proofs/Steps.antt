@@ -88,6 +88,3 @@ past_end s size request present is past = subst (λ (p : Present). size < p.at +
 pub told_inside : (n size extent : ℕ) (told : Option (List ℕ)) → n ≤ size → size ≤ extent → IfSome told (λ bytes. length bytes ≡ extent) → IfSome told (λ bytes. n ≤ length bytes)
 told_inside n size extent None within fits many = tt
 told_inside n size extent (Some bytes) within fits many = omega (arith, within, fits, many)
-
-pub end_within : (s size : ℕ) (request : Request) (present : Present) → present ≡ present_of s request 0 Begun → present.at + present.length ≤ size → end_of request ≤ size
-end_within s size request present is within = subst (λ (p : Present). p.at + p.length ≤ size) is within

@@ -10,6 +10,8 @@ mod faults;
 mod orders;
 mod player;
 #[cfg(test)]
+mod replies;
+#[cfg(test)]
 mod rows;
 #[cfg(test)]
 mod stage;

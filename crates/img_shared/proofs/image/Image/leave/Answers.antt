@@ -9,6 +9,7 @@ use Rattle.img_shared.proofs.Charged.{charged_left}
 use Rattle.img_shared.proofs.Granting.{woken_granted, has_held}
 use Rattle.img_shared.proofs.Named.{named_all}
 use Rattle.img_shared.proofs.Others.{others_left}
+use Rattle.img_shared.proofs.Shown.{leaves_so}
 use Rattle.img_shared.proofs.Sounds.{sound_left}
 use Rattle.img_shared.proofs.image.Image.leave.Goals as goal
 
@@ -32,16 +33,12 @@ returns-clause-left g c =
     let known = rw (← c.self.view_is) at c.requires.known in
     let below : c.args.stream < length c.self.inside.phases.items = omega (arith, known, c.self.invariant.sound.streams) in
     let active = sym (c.index.ensures ∙ get_or_default c.self.inside.phases.items c.args.stream _ Idle below) ∙ c.in-Active.is in
-    rw (← c.self.view_is, c.note-place.ensures.entries, c.of.ensures, c.unlock-woken.ensures.left) (record {
-      present = c.in-Active.present;
-      was = active;
-      entry = entry_next c.args.stream c.self.inside.ledger.entries c.mark.result c.of-before.result c.of-after.result;
-      place_is = c.note-place.ensures.place;
-      entry_is = ap (λ mark. entry_next c.args.stream c.self.inside.ledger.entries mark c.of-before.result c.of-after.result) c.mark.ensures;
-      before = ap (λ s. s.value) c.of-before.ensures;
-      after = ap (λ s. s.value) c.of-after.ensures ∙ c.of.ensures;
-      image = refl;
-    })
+    rw (← c.self.view_is, c.note-place.ensures.entries, c.of.ensures, c.unlock-woken.ensures.left)
+    (leaves_so c.args.stream c.note-place.result _ c.in-Active.present
+    (entry_next c.args.stream c.self.inside.ledger.entries c.mark.result c.of-before.result c.of-after.result)
+    active c.note-place.ensures.place
+    (ap (λ mark. entry_next c.args.stream c.self.inside.ledger.entries mark c.of-before.result c.of-after.result) c.mark.ensures)
+    (ap (λ s. s.value) c.of-before.ensures) (ap (λ s. s.value) c.of-after.ensures ∙ c.of.ensures))
 
 pub returns-clause-named : goal.returns-clause-named
 returns-clause-named g c =
