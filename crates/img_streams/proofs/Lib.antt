@@ -13,3 +13,4 @@ pub mod Beginning
 pub mod Settling
 pub mod Buffering
 pub mod Starting
+pub mod Histories
