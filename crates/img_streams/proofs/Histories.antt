@@ -1,5 +1,5 @@
 -- From the image that a closed lock shows, and the clause of `img_join::finish` on it, to the serial history of a script.
-use Rattle.std.proofs.Common.{◌≡◌, ℕ, ◌<◌, Option, option_map, List, length, sym, ap, subst}
+use Rattle.std.proofs.Common.{◌≡◌, ℕ, ◌<◌, Option, option_map, List, length, subst}
 use Rattle.aio_model.specs.declared.replies.Placed.{Placed}
 use Rattle.aio_model.specs.declared.scripts.Step.{Step}
 use Rattle.aio_model.specs.Asked.{asked}

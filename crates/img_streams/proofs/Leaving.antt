@@ -1,5 +1,5 @@
 -- A stream whose request was served whole, or failed.
-use Rattle.std.proofs.Common.{◌≡◌, ℕ, ◌+◌, Bool, false, Option, Some, List, [], ◌∷◌, ◌++◌, length, map, sym, ap, subst}
+use Rattle.std.proofs.Common.{◌≡◌, ℕ, ◌+◌, false, Option, Some, List, [], ◌∷◌, ◌++◌, length, map, sym, ap, subst}
 use Rattle.aio_model.specs.declared.scripts.Script.{Script}
 use Rattle.aio_model.specs.Asked.{asked, requests_of}
 use Rattle.co_state.specs.Asked.{Asked}
@@ -33,9 +33,6 @@ module _ {P D : Type 0} (bytes : D → Option (List ℕ)) (old : Stream P (Image
 
   pub asks_ended : Asks of.1.lines old.id old.line
   asks_ended = stands.1
-
-  pub stands_ended : (note : Note D) (queued : Bool) → note ≡ own_note bytes of.0 old.pass → StandsSo of.1.lines old.id old.co.co old.line queued note at.Ended
-  stands_ended note queued same = subst (λ (n : Note D). StandsSo of.1.lines old.id old.co.co old.line queued n at.Ended) (sym same) stands
 
   pub can_leave_line : (pass : Pass P (ImageState D) (Note D)) → CanGetReply (record old { pass = pass; queued = false })
   can_leave_line pass = can_now bytes old of is stands.1.0 stands.1.1 pass false

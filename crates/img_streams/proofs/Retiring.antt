@@ -1,5 +1,5 @@
 -- A stream with no line left.
-use Rattle.std.proofs.Common.{◌≡◌, ℕ, inr, Bool, false, Option, List, length, map, take, refl, sym, ap, ◌∙◌, subst, arith}
+use Rattle.std.proofs.Common.{◌≡◌, ℕ, inr, false, Option, List, length, map, take, refl, sym, ap, ◌∙◌, subst, arith}
 use Rattle.aio_model.specs.declared.scripts.Script.{Script}
 use Rattle.aio_model.specs.Asked.{asked, requests_of}
 use Rattle.co_state.specs.Asked.{Asked}
@@ -39,9 +39,6 @@ module _ {P D : Type 0} (bytes : D → Option (List ℕ)) (old : Stream P (Image
 
   pub none_now : line_from old.id of.1.lines old.line ≡ length of.1.lines
   none_now = next_end old.id of.1.lines old.line (omega (arith, stands.1)) ∙ stands.1
-
-  pub stands_retiring : (note : Note D) (queued : Bool) → note ≡ own_note bytes of.0 old.pass → StandsSo of.1.lines old.id old.co.co old.line queued note at.Retiring
-  stands_retiring note queued same = subst (λ (n : Note D). StandsSo of.1.lines old.id old.co.co old.line queued n at.Retiring) (sym same) stands
 
   module _ (pass : Pass P (ImageState D) (Note D)) where
     pub retired_is : IsOf bytes of.0 pass old.co.co false → HasRetired bytes old.co.co (own_note bytes of.0 old.pass) (own_note bytes of.0 pass)

@@ -1,5 +1,5 @@
 -- A stream whose request has its hold.
-use Rattle.std.proofs.Common.{◌≡◌, ℕ, Bool, false, Option, List, ◌++◌, map, refl, sym, ap, ◌∙◌, subst, arith}
+use Rattle.std.proofs.Common.{◌≡◌, ℕ, false, Option, List, ◌++◌, map, refl, sym, ap, ◌∙◌, subst, arith}
 use Rattle.aio_model.specs.declared.requests.Request.{Request}
 use Rattle.aio_model.specs.declared.scripts.Script.{Script}
 use Rattle.aio_model.specs.declared.scripts.What.TheVariants.{Ask}
@@ -57,9 +57,6 @@ module _ {P D : Type 0} (bytes : D → Option (List ℕ)) (old : Stream P (Image
 
   pub asks_serving : Asks of.1.lines old.id old.line
   asks_serving = stands.3
-
-  pub stands_serving : (note : Note D) (queued : Bool) → note ≡ own_note bytes of.0 old.pass → StandsSo of.1.lines old.id old.co.co old.line queued note at.Serving
-  stands_serving note queued same = subst (λ (n : Note D). StandsSo of.1.lines old.id old.co.co old.line queued n at.Serving) (sym same) stands
 
   module _ (request : Request) (line : StandsAt of.1.lines old.id old.line (Ask request)) where
     pub serving_now : IsServing (own_note bytes of.0 old.pass).phase old.co.co request (done_in (own_note bytes of.0 old.pass).phase)
