@@ -1,0 +1,16 @@
+pub mod Turning
+pub mod Owns
+pub mod Accounted
+pub mod LinesAlong
+pub mod Going
+pub mod Entering
+pub mod Making
+pub mod TakingUp
+pub mod Serving
+pub mod Leaving
+pub mod Retiring
+pub mod Beginning
+pub mod Settling
+pub mod Buffering
+pub mod Starting
+pub mod Histories

@@ -1,0 +1,9 @@
+pub mod Turns
+pub mod ImageCalls
+pub mod Own
+pub mod Steps
+pub mod Lines
+pub mod Deeds
+pub mod Streams
+pub mod Retired
+pub mod Rooms

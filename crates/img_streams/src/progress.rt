@@ -1,0 +1,20 @@
+use crate::gate::Passed;
+
+/// Where a stream is in its script, and what its next resume does.
+#[derive(Clone, Copy, Debug, PartialEq, Eq)]
+pub enum At {
+    /// Its next line is looked at.
+    Between,
+    /// The gate was passed, and the request is to be entered.
+    Entering(Passed),
+    /// The request was entered, and waits for its hold.
+    Waiting,
+    /// A piece is served.
+    Serving,
+    /// The request was served whole, or failed, and is to leave.
+    Ended,
+    /// No line is left.
+    Retiring,
+    /// The stream has retired.
+    Gone,
+}

@@ -1,0 +1,11 @@
+//! Tests of the coroutine of a stream, by the public calls of `img_streams` alone. They stand apart from it, so that its
+//! own proof isn't made once more with them. What is expected was worked out by hand.
+#![tactic(auto)]
+
+mod alone;
+#[cfg(test)]
+mod rows;
+mod stage;
+
+pub use alone::{Tally, serve_alone};
+pub use stage::{are_short, requests_in, set_up};
