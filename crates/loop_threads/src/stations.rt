@@ -1,0 +1,49 @@
+//! What a thread has of its loop while it carries it, and what it does there.
+ghost use Rattle.std.specs.Prelude.{◌≡◌};
+ghost use Rattle.loop_threads.specs.LoopStates.{at_loop, IsStation, TurnsOn, KeepsPlace};
+
+use crate::rows::Row;
+use crate::seats::LoopShared;
+use aio_loop::AioLoop;
+use co_schedule::CoHome;
+use co_state::Origin;
+use std::sync::Wait;
+
+/// One loop on its thread: its home, and a seat of each loop's tables. Whoever has it is the home thread of both homes.
+#[derive(Drop)]
+pub struct Station<'a, C: Origin> {
+    pub number: usize,
+    pub turning: AioLoop<'a, ()>,
+    pub coroutines: CoHome<C>,
+    pub row: Row<C>,
+}
+
+/// What is done on a loop, turn by turn. The store of its coroutines, its clock and the like are the implementor's own.
+pub trait LoopWork<C: Origin + Drop> {
+    ghost use Rattle.std.specs.Prelude.{Bool, List};
+    ghost use Rattle.loop_threads.specs.declared.seats.LoopShared.{LoopShared};
+    ghost use Rattle.loop_threads.specs.LoopStates.{LoopState};
+
+    /// What it needs of all loops and of its own before each turn.
+    ghost can_work: { Self → List (LoopShared C C.Source) → LoopState C C.Source → Type 0 };
+
+    /// What one turn does to itself and to its loop, and whether the loop's run has ended by it.
+    ghost does: { Self → LoopState C C.Source → Bool → Self → LoopState C C.Source → Type 0 };
+
+    /// One turn. Whether the loop's run has ended: then no other turn follows. One that isn't to block returns soon, whatever the
+    /// other loops do, since the caller of a run may have several loops to carry.
+    fn turn<R: Wait>(
+        &mut self,
+        rt: &R,
+        shared: &[LoopShared<C>],
+        station: &mut Station<'_, C>,
+        block: bool,
+    ) -> bool
+        requires station { IsStation shared.now (at_loop station.old.number station.old.turning.home.seat station.old.turning.side station.old.turning.lot_pass station.old.coroutines station.old.row) }
+        requires turning { TurnsOn shared.now station.old.number station.old.turning.table.now station.old.turning.pool.now }
+        requires can_work { can_work self.old shared.now (at_loop station.old.number station.old.turning.home.seat station.old.turning.side station.old.turning.lot_pass station.old.coroutines station.old.row) }
+        ensures station { IsStation shared.now (at_loop station.new.number station.new.turning.home.seat station.new.turning.side station.new.turning.lot_pass station.new.coroutines station.new.row) }
+        ensures place { KeepsPlace station.old.number station.old.row station.new.number station.new.row }
+        ensures can_work { can_work self.new shared.now (at_loop station.new.number station.new.turning.home.seat station.new.turning.side station.new.turning.lot_pass station.new.coroutines station.new.row) }
+        ensures does { does self.old (at_loop station.old.number station.old.turning.home.seat station.old.turning.side station.old.turning.lot_pass station.old.coroutines station.old.row) result self.new (at_loop station.new.number station.new.turning.home.seat station.new.turning.side station.new.turning.lot_pass station.new.coroutines station.new.row) };
+}
