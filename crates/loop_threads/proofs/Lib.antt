@@ -1,2 +1,4 @@
+pub mod Coming
+pub mod Handing
 pub mod Places
 pub mod Rowing

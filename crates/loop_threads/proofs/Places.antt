@@ -50,3 +50,10 @@ of_read {X} {Y} P xs ys k x y lx ly at also h d e =
 -- and as it is read
 pub as_read : {X Y : Type 0} (P : X → Y → Type 0) (xs : List X) (ys : List Y) (k : ℕ) (x : X) (y : Y) → x ≡ slice_index_or xs k x → y ≡ slice_index_or ys k y → P (slice_index_or xs k x) (slice_index_or ys k y) → P x y
 as_read {X} {Y} P xs ys k x y at also h = subst (λ (a : X). P a y) (sym at) (subst (P (slice_index_or xs k x)) (sym also) h)
+
+-- a fact of each pair of two lists, as both grow
+pub both_pushed : {X Y : Type 0} (P : X → Y → Type 0) (xs : List X) (ys : List Y) (n : ℕ) (x : X) (y : Y) → length xs ≡ n → length ys ≡ n → ((k : ℕ) (a : X) (b : Y) → k < n → P (slice_index_or xs k a) (slice_index_or ys k b)) → P x y
+    → (k : ℕ) (a : X) (b : Y) → k < n + 1 → P (slice_index_or (xs ++ x ∷ []) k a) (slice_index_or (ys ++ y ∷ []) k b)
+both_pushed {X} {Y} P xs ys n x y long also was here k a b h =
+    at_push (λ (j : ℕ) (v : Y). P (slice_index_or (xs ++ x ∷ []) j a) v) ys n y also (subst (λ (u : X). P u y) (sym (get_or_at xs x [] a n long)) here) k b h
+    (λ lt. subst (λ (u : X). P u (slice_index_or ys k b)) (sym (get_or_append_left xs (x ∷ []) a k (omega (arith, lt, long)))) (was k a b lt))

@@ -28,12 +28,7 @@ pub struct Part<C: Origin, W> {
 
 impl<C: Origin + Drop, W: LoopWork<C> + Drop> Part<C, W> {
     /// One turn.
-    pub(crate) fn turned<R: Wait>(
-        self,
-        rt: &R,
-        shared: &[LoopShared<C>],
-        block: bool,
-    ) -> Part<C, W>
+    pub(crate) fn turned<R: Wait>(self, rt: &R, shared: &[LoopShared<C>], block: bool) -> Part<C, W>
         requires part { IsPart W.can_work shared.now self }
         ensures { TakesTurn W.can_work W.does shared.now self result }
     {
@@ -62,14 +57,13 @@ impl<C: Origin + Drop, W: LoopWork<C> + Drop> Part<C, W> {
         let carried = work.turn(rt, shared, &mut station, block);
         let Station {
             number,
-            turning:
-                AioLoop {
-                    table: _,
-                    pool: _,
-                    lot_pass,
-                    home,
-                    side,
-                },
+            turning: AioLoop {
+                table: _,
+                pool: _,
+                lot_pass,
+                home,
+                side,
+            },
             coroutines,
             row,
         } = station;
