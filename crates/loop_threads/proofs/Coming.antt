@@ -4,7 +4,7 @@ use Rattle.std.proofs.lemmas.List.{get_or_at, get_or_default, get_or_append_left
 use Rattle.loop_threads.specs.declared.seats.LoopShared.{LoopShared}
 use Rattle.loop_threads.specs.declared.parts.Part.{Part}
 use Rattle.loop_threads.specs.LoopStates.{LoopState}
-use Rattle.loop_threads.specs.Parts.{IsPart, AllParts, InOrder, HaveEnded, TakesTurn, TakesTurns, ComesFrom, IsCarried, AllComeFrom, AllComeReversed, AllCarried}
+use Rattle.loop_threads.specs.Parts.{IsPart, AllParts, HaveEnded, TakesTurn, TakesTurns, ComesFrom, IsCarried, AllComeFrom, AllComeReversed, AllCarried}
 use Rattle.loop_threads.proofs.Places.{at_push, at_last, at_front, longer}
 
 module _ {C W O : Type 0} (can_work : W → List (LoopShared C O) → LoopState C O → Type 0) (does : W → LoopState C O → Bool → W → LoopState C O → Type 0) (shared : List (LoopShared C O)) where

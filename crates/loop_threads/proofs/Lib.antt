@@ -1,4 +1,10 @@
 pub mod Coming
+pub mod Dealt
+pub mod Ended
 pub mod Handing
+pub mod Membership
+pub mod Beginning
+pub mod Building
+pub mod Outcomes
 pub mod Places
 pub mod Rowing

@@ -10,10 +10,10 @@ abbrev pub loop_of : {C W O : Type 0} → Part C W O → LoopState C O
 loop_of part =
     at_loop part.number part.home.seat part.side part.lot_pass part.coroutines part.row
 
--- the n-th is that of loop n
-abbrev pub InOrder : {C W O : Type 0} → List (Part C W O) → Type 0
-InOrder {C} {W} {O} parts =
-    (k : ℕ) (p : Part C W O) → k < length parts → (slice_index_or parts k p).number ≡ k
+-- the last is that of loop 0, the one before it that of loop 1, and so on
+abbrev pub InReverse : {C W O : Type 0} → List (Part C W O) → Type 0
+InReverse {C} {W} {O} parts =
+    (k : ℕ) (p : Part C W O) → k < length parts → (slice_index_or parts k p).number + k + 1 ≡ length parts
 
 -- the run of each has ended
 abbrev pub HaveEnded : {C W O : Type 0} → List (Part C W O) → Type 0

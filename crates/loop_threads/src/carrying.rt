@@ -28,16 +28,17 @@ pub(crate) fn carry<C: Origin + Drop, W: LoopWork<C> + Drop, R: Wait>(
     unreachable!()
 }
 
-/// One turn that doesn't block, where the loop's run hasn't ended.
+/// One turn that doesn't block, where the loop's run hasn't ended, or it is to be given again.
 fn step<C: Origin + Drop, W: LoopWork<C> + Drop, R: Wait>(
     rt: &R,
     shared: &[LoopShared<C>],
     part: Part<C, W>,
+    again: bool,
 ) -> Part<C, W>
     requires part { IsPart W.can_work shared.now part }
     ensures { ComesFrom W.can_work W.does shared.now part result }
 {
-    if part.carried {
+    if part.carried && !again {
         return part;
     }
     part.turned(rt, shared, false)
@@ -49,6 +50,7 @@ fn step_each<C: Origin + Drop, W: LoopWork<C> + Drop, R: Wait>(
     shared: &[LoopShared<C>],
     from: &mut Vec<Part<C, W>>,
     to: &mut Vec<Part<C, W>>,
+    again: bool,
 )
     requires parts { AllParts W.can_work shared.now from.old.items }
     requires empty { vec_len to.old ≡ 0 }
@@ -59,7 +61,7 @@ fn step_each<C: Origin + Drop, W: LoopWork<C> + Drop, R: Wait>(
     ensures steps { AllComeReversed W.can_work W.does shared.now (vec_len from.old) from.old.items to.new.items }
 {
     while let Some(part) = from.pop() {
-        to.push_reserved(step(rt, shared, part));
+        to.push_reserved(step(rt, shared, part, again));
     }
 }
 
@@ -93,8 +95,33 @@ pub(crate) fn carry_left<C: Origin + Drop, W: LoopWork<C> + Drop, R: Wait>(
         if are_carried(left) {
             return;
         }
-        step_each(rt, shared, left, other);
-        step_each(rt, shared, other, left);
+        step_each(rt, shared, left, other, false);
+        step_each(rt, shared, other, left, false);
+        thread::yield_now();
+    }
+    unreachable!()
+}
+
+/// Once the runs of all have ended: turns that don't block, until each answers so once more in one round. Nobody else steps on the loops
+/// then, so what was scheduled late is called, and nothing new comes.
+pub(crate) fn quieten<C: Origin + Drop, W: LoopWork<C> + Drop, R: Wait>(
+    rt: &R,
+    shared: &[LoopShared<C>],
+    parts: &mut Vec<Part<C, W>>,
+    other: &mut Vec<Part<C, W>>,
+)
+    requires parts { AllParts W.can_work shared.now parts.old.items }
+    requires empty { vec_len other.old ≡ 0 }
+    requires room { vec_len parts.old ≤ vec_capacity other.old }
+    ensures len { vec_len parts.new ≡ vec_len parts.old }
+    ensures carried { AllCarried W.can_work W.does shared.now (vec_len parts.old) parts.old.items parts.new.items }
+{
+    for _ in rt.forever() {
+        step_each(rt, shared, parts, other, true);
+        step_each(rt, shared, other, parts, true);
+        if are_carried(parts) {
+            return;
+        }
         thread::yield_now();
     }
     unreachable!()

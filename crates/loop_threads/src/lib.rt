@@ -2,13 +2,23 @@
 #![tactic(auto)]
 
 mod carrying;
+mod dealing;
+mod ending;
+mod members;
+mod opening;
 mod parts;
+mod preparing;
 mod rows;
+mod running;
 mod seats;
 mod stations;
 mod threads;
 
+pub use ending::LoopRun;
+pub use members::{Crew, Member};
+pub use opening::{Homes, Opened, open};
 pub use parts::Part;
+pub use preparing::{Hand, Prepared, prepare};
 pub use rows::Row;
 pub use seats::{LoopShared, Seats};
 pub use stations::{LoopWork, Station};

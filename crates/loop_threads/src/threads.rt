@@ -1,6 +1,6 @@
 //! The start of the threads, and their joining. The caller holds their handles on its stack: no memory is taken.
 ghost use Rattle.std.specs.Prelude.{◌≡◌, ◌<◌, ◌≤◌, ◌+◌, length, vec_len, vec_capacity};
-ghost use Rattle.loop_threads.specs.Parts.{IsPart, ComesFrom, IsCarried, AllParts, InOrder, AllCarried};
+ghost use Rattle.loop_threads.specs.Parts.{IsPart, ComesFrom, IsCarried, AllParts, AllCarried};
 
 use crate::carrying::{carry, carry_left};
 use crate::parts::Part;
