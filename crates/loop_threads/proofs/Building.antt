@@ -5,7 +5,7 @@ use Rattle.aio_model.specs.LoopHistory.{Sizes}
 use Rattle.lot_pool.specs.Pools.{PassState}
 use Rattle.aio_core.specs.Known.{Known, is_running}
 use Rattle.co_schedule.specs.Known.{Known as CoKnown}
-use Rattle.loop_threads.specs.declared.seats.LoopShared.{LoopShared}
+use Rattle.loop_threads.specs.declared.shared.LoopShared.{LoopShared}
 use Rattle.loop_threads.specs.declared.seats.Seats.{Seats}
 use Rattle.loop_threads.specs.declared.opening.Homes.{Homes}
 use Rattle.loop_threads.specs.Rows.{IsAt}

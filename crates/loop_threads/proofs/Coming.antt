@@ -1,7 +1,7 @@
 -- Parts that came from others by turns, one and many.
 use Rattle.std.proofs.Common.{◌≡◌, ℕ, ◌<◌, ◌≤◌, ◌+◌, ◌-◌, suc, Bool, true, List, [], ◌∷◌, ◌++◌, length, slice_index_or, slice_set, subst, sym, ap, ◌∙◌, refl, arith}
 use Rattle.std.proofs.lemmas.List.{get_or_at, get_or_default, get_or_append_left}
-use Rattle.loop_threads.specs.declared.seats.LoopShared.{LoopShared}
+use Rattle.loop_threads.specs.declared.shared.LoopShared.{LoopShared}
 use Rattle.loop_threads.specs.declared.parts.Part.{Part}
 use Rattle.loop_threads.specs.LoopStates.{LoopState}
 use Rattle.loop_threads.specs.Parts.{IsPart, AllParts, HaveEnded, TakesTurn, TakesTurns, ComesFrom, IsCarried, AllComeFrom, AllComeReversed, AllCarried}

@@ -1,6 +1,8 @@
 -- What a run comes to, from what its parts came to.
 use Rattle.std.proofs.Common.{◌≡◌, ℕ, ◌<◌, ◌≤◌, ◌+◌, Bool, List, length, slice_index_or, subst, sym, ap, ◌∙◌, refl, arith}
-use Rattle.loop_threads.specs.declared.seats.LoopShared.{LoopShared}
+use Rattle.loop_threads.specs.declared.shared.LoopShared.{LoopShared}
+use Rattle.loop_threads.specs.declared.rows.Row.{Row}
+use Rattle.loop_threads.specs.Within.{RowsWithin}
 use Rattle.loop_threads.specs.declared.parts.Part.{Part}
 use Rattle.loop_threads.specs.declared.members.Member.{Member}
 use Rattle.loop_threads.specs.LoopStates.{LoopState}
@@ -21,6 +23,6 @@ module _ {C W O : Type 0} (can_work : W → List (LoopShared C O) → LoopState 
   carried_order n before after long also was order k p lt =
       omega (arith, (was k p p (omega (arith, lt, also))).comes.number_is, order k p (omega (arith, lt, long, also)), long, also)
 
-  pub runs_each : (n : ℕ) (parts done : List (Part C W O)) (members : List (Member C W O)) → AllCarried can_work does shared n parts done → AreOfParts n done members → RunsEach can_work does shared n parts members
-  runs_each n parts done members carried are k j p m at =
-      record { last = slice_index_or done j p; carried = carried j p p (omega (arith, at)); is = are k j p m at }
+  pub runs_each : (n : ℕ) (parts done : List (Part C W O)) (members : List (Member C W O)) (row : Row C O) → AllCarried can_work does shared n parts done → AreOfParts n done members → RowsWithin 0 n (length shared) done row.seats.items → RunsEach can_work does shared row n parts members
+  runs_each n parts done members row carried are within k j p m at =
+      record { last = slice_index_or done j p; carried = carried j p p (omega (arith, at)); is = are k j p m at; within = within j p (omega arith) (omega (arith, at)) }

@@ -57,3 +57,8 @@ pub both_pushed : {X Y : Type 0} (P : X → Y → Type 0) (xs : List X) (ys : Li
 both_pushed {X} {Y} P xs ys n x y long also was here k a b h =
     at_push (λ (j : ℕ) (v : Y). P (slice_index_or (xs ++ x ∷ []) j a) v) ys n y also (subst (λ (u : X). P u y) (sym (get_or_at xs x [] a n long)) here) k b h
     (λ lt. subst (λ (u : X). P u (slice_index_or ys k b)) (sym (get_or_append_left xs (x ∷ []) a k (omega (arith, lt, long)))) (was k a b lt))
+
+-- an item of a list that has some
+pub some_of : {X : Type 0} (xs : List X) (n : ℕ) → n < length xs → X
+some_of [] n lt = absurd (omega (arith, lt))
+some_of (x ∷ xs) n lt = x

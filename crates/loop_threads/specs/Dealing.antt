@@ -1,6 +1,6 @@
 -- How rows are dealt.
 use Rattle.std.specs.Prelude.{◌≡◌, ℕ, zero, suc, ◌<◌, ◌*◌, List, length, slice_index_or}
-use Rattle.loop_threads.specs.declared.seats.LoopShared.{LoopShared}
+use Rattle.loop_threads.specs.declared.shared.LoopShared.{LoopShared}
 use Rattle.loop_threads.specs.declared.rows.Row.{Row}
 use Rattle.loop_threads.specs.Rows.{IsRow, HasNumbers}
 

@@ -6,7 +6,7 @@ use Rattle.aio_bh.specs.OneShots.{ServesHome}
 use Rattle.aio_loop.specs.declared.side.Side.{Side}
 use Rattle.aio_loop.specs.Homes.{IsHomeFree}
 use Rattle.co_schedule.specs.Calls.{SeatState as CoSeatState, IsSeatOf as IsCoSeatOf}
-use Rattle.loop_threads.specs.declared.seats.LoopShared.{LoopShared}
+use Rattle.loop_threads.specs.declared.shared.LoopShared.{LoopShared}
 use Rattle.loop_threads.specs.declared.rows.Row.{Row}
 use Rattle.loop_threads.specs.Rows.{IsRow}
 

@@ -6,7 +6,7 @@ use Rattle.aio_bh.specs.OneShots.{ServesHome}
 use Rattle.aio_loop.specs.Homes.{IsHomeFree}
 use Rattle.lot_pool.specs.Pools.{PassState, IsNew as IsNewPool}
 use Rattle.co_schedule.specs.Calls.{IsSeatOf as IsCoSeatOf, IsNew as IsNewCo}
-use Rattle.loop_threads.specs.declared.seats.LoopShared.{LoopShared}
+use Rattle.loop_threads.specs.declared.shared.LoopShared.{LoopShared}
 use Rattle.loop_threads.specs.declared.seats.Seats.{Seats}
 use Rattle.loop_threads.specs.declared.rows.Row.{Row}
 use Rattle.loop_threads.specs.declared.opening.Homes.{Homes}

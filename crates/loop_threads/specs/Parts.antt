@@ -1,6 +1,6 @@
 -- A part of a run: one loop with all that its thread owns.
 use Rattle.std.specs.Prelude.{◌≡◌, ℕ, ◌<◌, ◌+◌, ◌-◌, ◌*◌, Bool, true, List, [], ◌∷◌, length, slice_index_or}
-use Rattle.loop_threads.specs.declared.seats.LoopShared.{LoopShared}
+use Rattle.loop_threads.specs.declared.shared.LoopShared.{LoopShared}
 use Rattle.loop_threads.specs.declared.parts.Part.{Part}
 use Rattle.loop_threads.specs.LoopStates.{LoopState, at_loop, IsStation}
 use Rattle.loop_threads.specs.Rows.{HasNumbers}

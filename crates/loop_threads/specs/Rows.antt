@@ -7,7 +7,7 @@ use Rattle.aio_model.specs.CoroutineHistory.{seat_of, IsLegal}
 use Rattle.table_seats.specs.Calls.{IsJoined as IsCoJoined}
 use Rattle.co_schedule.specs.Seating.{front_known as front_co, back_known as back_co, joined_known as joined_co, told_by}
 use Rattle.co_schedule.specs.Calls.{IsSeatOf as IsCoSeatOf}
-use Rattle.loop_threads.specs.declared.seats.LoopShared.{LoopShared}
+use Rattle.loop_threads.specs.declared.shared.LoopShared.{LoopShared}
 use Rattle.loop_threads.specs.declared.seats.Seats.{Seats}
 use Rattle.loop_threads.specs.declared.rows.Row.{Row}
 

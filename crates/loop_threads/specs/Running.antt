@@ -1,6 +1,8 @@
 -- A run of loops.
 use Rattle.std.specs.Prelude.{◌≡◌, ℕ, ◌<◌, ◌≤◌, ◌+◌, ◌-◌, ◌*◌, IsFalse, Bool, List, length, slice_index_or, vec_len, vec_capacity}
-use Rattle.loop_threads.specs.declared.seats.LoopShared.{LoopShared}
+use Rattle.loop_threads.specs.declared.shared.LoopShared.{LoopShared}
+use Rattle.loop_threads.specs.declared.rows.Row.{Row}
+use Rattle.loop_threads.specs.Within.{RowWithin}
 use Rattle.loop_threads.specs.declared.opening.Homes.{Homes}
 use Rattle.loop_threads.specs.declared.parts.Part.{Part}
 use Rattle.loop_threads.specs.declared.members.Member.{Member}
@@ -54,12 +56,14 @@ module _ {C W O : Type 0} (can_work : W → List (LoopShared C O) → LoopState 
     pub room : HasRoom (length shared) prepared
 
 module _ {C W O : Type 0} (can_work : W → List (LoopShared C O) → LoopState C O → Type 0) (does : W → LoopState C O → Bool → W → LoopState C O → Type 0) where
-  -- the loop was carried from this part to its end
-  pub record Runs (shared : List (LoopShared C O)) (part : Part C W O) (member : Member C W O) : Type 0 where
+  -- The loop was carried from this part to its end. What its thread had seen and made on each table then stands in what the row of all
+  -- numbers has seen.
+  pub record Runs (shared : List (LoopShared C O)) (row : Row C O) (part : Part C W O) (member : Member C W O) : Type 0 where
     pub last : Part C W O
     pub carried : IsCarried can_work does shared part last
     pub is : IsOfPart last member
+    pub within : RowWithin (length shared) last.row.seats.items row.seats.items
 
-  abbrev pub RunsEach : List (LoopShared C O) → ℕ → List (Part C W O) → List (Member C W O) → Type 0
-  RunsEach shared n parts members =
-      (k j : ℕ) (p : Part C W O) (m : Member C W O) → k + j + 1 ≡ n → Runs shared (slice_index_or parts j p) (slice_index_or members k m)
+  abbrev pub RunsEach : List (LoopShared C O) → Row C O → ℕ → List (Part C W O) → List (Member C W O) → Type 0
+  RunsEach shared row n parts members =
+      (k j : ℕ) (p : Part C W O) (m : Member C W O) → k + j + 1 ≡ n → Runs shared row (slice_index_or parts j p) (slice_index_or members k m)

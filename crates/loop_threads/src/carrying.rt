@@ -3,7 +3,7 @@ ghost use Rattle.std.specs.Prelude.{◌≡◌, ◌<◌, ◌≤◌, ◌+◌, leng
 ghost use Rattle.loop_threads.specs.Parts.{IsPart, ComesFrom, IsCarried, AllParts, AllComeReversed, AllCarried, HaveEnded};
 
 use crate::parts::Part;
-use crate::seats::LoopShared;
+use crate::shared::LoopShared;
 use crate::stations::LoopWork;
 use co_state::Origin;
 use std::sync::Wait;

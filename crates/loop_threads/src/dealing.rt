@@ -4,7 +4,7 @@ ghost use Rattle.loop_threads.specs.Rows.{IsRow, HasNumbers};
 ghost use Rattle.loop_threads.specs.Dealing.{IsDoubled, ArePairs};
 
 use crate::rows::Row;
-use crate::seats::LoopShared;
+use crate::shared::LoopShared;
 use aio_model::NoMemory;
 use co_state::Origin;
 use std::alloc::Global;

@@ -11,7 +11,8 @@ ghost use Rattle.loop_threads.specs.Members.{MembersEach};
 ghost use Rattle.loop_threads.specs.Ending.{IsRest, IsLast, EndsLoop, EndsEach, FallsAsleep};
 
 use crate::members::{Crew, Member};
-use crate::seats::{LoopShared, Seats};
+use crate::seats::Seats;
+use crate::shared::LoopShared;
 use aio_bh::LotPass;
 use aio_core::{Home, LoopTable, Seat};
 use aio_loop::Side;

@@ -11,7 +11,9 @@ mod preparing;
 mod rows;
 mod running;
 mod seats;
+mod shared;
 mod stations;
+mod stepping;
 mod threads;
 
 pub use ending::LoopRun;
@@ -20,5 +22,6 @@ pub use opening::{Homes, Opened, open};
 pub use parts::Part;
 pub use preparing::{Hand, Prepared, prepare};
 pub use rows::Row;
-pub use seats::{LoopShared, Seats};
+pub use seats::Seats;
+pub use shared::LoopShared;
 pub use stations::{LoopWork, Station};

@@ -4,7 +4,8 @@ ghost use Rattle.loop_threads.specs.Rows.{IsAt};
 ghost use Rattle.loop_threads.specs.Opening.{IsNewLoop, AreHomesOf, AreNew};
 
 use crate::rows::Row;
-use crate::seats::{LoopShared, Seats};
+use crate::seats::Seats;
+use crate::shared::LoopShared;
 use aio_bh::{LotBuilt, LotPass, LotPool};
 use aio_core::{Built, Home, LoopTable};
 use aio_model::NoMemory;
@@ -71,6 +72,7 @@ fn put_together<C: Origin + Drop>(
     lots: LotBuilt,
     entered: CoBuilt<C>,
 ) -> OpenedLoop<C>
+    requires sizes { (bottoms.table.sizes.handles ≡ 1) × (bottoms.table.sizes.lots ≡ 0) × (bottoms.table.sizes.events ≡ 1) }
     ensures shared { (result.shared.bottoms ≡ bottoms.table) × (result.shared.pool ≡ lots.pool) × (result.shared.coroutines ≡ entered.table) }
     ensures homes { (result.homes.home ≡ bottoms.home) × (result.homes.lot_pass ≡ lots.home) × (result.homes.coroutines ≡ entered.home) }
     ensures seats { (result.seats.bottoms ≡ bottoms.seat) × (result.seats.coroutines ≡ entered.seat) }

@@ -3,7 +3,7 @@ ghost use Rattle.std.specs.Prelude.{◌≡◌, false};
 ghost use Rattle.loop_threads.specs.Parts.{IsPart, TakesTurn};
 
 use crate::rows::Row;
-use crate::seats::LoopShared;
+use crate::shared::LoopShared;
 use crate::stations::{LoopWork, Station};
 use aio_bh::LotPass;
 use aio_core::Home;

@@ -12,7 +12,7 @@ use crate::members::Member;
 use crate::opening::Homes;
 use crate::parts::Part;
 use crate::rows::Row;
-use crate::seats::LoopShared;
+use crate::shared::LoopShared;
 use crate::stations::LoopWork;
 use aio_loop::Side;
 use aio_model::NoMemory;

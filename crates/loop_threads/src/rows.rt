@@ -2,7 +2,8 @@
 ghost use Rattle.std.specs.Prelude.{◌≡◌, ◌<◌, ◌≤◌, ◌+◌, ◌*◌, MatchResult};
 ghost use Rattle.loop_threads.specs.Rows.{IsRow, DividesRow, UnitesRow};
 
-use crate::seats::{LoopShared, Seats, divide, unite};
+use crate::seats::{Seats, divide, unite};
+use crate::shared::LoopShared;
 use aio_model::NoMemory;
 use co_state::Origin;
 use std::alloc::Global;

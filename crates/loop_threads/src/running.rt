@@ -7,7 +7,7 @@ ghost use Rattle.loop_threads.specs.Running.{IsPrepared, RunsEach};
 use crate::carrying::quieten;
 use crate::members::{Crew, join_all};
 use crate::preparing::Prepared;
-use crate::seats::LoopShared;
+use crate::shared::LoopShared;
 use crate::stations::LoopWork;
 use crate::threads::carry_all;
 use co_state::Origin;
@@ -21,7 +21,7 @@ impl<C: Origin + Drop + Send, W: LoopWork<C> + Drop + Send> Prepared<C, W> {
     pub fn run<R: Threads + Wait + Sync>(self, rt: &R, shared: &[LoopShared<C>]) -> Crew<C, W>
         requires prepared { IsPrepared W.can_work shared.now self }
         ensures row { IsRow shared.now result.row × HasNumbers 0 64 result.row }
-        ensures members { (vec_len result.members ≡ length shared.now) × RunsEach W.can_work W.does shared.now (length shared.now) self.parts.items result.members.items }
+        ensures members { (vec_len result.members ≡ length shared.now) × RunsEach W.can_work W.does shared.now result.row (length shared.now) self.parts.items result.members.items }
         ensures homes { MembersEach (length shared.now) shared.now result.members.items }
         ensures room { (vec_len result.ends ≡ 0) × (length shared.now ≤ vec_capacity result.ends) }
     {

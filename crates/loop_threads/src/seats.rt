@@ -1,19 +1,11 @@
-//! What all threads share of a loop, and a seat of it.
+//! A seat of a loop's two tables.
 ghost use Rattle.std.specs.Prelude.{◌≡◌, ◌<◌, ◌≤◌, ◌+◌, ◌*◌};
 ghost use Rattle.loop_threads.specs.Rows.{IsAt, Divides, Unites};
 
-use aio_bh::LotPool;
-use aio_core::{LoopTable, Seat};
-use co_schedule::{CoSeat, CoTable};
+use crate::shared::LoopShared;
+use aio_core::Seat;
+use co_schedule::CoSeat;
 use co_state::Origin;
-
-/// The tables of one loop, and the pool of its lots.
-#[derive(Drop)]
-pub struct LoopShared<C: Origin> {
-    pub bottoms: LoopTable<()>,
-    pub pool: LotPool,
-    pub coroutines: CoTable<C>,
-}
 
 /// A seat of each table of one loop. Both have the same numbers.
 #[derive(Drop)]

@@ -1,10 +1,13 @@
 //! What a thread has of its loop while it carries it, and what it does there.
 ghost use Rattle.std.specs.Prelude.{◌≡◌};
+ghost use Rattle.aio_loop.specs.Walks.{loop_far};
+ghost use Rattle.aio_loop.specs.Turns.{Turns};
 ghost use Rattle.loop_threads.specs.LoopStates.{at_loop, IsStation, TurnsOn, KeepsPlace};
 
 use crate::rows::Row;
-use crate::seats::LoopShared;
-use aio_loop::AioLoop;
+use crate::shared::LoopShared;
+use aio_loop::{AioLoop, LoopRunner, Turned};
+use aio_words::Clock;
 use co_schedule::CoHome;
 use co_state::Origin;
 use std::sync::Wait;
@@ -18,10 +21,35 @@ pub struct Station<'a, C: Origin> {
     pub row: Row<C>,
 }
 
+impl<'a, C: Origin + Drop> Station<'a, C> {
+    /// One turn of the loop, by a runner that needs neither the row nor the coroutines: see `AioLoop::turn`. All else that the station
+    /// has is as before.
+    pub fn turn<R: LoopRunner<()>, W: Wait, K: Clock>(
+        &mut self,
+        rt: &W,
+        shared: &[LoopShared<C>],
+        runner: &mut R,
+        clock: &mut K,
+        block: bool,
+    ) -> Turned
+        requires station { IsStation shared.now (at_loop self.old.number self.old.turning.home.seat self.old.turning.side self.old.turning.lot_pass self.old.coroutines self.old.row) }
+        requires turning { TurnsOn shared.now self.old.number self.old.turning.table.now self.old.turning.pool.now }
+        requires can_run { R.can_run runner.old self.old.turning.table.now.sizes self.old.turning.side.timers.made }
+        ensures station { IsStation shared.now (at_loop self.new.number self.new.turning.home.seat self.new.turning.side self.new.turning.lot_pass self.new.coroutines self.new.row) }
+        ensures same { (self.new.number ≡ self.old.number) × (self.new.row ≡ self.old.row) × (self.new.coroutines ≡ self.old.coroutines) }
+        ensures turning { (self.new.turning.table ≡ self.old.turning.table) × (self.new.turning.pool ≡ self.old.turning.pool) }
+        ensures can_run { R.can_run runner.new self.old.turning.table.now.sizes self.new.turning.side.timers.made }
+        ensures turns { Turns R.does self.old.turning.pool.now block self.old.turning.table.now.sizes.events result (K.time clock.old) (K.time clock.new) self.old.turning.lot_pass self.new.turning.lot_pass (loop_far self.old.turning.home.seat.known self.old.turning.side runner.old) (loop_far self.new.turning.home.seat.known self.new.turning.side runner.new) }
+    {
+        let _own = &shared[self.number];
+        self.turning.turn(rt, runner, clock, block)
+    }
+}
+
 /// What is done on a loop, turn by turn. The store of its coroutines, its clock and the like are the implementor's own.
 pub trait LoopWork<C: Origin + Drop> {
     ghost use Rattle.std.specs.Prelude.{Bool, List};
-    ghost use Rattle.loop_threads.specs.declared.seats.LoopShared.{LoopShared};
+    ghost use Rattle.loop_threads.specs.declared.shared.LoopShared.{LoopShared};
     ghost use Rattle.loop_threads.specs.LoopStates.{LoopState};
 
     /// What it needs of all loops and of its own before each turn.

@@ -4,7 +4,7 @@ ghost use Rattle.loop_threads.specs.Parts.{IsPart, ComesFrom, IsCarried, AllPart
 
 use crate::carrying::{carry, carry_left};
 use crate::parts::Part;
-use crate::seats::LoopShared;
+use crate::shared::LoopShared;
 use crate::stations::LoopWork;
 use co_state::Origin;
 use std::snapshot::Snapshot;

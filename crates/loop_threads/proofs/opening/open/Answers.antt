@@ -1,5 +1,5 @@
 use Rattle.std.proofs.Common.{rules, ◌≡◌, ◌<◌, ◌≤◌, ◌+◌, ◌∙◌, ◌∷◌, [], ◌++◌, ap, sym, subst, refl, arith, length, ℕ, vec_len, List, slice_index_or}
-use Rattle.loop_threads.specs.declared.seats.LoopShared.{LoopShared}
+use Rattle.loop_threads.specs.declared.shared.LoopShared.{LoopShared}
 use Rattle.loop_threads.specs.declared.seats.Seats.{Seats}
 use Rattle.loop_threads.specs.declared.opening.Homes.{Homes}
 use Rattle.loop_threads.specs.Rows.{IsAt, EachAt}

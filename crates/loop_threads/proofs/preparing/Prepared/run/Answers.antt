@@ -33,5 +33,5 @@ returns-clause-members g c =
     let m : vec_len c.quieten.new.parts ≡ length c.args.shared.now = omega (arith, now.len, was.0, n) in
     let all = carried_twice g.W.LoopWork.can_work g.W.LoopWork.does c.args.shared.now (vec_len parts) parts.items done.items c.quieten.new.parts.items was.1 (λ k p q lt. now.carried k p q (omega (arith, lt, was.0))) in (
       (joined.0 ∙ m),
-      runs_each g.W.LoopWork.can_work g.W.LoopWork.does c.args.shared.now (length c.args.shared.now) parts.items c.quieten.new.parts.items c.join_all.result.members.items (λ k p q lt. all k p q (omega (arith, lt, n))) (λ k j p q at. joined.1 k j p q (omega (arith, at, m))),
+      runs_each g.W.LoopWork.can_work g.W.LoopWork.does c.args.shared.now (length c.args.shared.now) parts.items c.quieten.new.parts.items c.join_all.result.members.items c.join_all.result.row (λ k p q lt. all k p q (omega (arith, lt, n))) (λ k j p q at. joined.1 k j p q (omega (arith, at, m))) c.join_all.ensures.rows,
     )
