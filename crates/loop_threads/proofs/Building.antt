@@ -1,5 +1,5 @@
 -- Loops as they are built, one after another.
-use Rattle.std.proofs.Common.{◌≡◌, ℕ, ◌<◌, ◌≤◌, ◌+◌, List, [], ◌∷◌, ◌++◌, length, slice_index_or, subst, sym, ap, ◌∙◌, refl, arith, true}
+use Rattle.std.proofs.Common.{◌≡◌, ℕ, ◌<◌, ◌+◌, List, [], ◌∷◌, ◌++◌, length, slice_index_or, subst, sym, ap, ◌∙◌, arith}
 use Rattle.std.proofs.lemmas.List.{get_or_at, get_or_append_left}
 use Rattle.aio_model.specs.LoopHistory.{Sizes}
 use Rattle.lot_pool.specs.Pools.{PassState}
@@ -10,7 +10,7 @@ use Rattle.loop_threads.specs.declared.seats.Seats.{Seats}
 use Rattle.loop_threads.specs.declared.opening.Homes.{Homes}
 use Rattle.loop_threads.specs.Rows.{IsAt}
 use Rattle.loop_threads.specs.Opening.{IsNewLoop, AreHomesOf}
-use Rattle.loop_threads.proofs.Places.{at_push, both_pushed}
+use Rattle.loop_threads.proofs.Places.{at_push}
 
 -- a fact of each three of three lists, as all grow
 pub three_pushed : {X Y Z : Type 0} (P : X → Y → Z → Type 0) (xs : List X) (ys : List Y) (zs : List Z) (n : ℕ) (x : X) (y : Y) (z : Z) → length xs ≡ n → length ys ≡ n → length zs ≡ n

@@ -1,5 +1,5 @@
 -- Rows of two numbers, as they are cut and joined.
-use Rattle.std.proofs.Common.{◌≡◌, ℕ, zero, suc, ◌<◌, ◌≤◌, ◌+◌, ◌-◌, ◌*◌, ◌/◌, Result, Ok, Err, IfOk, List, [], ◌∷◌, ◌++◌, length, slice_index_or, subst, sym, ap, ◌∙◌, refl, arith}
+use Rattle.std.proofs.Common.{◌≡◌, ℕ, zero, suc, ◌<◌, ◌≤◌, ◌-◌, ◌*◌, Result, Ok, Err, IfOk, List, [], ◌∷◌, ◌++◌, length, slice_index_or, subst, sym, refl, arith}
 use Rattle.loop_threads.specs.declared.shared.LoopShared.{LoopShared}
 use Rattle.loop_threads.specs.declared.rows.Row.{Row}
 use Rattle.loop_threads.specs.Rows.{IsRow, HasNumbers}

@@ -1,15 +1,14 @@
 -- What a joined seat has made stands in what the other has seen, and goes on standing there as more are joined.
-use Rattle.std.proofs.Common.{◌≡◌, ℕ, ◌+◌, ◌<◌, ◌≤◌, Bool, true, not, ltb, List, [], ◌++◌, length, length-append, slice_index_or, refl, sym, ap, ◌∙◌, subst, arith}
+use Rattle.std.proofs.Common.{◌≡◌, ℕ, ◌+◌, ◌≤◌, true, not, ltb, List, [], ◌++◌, length, length-append, refl, sym, ap, ◌∙◌, subst, arith}
 use Rattle.std.proofs.lemmas.Bool.{and_parts, and_from, not_from_false, not-true, lt-ltb, le-ltb, ltb-true, ltb-false}
 use Rattle.std.proofs.lemmas.List.{nil_from_length, append_assoc}
 use Rattle.aio_model.specs.LoopHistory.{History}
 use Rattle.aio_model.specs.LoopSeats.{Numbers, owns, own_entries}
 use Rattle.aio_model.specs.CoroutineHistory.{Entry as CoEntry, seat_of}
 use Rattle.aio_core.specs.Known.{Known, numbers_of}
-use Rattle.aio_core.specs.Rule.{IsPart}
 use Rattle.aio_core.proofs.Entries.{own-append}
 use Rattle.aio_core.proofs.Splitting.{own_fewer}
-use Rattle.table_seats.specs.Seats.{Numbers as CoNumbers, owns as co_owns, own_entries as own_of, IsPart as IsCoPart}
+use Rattle.table_seats.specs.Seats.{Numbers as CoNumbers, owns as co_owns, own_entries as own_of}
 use Rattle.table_seats.proofs.Entries.{own-append as co_own-append}
 use Rattle.table_seats.proofs.Splitting.{own_fewer as co_own_fewer}
 use Rattle.co_schedule.specs.Known.{Known as CoKnown, numbers_of as co_numbers_of}

@@ -1,9 +1,6 @@
 -- Members and the parts that they were.
 use Rattle.std.proofs.Common.{◌≡◌, ℕ, ◌<◌, ◌≤◌, ◌+◌, List, [], ◌∷◌, ◌++◌, length, slice_index_or, subst, sym, ap, ◌∙◌, refl, arith}
 use Rattle.std.proofs.lemmas.List.{get_or_at, get_or_default}
-use Rattle.loop_threads.specs.declared.parts.Part.{Part}
-use Rattle.loop_threads.specs.declared.members.Member.{Member}
-use Rattle.loop_threads.specs.Members.{IsOfPart}
 use Rattle.loop_threads.proofs.Places.{at_push, longer}
 
 -- the last of a list, where the list it was taken from stands as it was

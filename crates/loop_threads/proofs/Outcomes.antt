@@ -1,14 +1,14 @@
 -- What a run comes to, from what its parts came to.
-use Rattle.std.proofs.Common.{◌≡◌, ℕ, ◌<◌, ◌≤◌, ◌+◌, Bool, List, length, slice_index_or, subst, sym, ap, ◌∙◌, refl, arith}
+use Rattle.std.proofs.Common.{◌≡◌, ℕ, Bool, List, length, slice_index_or, arith}
 use Rattle.loop_threads.specs.declared.shared.LoopShared.{LoopShared}
 use Rattle.loop_threads.specs.declared.rows.Row.{Row}
 use Rattle.loop_threads.specs.Within.{RowsWithin}
 use Rattle.loop_threads.specs.declared.parts.Part.{Part}
 use Rattle.loop_threads.specs.declared.members.Member.{Member}
 use Rattle.loop_threads.specs.LoopStates.{LoopState}
-use Rattle.loop_threads.specs.Parts.{IsPart, AllParts, InReverse, ComesFrom, IsCarried, AllCarried}
+use Rattle.loop_threads.specs.Parts.{AllParts, InReverse, AllCarried}
 use Rattle.loop_threads.specs.Members.{AreOfParts}
-use Rattle.loop_threads.specs.Running.{Runs, RunsEach}
+use Rattle.loop_threads.specs.Running.{RunsEach}
 use Rattle.loop_threads.proofs.Coming.{carried_through}
 
 module _ {C W O : Type 0} (can_work : W → List (LoopShared C O) → LoopState C O → Type 0) (does : W → LoopState C O → Bool → W → LoopState C O → Type 0) (shared : List (LoopShared C O)) where

@@ -1,5 +1,5 @@
 -- A row, where one seat of it stepped.
-use Rattle.std.proofs.Common.{◌≡◌, ℕ, ◌<◌, ◌≤◌, ◌+◌, List, length, slice_index_or, slice_set, subst, ◌∙◌, arith}
+use Rattle.std.proofs.Common.{◌≡◌, ℕ, ◌<◌, List, length, slice_index_or, slice_set, subst, ◌∙◌, arith}
 use Rattle.std.proofs.lemmas.List.{get_or_default}
 use Rattle.loop_threads.specs.declared.shared.LoopShared.{LoopShared}
 use Rattle.loop_threads.specs.declared.seats.Seats.{Seats}

@@ -1,10 +1,10 @@
 -- Rows, seat by seat.
-use Rattle.std.proofs.Common.{◌≡◌, ℕ, ◌<◌, ◌≤◌, ◌+◌, List, [], ◌∷◌, ◌++◌, length, slice_index_or, slice_set, subst, sym, ap, ◌∙◌, refl, arith}
+use Rattle.std.proofs.Common.{◌≡◌, ℕ, ◌<◌, ◌+◌, List, [], ◌∷◌, ◌++◌, length, slice_index_or, slice_set, subst, sym, ap, ◌∙◌, refl, arith}
 use Rattle.std.proofs.lemmas.List.{get_or_at, get_or_default}
 use Rattle.loop_threads.proofs.Places.{at_set, of_read, as_read}
 use Rattle.loop_threads.specs.declared.shared.LoopShared.{LoopShared}
 use Rattle.loop_threads.specs.declared.seats.Seats.{Seats}
-use Rattle.loop_threads.specs.Rows.{IsAt, EachAt, Divides, Unites, DividesEach, UnitesEach}
+use Rattle.loop_threads.specs.Rows.{IsAt, EachAt, Unites, DividesEach, UnitesEach}
 
 -- the same numbers, written otherwise
 pub renumbered : {C O : Type 0} {shared : LoopShared C O} {seats : Seats C O} {first first' count count' : ℕ} → first ≡ first' → count ≡ count' → IsAt first count shared seats → IsAt first' count' shared seats

@@ -1,15 +1,11 @@
 -- Loops that no thread carries now.
-use Rattle.std.specs.Prelude.{◌≡◌, ℕ, ◌<◌, ◌+◌, ◌*◌, Bool, List, length, slice_index_or}
+use Rattle.std.specs.Prelude.{◌≡◌, ℕ, ◌<◌, ◌+◌, List, slice_index_or}
 use Rattle.aio_bh.specs.OneShots.{ServesHome}
 use Rattle.aio_loop.specs.Homes.{IsHomeFree}
 use Rattle.co_schedule.specs.Calls.{IsSeatOf as IsCoSeatOf}
 use Rattle.loop_threads.specs.declared.shared.LoopShared.{LoopShared}
-use Rattle.loop_threads.specs.declared.rows.Row.{Row}
 use Rattle.loop_threads.specs.declared.parts.Part.{Part}
 use Rattle.loop_threads.specs.declared.members.Member.{Member}
-use Rattle.loop_threads.specs.LoopStates.{LoopState, at_loop, IsStation}
-use Rattle.loop_threads.specs.Rows.{IsRow, HasNumbers}
-use Rattle.loop_threads.specs.Parts.{IsCarried}
 
 -- it has all of the part but number and row
 pub record IsOfPart {C W O : Type 0} (part : Part C W O) (member : Member C W O) : Type 0 where

@@ -8,7 +8,6 @@ use Rattle.lot_pool.specs.Pools.{PassState, IsNew as IsNewPool}
 use Rattle.co_schedule.specs.Calls.{IsSeatOf as IsCoSeatOf, IsNew as IsNewCo}
 use Rattle.loop_threads.specs.declared.shared.LoopShared.{LoopShared}
 use Rattle.loop_threads.specs.declared.seats.Seats.{Seats}
-use Rattle.loop_threads.specs.declared.rows.Row.{Row}
 use Rattle.loop_threads.specs.declared.opening.Homes.{Homes}
 use Rattle.loop_threads.specs.declared.opening.Opened.{Opened}
 use Rattle.loop_threads.specs.Rows.{IsRow, HasNumbers}

@@ -1,4 +1,3 @@
-use Rattle.std.proofs.Common.{◌≡◌}
 use Rattle.loop_threads.specs.Parts.{ComesFrom}
 use Rattle.loop_threads.proofs.carrying.carry.Given as goal
 

@@ -1,6 +1,6 @@
-use Rattle.std.proofs.Common.{◌≡◌, ◌<◌, ◌≤◌, ◌+◌, ◌∙◌, sym, ap, subst, arith, length, vec_len, ℕ, List}
+use Rattle.std.proofs.Common.{◌≡◌, ◌∙◌, subst, arith, vec_len, ℕ, List}
 use Rattle.loop_threads.specs.declared.parts.Part.{Part}
-use Rattle.loop_threads.specs.Parts.{HaveEnded, AllComeReversed, AllComeFrom}
+use Rattle.loop_threads.specs.Parts.{HaveEnded, AllComeReversed}
 use Rattle.loop_threads.proofs.Coming.{all_ended, all_parts, all_through, reversed_parts, reversed_twice}
 use Rattle.loop_threads.proofs.carrying.carry_left.Goals as goal
 

@@ -1,4 +1,4 @@
-use Rattle.std.proofs.Common.{◌≡◌, ◌≤◌, vec_len, vec_capacity}
+use Rattle.std.proofs.Common.{◌≡◌, vec_len, vec_capacity}
 use Rattle.loop_threads.specs.Parts.{AllComeFrom}
 use Rattle.loop_threads.proofs.carrying.quieten.Given as goal
 

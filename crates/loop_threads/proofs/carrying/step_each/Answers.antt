@@ -1,4 +1,4 @@
-use Rattle.std.proofs.Common.{◌≡◌, ◌<◌, ◌≤◌, ◌+◌, ◌∙◌, sym, ap, subst, arith, length, vec_len, ℕ, List, [], ◌∷◌, ◌++◌, slice_index_or}
+use Rattle.std.proofs.Common.{◌≡◌, ◌∙◌, sym, ap, subst, arith, length, vec_len, List, [], ◌∷◌, slice_index_or}
 use Rattle.std.proofs.lemmas.List.{get_or_append_left}
 use Rattle.loop_threads.specs.declared.parts.Part.{Part}
 use Rattle.loop_threads.specs.Parts.{IsPart, ComesFrom}

@@ -1,5 +1,4 @@
-use Rattle.std.proofs.Common.{◌≡◌, ◌<◌, ◌≤◌, ◌+◌, ◌-◌, ◌*◌, ◌/◌, ◌∙◌, ap, sym, subst, refl, arith, length, vec_len, ℕ}
-use Rattle.loop_threads.specs.Dealing.{ArePairs}
+use Rattle.std.proofs.Common.{arith}
 use Rattle.loop_threads.proofs.Dealt.{halved, some_doubled, not_doubled, pairs_pushed, ok_more}
 use Rattle.loop_threads.proofs.dealing.+cut_in_pairs.Goals as goal
 

@@ -1,4 +1,4 @@
-use Rattle.std.proofs.Common.{◌≡◌, ◌<◌, ◌≤◌, ◌+◌, ◌-◌, ◌*◌, ◌∙◌, ap, sym, subst, refl, arith, rules, length, ℕ, vec_len, List, ◌++◌, ◌∷◌, [], slice_index_or}
+use Rattle.std.proofs.Common.{◌≡◌, ◌≤◌, ◌+◌, ◌∙◌, ap, sym, subst, refl, arith, length, ℕ, vec_len, List, ◌∷◌, [], slice_index_or}
 use Rattle.std.proofs.lemmas.Bool.{cases_eq}
 use mathlib.Core.Logic.{⊎_elim}
 use Rattle.std.proofs.lemmas.List.{get_or_append_left, get_or_default}
@@ -74,14 +74,14 @@ loop-part-preserved g c =
       (λ some t s lt. united_own (c.join.ensures.each t (some_of T t lt) s s s (omega arith) lt)),
       (λ j p low high t s w lt. ⊎_elim
           (λ (is : j ≡ length rest.items). subst (λ (x : Part _ _ _). IsWithin (slice_index_or x.row.seats.items t s) (slice_index_or c.join.new.self.seats.items t w)) (at ∙ get_or_default orig.items (length rest.items) v p (omega (arith, n, all.ok.0, was.0, c.requires.parts.2, orig.ok.0)) ∙ ap (λ (i : ℕ). slice_index_or orig.items i p) (sym is))
-              (just_joined (c.join.ensures.each t (some_of T t lt) w s w (omega arith) lt)))
+          (just_joined (c.join.ensures.each t (some_of T t lt) w s w (omega arith) lt)))
           (λ (ne : j ≡ length rest.items → ⊥).
-            let less : vec_len all ≤ j = grind (arith, low, ne, n, all.ok.0, rest.ok.0) in
-            let before = c.requires.parts.0 j p (omega (arith, high, c.requires.parts.2, orig.ok.0)) in
-            let order = c.requires.parts.1 j p (omega (arith, high, c.requires.parts.2, orig.ok.0)) in
-            within_still _ _ _ _ (slice_index_or T t (some_of T t lt)) (before.station.row.each t (some_of T t lt) s lt) (was.3.each t (some_of T t lt) w lt)
-              (omega (arith, was.4.first_is)) (omega (arith, was.4.first_is, was.4.count_is, before.numbers.first_is, before.numbers.count_is, order, less, was.0, c.requires.parts.2, orig.ok.0, c.requires.few))
-              (was.7 j p less high t s w lt) (was.6 (omega (arith, less, high, was.0)) t w lt) (c.join.ensures.each t (some_of T t lt) w (slice_index_or v.row.seats.items t s) w (omega arith) lt))
+          let less : vec_len all ≤ j = grind (arith, low, ne, n, all.ok.0, rest.ok.0) in
+          let before = c.requires.parts.0 j p (omega (arith, high, c.requires.parts.2, orig.ok.0)) in
+          let order = c.requires.parts.1 j p (omega (arith, high, c.requires.parts.2, orig.ok.0)) in
+          within_still _ _ _ _ (slice_index_or T t (some_of T t lt)) (before.station.row.each t (some_of T t lt) s lt) (was.3.each t (some_of T t lt) w lt)
+          (omega (arith, was.4.first_is)) (omega (arith, was.4.first_is, was.4.count_is, before.numbers.first_is, before.numbers.count_is, order, less, was.0, c.requires.parts.2, orig.ok.0, c.requires.few))
+          (was.7 j p less high t s w lt) (was.6 (omega (arith, less, high, was.0)) t w lt) (c.join.ensures.each t (some_of T t lt) w (slice_index_or v.row.seats.items t s) w (omega arith) lt))
           (cases_eq j (length rest.items))),
       (λ k j p m h lt. subst (λ (xs : List (Member _ _ _)). IsOfPart (slice_index_or orig.items j p) (slice_index_or xs k m)) (sym pushed.items)
           (member_more (λ (x : Part _ _ _) (y : Member _ _ _). IsOfPart x y) orig.items all.items rest.items done.items v made (length c.args.shared.now) e (omega (arith, was.0, all.ok.0, done.ok.0)) (omega (arith, c.requires.parts.2, orig.ok.0)) same

@@ -1,4 +1,4 @@
-use Rattle.std.proofs.Common.{rules, ◌≡◌, ◌<◌, ◌≤◌, ◌+◌, ◌∙◌, ◌∷◌, [], ◌++◌, ap, sym, subst, refl, arith, length, ℕ, vec_len, List, slice_index_or}
+use Rattle.std.proofs.Common.{rules, ◌≡◌, ◌+◌, ◌∷◌, [], ◌++◌, sym, subst, refl, arith, length, ℕ, List}
 use Rattle.loop_threads.specs.declared.shared.LoopShared.{LoopShared}
 use Rattle.loop_threads.specs.declared.seats.Seats.{Seats}
 use Rattle.loop_threads.specs.declared.opening.Homes.{Homes}

@@ -1,4 +1,4 @@
-use Rattle.std.proofs.Common.{rules, ◌≡◌, ◌<◌, ◌≤◌, ◌+◌, ◌-◌, ◌*◌, ◌∙◌, ap, sym, subst, refl, arith, length, ℕ, vec_len}
+use Rattle.std.proofs.Common.{refl, arith}
 use Rattle.loop_threads.proofs.preparing.prepare.Goals as goal
 
 pub cut_in_pairs-requires-clause-count : goal.cut_in_pairs-requires-clause-count

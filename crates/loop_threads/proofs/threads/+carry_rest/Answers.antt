@@ -1,7 +1,6 @@
-use Rattle.std.proofs.Common.{◌≡◌, ◌<◌, ◌≤◌, ◌+◌, ◌∙◌, ap, sym, subst, refl, arith, rules, length, ℕ, vec_len, Vec, Global, ◌++◌, ◌∷◌, []}
+use Rattle.std.proofs.Common.{◌≡◌, ◌∙◌, sym, subst, arith, rules, vec_len, Vec, Global, ◌++◌, ◌∷◌, []}
 use Rattle.loop_threads.specs.declared.parts.Part.{Part}
-use Rattle.loop_threads.specs.declared.threads.ComesBack.{ComesBack}
-use Rattle.loop_threads.specs.Parts.{IsPart, ComesFrom, IsCarried, AllCarried}
+use Rattle.loop_threads.specs.Parts.{IsPart, ComesFrom, AllCarried}
 use Rattle.loop_threads.proofs.Places.{longer}
 use Rattle.loop_threads.proofs.Coming.{carried_through}
 use Rattle.loop_threads.proofs.Handing.{parts_popped, parts_pushed, carried_pushed, taken}

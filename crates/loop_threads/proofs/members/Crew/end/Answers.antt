@@ -1,4 +1,4 @@
-use Rattle.std.proofs.Common.{◌≡◌, ◌<◌, ◌≤◌, ◌+◌, ◌∙◌, ap, sym, subst, refl, arith, length, ℕ, vec_len}
+use Rattle.std.proofs.Common.{arith}
 use Rattle.loop_threads.proofs.Rowing.{renumbered}
 use Rattle.loop_threads.proofs.members.Crew.end.Goals as goal
 

@@ -1,6 +1,4 @@
-use Rattle.std.proofs.Common.{rules, ◌≡◌, ◌<◌, ◌≤◌, ◌+◌, ◌∙◌, ap, sym, subst, refl, arith, length, ℕ, vec_len}
-use Rattle.loop_threads.specs.Parts.{AllCarried}
-use Rattle.loop_threads.specs.Members.{AreOfParts}
+use Rattle.std.proofs.Common.{◌≡◌, ◌∙◌, arith, length, vec_len}
 use Rattle.loop_threads.proofs.Outcomes.{carried_parts, carried_twice, carried_order, runs_each}
 use Rattle.loop_threads.proofs.preparing.Prepared.run.Goals as goal
 

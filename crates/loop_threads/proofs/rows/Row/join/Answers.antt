@@ -1,9 +1,9 @@
-use Rattle.std.proofs.Common.{rules, ◌≡◌, ◌<◌, ◌≤◌, ◌+◌, ◌*◌, ◌∙◌, ap, sym, subst, refl, arith, length, ℕ, List, [], ◌∷◌, ◌++◌, vec_len, slice_index_or, length-set}
+use Rattle.std.proofs.Common.{rules, ◌≡◌, ◌<◌, ◌+◌, ◌∙◌, ap, sym, subst, refl, arith, length, ℕ, [], ◌∷◌, vec_len, slice_index_or, length-set}
 use Rattle.std.proofs.lemmas.List.{get_or-set_other, get_or_append_left, get_or_at}
 use Rattle.loop_threads.specs.declared.shared.LoopShared.{LoopShared}
 use Rattle.loop_threads.specs.declared.seats.Seats.{Seats}
-use Rattle.loop_threads.specs.Rows.{IsAt, Unites, UnitesEach}
-use Rattle.loop_threads.proofs.Places.{at_set, of_read, as_read, longer}
+use Rattle.loop_threads.specs.Rows.{IsAt, UnitesEach}
+use Rattle.loop_threads.proofs.Places.{as_read, longer}
 use Rattle.loop_threads.proofs.Rowing.{renumbered, unite_each, popped_seat, united_more}
 use Rattle.loop_threads.proofs.rows.Row.join.Goals as goal
 

@@ -1,4 +1,4 @@
-use Rattle.std.proofs.Common.{◌≡◌, ◌∙◌, refl, length, ℕ, length-set}
+use Rattle.std.proofs.Common.{◌∙◌, refl, length-set}
 use Rattle.loop_threads.proofs.RowSteps.{each_set}
 use Rattle.loop_threads.proofs.rows.Row.set_event.Goals as goal
 

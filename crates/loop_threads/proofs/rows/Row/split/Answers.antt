@@ -1,4 +1,4 @@
-use Rattle.std.proofs.Common.{◌≡◌, ◌<◌, ◌≤◌, ◌+◌, ◌*◌, ◌∙◌, ap, sym, length, ℕ, arith, refl, subst, vec_len, slice_index_or, slice_set, rules, length-set, List, ◌++◌, ◌∷◌, []}
+use Rattle.std.proofs.Common.{◌≡◌, ◌<◌, ◌+◌, ◌∙◌, ap, sym, length, ℕ, arith, refl, subst, slice_index_or, slice_set, rules, length-set, List}
 use Rattle.std.proofs.lemmas.List.{get_or-set_other}
 use Rattle.loop_threads.specs.declared.shared.LoopShared.{LoopShared}
 use Rattle.loop_threads.specs.declared.seats.Seats.{Seats}

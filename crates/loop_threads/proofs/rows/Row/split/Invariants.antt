@@ -1,4 +1,4 @@
-use Rattle.std.proofs.Common.{◌≡◌, ◌<◌, ◌≤◌, ◌+◌, length, ℕ, vec_len, vec_capacity, slice_index_or}
+use Rattle.std.proofs.Common.{◌≡◌, ◌≤◌, length, ℕ, vec_len, vec_capacity, slice_index_or}
 use Rattle.loop_threads.specs.declared.seats.Seats.{Seats}
 use Rattle.loop_threads.specs.Rows.{DividesEach}
 use Rattle.loop_threads.proofs.rows.Row.split.Given as goal
