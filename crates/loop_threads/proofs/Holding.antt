@@ -23,13 +23,13 @@ owned_among first count low high k l h from below =
     let b = ltb-true k (first + count) below in
     (not_from_false _ (le-ltb k low (omega arith)), lt-ltb k high (omega arith))
 
-fewer : (n m : Numbers) → m.first ≤ n.first → n.first + n.count ≤ m.first + m.count → (k : ℕ) → owns n k ≡ true → owns m k ≡ true
+pub fewer : (n m : Numbers) → m.first ≤ n.first → n.first + n.count ≤ m.first + m.count → (k : ℕ) → owns n k ≡ true → owns m k ≡ true
 fewer n m l h k is =
     let parts = and_parts _ _ is in
     let out = owned_among n.first n.count m.first (m.first + m.count) k l h parts.0 parts.1 in
     and_from _ _ out.0 out.1
 
-co_fewer : (n m : CoNumbers) → m.first ≤ n.first → n.first + n.count ≤ m.first + m.count → (k : ℕ) → co_owns n k ≡ true → co_owns m k ≡ true
+pub co_fewer : (n m : CoNumbers) → m.first ≤ n.first → n.first + n.count ≤ m.first + m.count → (k : ℕ) → co_owns n k ≡ true → co_owns m k ≡ true
 co_fewer n m l h k is =
     let parts = and_parts _ _ is in
     let out = owned_among n.first n.count m.first (m.first + m.count) k l h parts.0 parts.1 in
@@ -40,17 +40,17 @@ no_more xs ys zs e f =
     nil_from_length xs (omega (arith, length-append xs ys, ap length e, ap length f))
 
 -- the longer list has nothing more of what is owned by fewer
-still_made : (n m : Numbers) (rest seen longer mine whole : History) → longer ≡ rest ++ seen → own_entries m longer ≡ whole → own_entries m seen ≡ whole → ((k : ℕ) → owns n k ≡ true → owns m k ≡ true) → own_entries n seen ≡ mine → own_entries n longer ≡ mine
+pub still_made : (n m : Numbers) (rest seen longer mine whole : History) → longer ≡ rest ++ seen → own_entries m longer ≡ whole → own_entries m seen ≡ whole → ((k : ℕ) → owns n k ≡ true → owns m k ≡ true) → own_entries n seen ≡ mine → own_entries n longer ≡ mine
 still_made n m rest seen longer mine whole e all before sub made =
     let none : own_entries m rest ≡ [] = no_more (own_entries m rest) (own_entries m seen) whole (sym (own-append m rest seen) ∙ (ap (own_entries m) (sym e) ∙ all)) before in
     ap (own_entries n) e ∙ (own-append n rest seen ∙ (ap (λ (xs : History). xs ++ own_entries n seen) (own_fewer n m rest sub none) ∙ made))
 
-co_still_made : (n m : CoNumbers) (rest seen longer mine whole : List CoEntry) → longer ≡ rest ++ seen → own_of seat_of m longer ≡ whole → own_of seat_of m seen ≡ whole → ((k : ℕ) → co_owns n k ≡ true → co_owns m k ≡ true) → own_of seat_of n seen ≡ mine → own_of seat_of n longer ≡ mine
+pub co_still_made : (n m : CoNumbers) (rest seen longer mine whole : List CoEntry) → longer ≡ rest ++ seen → own_of seat_of m longer ≡ whole → own_of seat_of m seen ≡ whole → ((k : ℕ) → co_owns n k ≡ true → co_owns m k ≡ true) → own_of seat_of n seen ≡ mine → own_of seat_of n longer ≡ mine
 co_still_made n m rest seen longer mine whole e all before sub made =
     let none : own_of seat_of m rest ≡ [] = no_more (own_of seat_of m rest) (own_of seat_of m seen) whole (sym (co_own-append seat_of m rest seen) ∙ (ap (own_of seat_of m) (sym e) ∙ all)) before in
     ap (own_of seat_of n) e ∙ (co_own-append seat_of n rest seen ∙ (ap (λ (xs : List CoEntry). xs ++ own_of seat_of n seen) (co_own_fewer seat_of n m rest sub none) ∙ made))
 
-part_of_part : {A : Type 0} (xs ys zs : List A) (r q : List A) → ys ≡ r ++ xs → zs ≡ q ++ ys → zs ≡ (q ++ r) ++ xs
+pub part_of_part : {A : Type 0} (xs ys zs : List A) (r q : List A) → ys ≡ r ++ xs → zs ≡ q ++ ys → zs ≡ (q ++ r) ++ xs
 part_of_part xs ys zs r q e f = f ∙ (ap (λ l. q ++ l) e ∙ sym (append_assoc q r xs))
 
 module _ {C O : Type 0} {shared : LoopShared C O} {before other after : Seats C O} where

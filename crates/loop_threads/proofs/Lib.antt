@@ -10,3 +10,4 @@ pub mod Outcomes
 pub mod Places
 pub mod RowSteps
 pub mod Rowing
+pub mod Whole

@@ -1,5 +1,5 @@
 -- The end of a loop.
-use Rattle.std.specs.Prelude.{◌≡◌, ℕ, ◌<◌, None, true, Option, List, [], ◌∷◌, ◌++◌, slice_index_or, vec_len}
+use Rattle.std.specs.Prelude.{◌≡◌, ℕ, ◌+◌, ◌<◌, ◌≤◌, None, true, Option, List, [], ◌∷◌, ◌++◌, slice_index_or, vec_len}
 use Rattle.aio_model.specs.declared.commits.Commit.TheVariants.{Sleep}
 use Rattle.aio_core.specs.Scans.{SameButSleep}
 use Rattle.aio_core.specs.Calls.{TableState, SeatState, IsSeatOf}
@@ -13,6 +13,7 @@ use Rattle.loop_threads.specs.declared.ending.LoopRun.{LoopRun}
 use Rattle.loop_threads.specs.declared.ending.Rest.{Rest}
 use Rattle.loop_threads.specs.declared.ending.Last.{Last}
 use Rattle.loop_threads.specs.Rows.{IsAt, EachAt}
+use Rattle.loop_threads.specs.Within.{IsWithin, StandsIn, HaveOwn, OwnEach}
 use Rattle.loop_threads.specs.Members.{IsMemberOf, MembersEach}
 
 -- a commit that watches no event and has no deadline let home sleep
@@ -23,6 +24,11 @@ pub record FallsAsleep (table : TableState) (before after : SeatState) : Type 0 
   pub same : SameButSleep before.known after.known
   pub committed : is_committed after.known.sleep ≡ true
 
+-- what stands within the seats stands in both whole histories, whatever numbers below 64 it has
+abbrev pub KeepsMade : {C W O : Type 0} → LoopShared C O → Seats C O → LoopRun C W O → Type 0
+KeepsMade {C} {W} {O} shared seats run =
+    (part : Seats C O) (first count : ℕ) → IsAt first count shared part → first + count ≤ 64 → IsWithin part seats → StandsIn part run.calls.known.seen run.coroutines.history
+
 -- Home fell asleep, took in all numbers, and found nothing pending and no event set; no coroutine is left in the list. Both histories
 -- are whole: each of the two seats that were joined has seen a part of it, in which just its own entries stand under its numbers.
 pub record EndsLoop {C W O : Type 0} (shared : LoopShared C O) (member : Member C W O) (seats : Seats C O) (run : LoopRun C W O) : Type 0 where
@@ -31,6 +37,7 @@ pub record EndsLoop {C W O : Type 0} (shared : LoopShared C O) (member : Member 
   pub table_is : run.calls.table ≡ shared.bottoms.table
   pub calls : EndsQuiet seats.bottoms.known asleep.known run.calls.known
   pub coroutines : Ends shared.coroutines member.coroutines.known seats.coroutines.known run.coroutines
+  pub keeps : KeepsMade shared seats run
   pub side_is : run.side ≡ member.side
   pub lots_are : run.lot_pass ≡ member.lot_pass
   pub work_is : run.work ≡ member.work
@@ -45,6 +52,7 @@ pub record IsRest {C W O : Type 0} (rest : Rest C W O) : Type 0 where
   pub seats_long : vec_len rest.seats ≡ vec_len rest.shared
   pub members : MembersEach (vec_len rest.shared) rest.shared.items rest.members.items
   pub seats : EachAt (vec_len rest.shared) 0 64 rest.shared.items rest.seats.items
+  pub own : OwnEach (vec_len rest.shared) rest.seats.items
 
 -- the last of each was taken
 pub record IsLast {C W O : Type 0} (before after : Rest C W O) (last : Last C W O) : Type 0 where
@@ -53,3 +61,4 @@ pub record IsLast {C W O : Type 0} (before after : Rest C W O) (last : Last C W 
   pub seats_are : before.seats.items ≡ after.seats.items ++ last.seats ∷ []
   pub member : IsMemberOf last.shared last.member
   pub seats : IsAt 0 64 last.shared last.seats
+  pub own : HaveOwn last.seats

@@ -1,9 +1,10 @@
 -- What a seat that was joined into another has made, in what the other has seen.
 use Rattle.std.specs.Prelude.{◌≡◌, ℕ, ◌<◌, ◌≤◌, List, slice_index_or}
+use Rattle.aio_model.specs.LoopHistory.{History}
 use Rattle.aio_model.specs.LoopSeats.{own_entries}
 use Rattle.aio_core.specs.Known.{numbers_of}
 use Rattle.aio_core.specs.Rule.{IsPart}
-use Rattle.aio_model.specs.CoroutineHistory.{seat_of}
+use Rattle.aio_model.specs.CoroutineHistory.{History as CoHistory, seat_of}
 use Rattle.table_seats.specs.Seats.{IsPart as IsCoPart, own_entries as own_of}
 use Rattle.co_schedule.specs.Known.{numbers_of as co_numbers_of}
 use Rattle.loop_threads.specs.declared.seats.Seats.{Seats}
@@ -34,3 +35,10 @@ pub record HaveOwn {C O : Type 0} (seats : Seats C O) : Type 0 where
 
 abbrev pub OwnEach : {C O : Type 0} → ℕ → List (Seats C O) → Type 0
 OwnEach {C} {O} loops seats = (t : ℕ) (s : Seats C O) → t < loops → HaveOwn (slice_index_or seats t s)
+
+-- what the seats have seen of both histories is a part of these whole ones, in which just their own entries stand under their numbers
+pub record StandsIn {C O : Type 0} (part : Seats C O) (calls : History) (coroutines : CoHistory) : Type 0 where
+  pub seen : IsPart part.bottoms.known.seen calls
+  pub made : own_entries (numbers_of part.bottoms.known) calls ≡ part.bottoms.known.mine
+  pub co_seen : IsCoPart part.coroutines.known.seen coroutines
+  pub co_made : own_of seat_of (co_numbers_of part.coroutines.known) coroutines ≡ part.coroutines.known.mine

@@ -7,6 +7,7 @@ ghost use Rattle.aio_core.specs.Calls.{IsSeatOf};
 ghost use Rattle.aio_loop.specs.Homes.{IsHomeFree};
 ghost use Rattle.co_schedule.specs.Calls.{IsSeatOf as IsCoSeatOf, Ends};
 ghost use Rattle.loop_threads.specs.Rows.{IsAt, IsRow, HasNumbers};
+ghost use Rattle.loop_threads.specs.Within.{HaveOwn, OwnEach};
 ghost use Rattle.loop_threads.specs.Members.{MembersEach};
 ghost use Rattle.loop_threads.specs.Ending.{IsRest, IsLast, EndsLoop, EndsEach, FallsAsleep};
 
@@ -95,6 +96,7 @@ pub(crate) fn end_loop<C: Origin + Drop, W: Drop, R: Wait>(
     requires home { IsHomeFree shared.bottoms member.home.seat }
     requires coroutines { IsCoSeatOf shared.coroutines member.coroutines }
     requires seats { IsAt 0 64 shared seats }
+    requires own { HaveOwn seats }
     ensures { EndsLoop shared member seats result }
 {
     let LoopShared {
@@ -181,6 +183,7 @@ impl<C: Origin + Drop, W: Drop> Crew<C, W> {
     pub fn end<R: Wait>(self, rt: &R, shared: Vec<LoopShared<C>>) -> Vec<LoopRun<C, W>>
         requires members { (vec_len self.members ≡ vec_len shared) × MembersEach (vec_len shared) shared.items self.members.items }
         requires row { IsRow shared.items self.row × HasNumbers 0 64 self.row }
+        requires own { OwnEach (vec_len shared) self.row.seats.items }
         requires room { (vec_len self.ends ≡ 0) × (vec_len shared ≤ vec_capacity self.ends) }
         ensures { (vec_len result ≡ vec_len shared) × EndsEach (vec_len shared) shared.items self.members.items self.row.seats.items result.items }
     {

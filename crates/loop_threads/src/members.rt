@@ -2,7 +2,7 @@
 ghost use Rattle.std.specs.Prelude.{◌≡◌, ◌<◌, ◌≤◌, ◌+◌, ◌-◌, ◌*◌, length, vec_len, vec_capacity};
 ghost use Rattle.loop_threads.specs.Rows.{IsRow, HasNumbers};
 ghost use Rattle.loop_threads.specs.Parts.{AllParts, InReverse};
-ghost use Rattle.loop_threads.specs.Within.{RowsWithin};
+ghost use Rattle.loop_threads.specs.Within.{OwnEach, RowsWithin};
 ghost use Rattle.loop_threads.specs.Members.{AreOfParts, MembersEach};
 
 use crate::ending::LoopRun;
@@ -47,6 +47,7 @@ pub(crate) fn join_all<C: Origin + Drop, W: LoopWork<C> + Drop>(
     requires parts { AllParts W.can_work shared.now parts.items × InReverse parts.items × (vec_len parts ≡ length shared.now) }
     requires room { (vec_len members ≡ 0) × (vec_len parts ≤ vec_capacity members) }
     ensures row { IsRow shared.now result.row × HasNumbers 0 64 result.row }
+    ensures own { OwnEach (length shared.now) result.row.seats.items }
     ensures rows { RowsWithin 0 (length shared.now) (length shared.now) parts.items result.row.seats.items }
     ensures members { (vec_len result.members ≡ vec_len parts) × AreOfParts (vec_len parts) parts.items result.members.items }
     ensures homes { MembersEach (length shared.now) shared.now result.members.items }

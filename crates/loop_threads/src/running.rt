@@ -1,6 +1,7 @@
 //! The run.
 ghost use Rattle.std.specs.Prelude.{◌≡◌, ◌≤◌, length, vec_len, vec_capacity};
 ghost use Rattle.loop_threads.specs.Members.{MembersEach};
+ghost use Rattle.loop_threads.specs.Within.{OwnEach};
 ghost use Rattle.loop_threads.specs.Rows.{IsRow, HasNumbers};
 ghost use Rattle.loop_threads.specs.Running.{IsPrepared, RunsEach};
 
@@ -21,6 +22,7 @@ impl<C: Origin + Drop + Send, W: LoopWork<C> + Drop + Send> Prepared<C, W> {
     pub fn run<R: Threads + Wait + Sync>(self, rt: &R, shared: &[LoopShared<C>]) -> Crew<C, W>
         requires prepared { IsPrepared W.can_work shared.now self }
         ensures row { IsRow shared.now result.row × HasNumbers 0 64 result.row }
+        ensures own { OwnEach (length shared.now) result.row.seats.items }
         ensures members { (vec_len result.members ≡ length shared.now) × RunsEach W.can_work W.does shared.now result.row (length shared.now) self.parts.items result.members.items }
         ensures homes { MembersEach (length shared.now) shared.now result.members.items }
         ensures room { (vec_len result.ends ≡ 0) × (length shared.now ≤ vec_capacity result.ends) }

@@ -106,3 +106,9 @@ returns-clause-rows g c j p low high t s w lt =
     let was = c.loop-part.invariant in
     let none : vec_len c.loop-part.parts ≡ 0 = c.in_default.ensures.cases.0 in
     was.7 j p (omega (arith, none)) high t s w lt
+
+pub returns-clause-own : goal.returns-clause-own
+returns-clause-own g c t s lt =
+    let was = c.loop-part.invariant in
+    let none : vec_len c.loop-part.parts ≡ 0 = c.in_default.ensures.cases.0 in
+    was.6 (omega (arith, lt, was.0, none)) t s lt

@@ -9,5 +9,6 @@ end_rest-requires-clause-rest g c =
       homes_long = c.requires.members.0;
       seats_long = omega (arith, row.0.long, c.args.shared.ok.0, c.args.self.row.seats.ok.0);
       members = c.requires.members.1;
+      own = c.requires.own;
       seats = λ k t s lt. renumbered row.1.first_is row.1.count_is (row.0.each k t s (omega (arith, lt, c.args.shared.ok.0)));
     }
