@@ -1,5 +1,5 @@
-//! Loops in a ring: each schedules on the next one's table, and then sets its event. A loop's run has ended once its own event was found
-//! set, and nothing was found to do.
+//! Loops in a ring: each schedules on the next one's table, and then sets its event. A loop's run has ended once it has done so, its own
+//! event was found set, and a turn found nothing to do.
 ghost use Rattle.std.specs.Prelude.{◌≡◌, ◌<◌, length};
 ghost use Rattle.loop_threads.specs.Rows.{IsRow, HasNumbers};
 
@@ -51,8 +51,7 @@ impl LoopRunner<()> for Heard {
         _seat: &mut Seat<()>,
         _side: &mut Side,
         _id: TimerId,
-    ) {
-    }
+    ) {}
 }
 
 #[derive(Drop)]
@@ -108,6 +107,6 @@ impl LoopWork<u64> for Ring {
         self.send(rt, shared, &mut station.row, station.number);
         let sleeps = block && self.left == 0 && !self.heard.ended;
         let turned = station.turn(rt, shared, &mut self.heard, &mut self.clock, sleeps);
-        self.heard.ended && !turned.progress
+        self.left == 0 && self.heard.ended && !turned.progress
     }
 }

@@ -5,7 +5,7 @@ ghost use Rattle.loop_thread_tests.specs.Hands.{AreIdle};
 use crate::ring::{Heard, Ring};
 use aio_loop::{Handlers, Side, Timers};
 use aio_words::StepClock;
-use loop_threads::{Hand, LoopRun, open, prepare};
+use loop_threads::{Hand, LoopRun, Opened, open, prepare};
 use std::alloc::Global;
 use std::process::Abort;
 use std::sync::Wait;
@@ -56,15 +56,15 @@ fn run<R: Threads + Wait + Sync>(
     requires { loops ≤ 16 }
     ensures { IfOk result (λ runs. vec_len runs ≡ loops) }
 {
-    let Ok(opened) = open::<u64, R>(rt, alloc, loops, 1) else {
+    let Ok(Opened { shared, homes, row }) = open::<u64, R>(rt, alloc, loops, 1) else {
         return Err(Fail::from("no memory"));
     };
     let hands = hands(alloc, loops)?;
-    let Ok(prepared) = prepare(alloc, &opened.shared, opened.homes, hands, opened.row) else {
+    let Ok(prepared) = prepare(alloc, &shared, homes, hands, row) else {
         return Err(Fail::from("no memory"));
     };
-    let crew = prepared.run(rt, &opened.shared);
-    Ok(crew.end(rt, opened.shared))
+    let crew = prepared.run(rt, &shared);
+    Ok(crew.end(rt, shared))
 }
 
 /// Each loop has ended, and was called at least once, and at most once for each time that it was scheduled.
