@@ -1,4 +1,5 @@
-//! N loops over N threads: each loop has a thread of its own, and what a thread owns comes back whole.
+//! Loops on threads of their own, as iothreads of QEMU carry an AioContext each, but with all that they own given back at the end: `open`
+//! makes them, `prepare` takes all memory, `run` starts and joins the threads, and `end` settles each loop.
 #![tactic(auto)]
 
 mod carrying;

@@ -55,11 +55,13 @@ pub trait LoopWork<C: Origin + Drop> {
     /// What it needs of all loops and of its own before each turn.
     ghost can_work: { Self → List (LoopShared C C.Source) → LoopState C C.Source → Type 0 };
 
-    /// What one turn does to itself and to its loop, and whether the loop's run has ended by it.
+    /// What one turn does to itself and to its loop, and what it answers.
     ghost does: { Self → LoopState C C.Source → Bool → Self → LoopState C C.Source → Type 0 };
 
-    /// One turn. Whether the loop's run has ended: then no other turn follows. One that isn't to block returns soon, whatever the
-    /// other loops do, since the caller of a run may have several loops to carry.
+    /// One turn, on the thread that carries the loop. Whether the loop's run has ended and the turn found nothing to do. After such an
+    /// answer no turn follows but those that the caller of the run gives at its end, when all runs have ended: they take what was
+    /// scheduled late. A turn that isn't to block returns soon, whatever the other loops do, since the caller may have several loops
+    /// to carry; one that is to block may sleep until its home is notified.
     fn turn<R: Wait>(
         &mut self,
         rt: &R,
