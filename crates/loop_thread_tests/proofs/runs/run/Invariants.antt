@@ -1,0 +1,4 @@
+use Rattle.loop_thread_tests.proofs.runs.run.Given as goal
+
+abbrev pub ghost-open : goal.ghost-open
+ghost-open g a = tt

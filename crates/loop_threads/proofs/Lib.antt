@@ -1,0 +1,13 @@
+pub mod Coming
+pub mod Dealt
+pub mod Ended
+pub mod Handing
+pub mod Holding
+pub mod Membership
+pub mod Beginning
+pub mod Building
+pub mod Outcomes
+pub mod Places
+pub mod RowSteps
+pub mod Rowing
+pub mod Whole

@@ -1,0 +1,24 @@
+use Rattle.std.proofs.Common.{◌≡◌, ◌<◌, ◌+◌, ℕ, length, vec_len, vec_capacity, slice_index_or}
+use Rattle.loop_threads.specs.declared.opening.Homes.{Homes}
+use Rattle.loop_threads.specs.declared.preparing.Hand.{Hand}
+use Rattle.loop_threads.specs.declared.parts.Part.{Part}
+use Rattle.loop_threads.specs.Dealing.{ArePairs}
+use Rattle.loop_threads.specs.Parts.{IsPart}
+use Rattle.loop_threads.specs.Running.{Begins}
+use Rattle.loop_threads.proofs.preparing.deal_parts.Given as goal
+
+abbrev pub invariant-loop-one : goal.invariant-loop-one
+invariant-loop-one g l =
+    let n = length l.shared in
+    (vec_len l.hands ≡ vec_len l.homes)
+    × (vec_len l.homes + vec_len l.parts ≡ n)
+    × (vec_len l.pairs + vec_len l.parts ≡ 32)
+    × (vec_capacity l.parts ≡ vec_capacity l.fn.parts)
+    × ArePairs l.shared l.pairs.items
+    × ((k : ℕ) (h : Homes _ _) → k < vec_len l.homes → slice_index_or l.homes.items k h ≡ slice_index_or l.fn.homes.items k h)
+    × ((k : ℕ) (d : Hand _) → k < vec_len l.hands → slice_index_or l.hands.items k d ≡ slice_index_or l.fn.hands.items k d)
+    × ((j : ℕ) (p : Part _ _ _) → j < vec_len l.parts → IsPart g.W.LoopWork.can_work l.shared (slice_index_or l.parts.items j p) × ((slice_index_or l.parts.items j p).number + j + 1 ≡ n))
+    × ((k j : ℕ) (h : Homes _ _) (d : Hand _) (p : Part _ _ _) → k + j + 1 ≡ n → j < vec_len l.parts → Begins (slice_index_or l.fn.homes.items k h) (slice_index_or l.fn.hands.items k d) (slice_index_or l.parts.items j p))
+
+abbrev pub decreases-loop-one : goal.decreases-loop-one
+decreases-loop-one g l = vec_len l.homes
