@@ -1,0 +1,6 @@
+pub mod Choices
+pub mod Drained
+pub mod Ended
+pub mod Kept
+pub mod Rowed
+pub mod Woken

@@ -1,0 +1,7 @@
+pub mod Answers
+pub mod Crews
+pub mod Drains
+pub mod Posts
+pub mod Quits
+pub mod Rows
+pub mod Wakes
