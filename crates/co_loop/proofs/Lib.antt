@@ -1,3 +1,5 @@
+pub mod Admitted
+pub mod Begun
 pub mod Choices
 pub mod Drained
 pub mod Ended

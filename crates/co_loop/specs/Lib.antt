@@ -1,4 +1,5 @@
 pub mod Answers
+pub mod Begins
 pub mod Crews
 pub mod Drains
 pub mod Posts

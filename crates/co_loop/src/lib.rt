@@ -2,6 +2,7 @@
 //! others through seats of its own, one of each loop.
 #![tactic(auto)]
 
+mod beginning;
 mod crew;
 mod draining;
 mod entering;
