@@ -1,8 +1,10 @@
 pub mod Admitted
+pub mod Alone
 pub mod Begun
 pub mod Choices
 pub mod Drained
 pub mod Ended
 pub mod Kept
+pub mod Posted
 pub mod Rowed
 pub mod Woken

@@ -1,8 +1,12 @@
+pub mod Again
 pub mod Answers
 pub mod Begins
 pub mod Crews
 pub mod Drains
+pub mod Loops
+pub mod Napping
 pub mod Posts
 pub mod Quits
 pub mod Rows
+pub mod Turning
 pub mod Wakes

@@ -32,7 +32,7 @@ fn one_more(count: u64) -> u64
 }
 
 /// Posts a coroutine that is to move, and keeps it where its number has a mark there.
-fn send_on<C: Origin + Drop, W: Wait>(
+pub(crate) fn send_on<C: Origin + Drop, W: Wait>(
     rt: &W,
     shared: &[LoopShared<C>],
     crew: &mut Crew<C>,

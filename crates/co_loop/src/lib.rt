@@ -2,18 +2,23 @@
 //! others through seats of its own, one of each loop.
 #![tactic(auto)]
 
+mod again;
 mod beginning;
 mod crew;
 mod draining;
 mod entering;
 mod leaving;
+mod napping;
 mod naps;
+mod on_loop;
 mod posting;
 mod quitting;
 mod shared;
+mod turning;
 mod waking;
 
 pub use crew::Crew;
 pub use leaving::Leaving;
 pub use naps::Nap;
+pub use on_loop::CoLoop;
 pub use shared::{LoopShared, Seats};
