@@ -7,4 +7,6 @@ pub mod Ended
 pub mod Kept
 pub mod Posted
 pub mod Rowed
+pub mod Turned
+pub mod Unchanged
 pub mod Woken

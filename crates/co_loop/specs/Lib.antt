@@ -1,6 +1,7 @@
 pub mod Again
 pub mod Answers
 pub mod Begins
+pub mod Building
 pub mod Crews
 pub mod Drains
 pub mod Loops

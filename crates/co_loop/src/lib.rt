@@ -4,6 +4,7 @@
 
 mod again;
 mod beginning;
+mod building;
 mod crew;
 mod draining;
 mod entering;
@@ -17,6 +18,7 @@ mod shared;
 mod turning;
 mod waking;
 
+pub use building::build_timers;
 pub use crew::Crew;
 pub use leaving::Leaving;
 pub use naps::Nap;

@@ -4,12 +4,11 @@ ghost use Rattle.aio_model.specs.LoopLegal.{IsLegal};
 ghost use Rattle.aio_bh.specs.OneShots.{ServesHome};
 ghost use Rattle.aio_loop.specs.Homes.{IsHomeFree};
 ghost use Rattle.aio_loop.specs.Walks.{loop_far};
-ghost use Rattle.aio_loop.specs.Turns.{Turns};
-ghost use Rattle.co_loop.specs.Crews.{far};
+ghost use Rattle.co_loop.specs.Crews.{far, SameCrew};
 ghost use Rattle.co_loop.specs.Again.{is_kept, PostsEachAgain};
 ghost use Rattle.co_loop.specs.Napping.{bed};
-ghost use Rattle.co_loop.specs.Loops.{IsOnLoop};
-ghost use Rattle.co_loop.specs.Turning.{EndsTurn};
+ghost use Rattle.co_loop.specs.Loops.{IsOnLoop, RunnerDoes, on_loop};
+ghost use Rattle.co_loop.specs.Turning.{EndsTurn, TurnsAndEnds};
 
 use crate::again::{keeps, post_all_kept};
 use crate::napping::arm_all;
@@ -32,7 +31,7 @@ impl<'a, C: Co<E> + Drop, E, W: Wait> CoLoop<'a, C, E, W> {
     pub fn end_turn<K: Clock>(&mut self, side: &mut Side, clock: &mut K)
         requires fits { IsOnLoop C.is_of (C.source_of self.old.env.now) self.old.shared.now self.old.crew self.old.home self.old.run }
         requires timers { self.old.crew.coroutines ≤ side.old.timers.made }
-        ensures same { (self.new.shared ≡ self.old.shared) × (self.new.env ≡ self.old.env) × (self.new.home ≡ self.old.home) × (self.new.is_ended ≡ self.old.is_ended) }
+        ensures same { (self.new.shared ≡ self.old.shared) × (self.new.env ≡ self.old.env) × (self.new.home ≡ self.old.home) × (self.new.is_ended ≡ self.old.is_ended) × SameCrew self.old.crew self.new.crew }
         ensures fits { IsOnLoop C.is_of (C.source_of self.old.env.now) self.old.shared.now self.new.crew self.new.home self.new.run }
         ensures timers { self.new.crew.coroutines ≤ side.new.timers.made }
         ensures handlers { side.new.handlers ≡ side.old.handlers }
@@ -62,6 +61,8 @@ impl<'a, C: Co<E> + Drop, E, W: Wait> CoLoop<'a, C, E, W> {
         ensures home { IsHomeFree aio.old.table.now aio.new.home.seat }
         ensures legal { IsLegal aio.old.table.now.sizes aio.new.home.seat.known.seen }
         ensures walking { IsFalse aio.new.side.handlers.walking }
+        ensures place { (self.new.shared ≡ self.old.shared) × (self.new.env ≡ self.old.env) × SameCrew self.old.crew self.new.crew }
+        ensures turns { TurnsAndEnds (λ before entered after. (after.shared ≡ before.shared) × (after.env ≡ before.env) × RunnerDoes C.is_of C.resumes before.shared.now entered (on_loop before.crew before.home before.is_ended) (on_loop after.crew after.home after.is_ended)) (λ e. far e.crew) aio.old.pool.now (not (is_kept self.old.crew.leaving.items)) aio.old.table.now.sizes.events self.old.crew.coroutines result (K.time clock.old) (K.time clock.new) aio.old.lot_pass aio.new.lot_pass (loop_far aio.old.home.seat.known aio.old.side self.old) (loop_far aio.new.home.seat.known aio.new.side self.new) }
     {
         let rt = self.rt;
         let block = self.may_block();
