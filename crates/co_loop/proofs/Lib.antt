@@ -5,6 +5,7 @@ pub mod Choices
 pub mod Drained
 pub mod Ended
 pub mod Kept
+pub mod Nobody
 pub mod Posted
 pub mod Rowed
 pub mod Turned

@@ -1,5 +1,5 @@
 -- The list of those that were scheduled here is taken, and each is begun.
-use Rattle.std.specs.Prelude.{◌≡◌, ℕ, ◌≤◌, zero, suc, Bool, ◌||◌, is_some, nat_le, MatchBool, Option, None, Some, [], slice_index_or, slice_set}
+use Rattle.std.specs.Prelude.{◌≡◌, ℕ, ◌≤◌, Bool, ◌||◌, is_some, nat_le, MatchBool, Option, None, Some, List, [], ◌∷◌, slice_index_or, slice_set}
 use Rattle.std.specs.FinMap as map
 use Rattle.co_state.specs.Asked.{Asked}
 use Rattle.co_state.specs.declared.co.CoStep.{CoStep}
@@ -52,23 +52,15 @@ module _ {C O : Type 0} where
   BeginsNext is_of resumes own n loops some before after =
       MatchBool some (BeginsOne is_of resumes own n loops before after) ((before.known.stage.taken ≡ []) × (after ≡ before))
 
-  -- so many, one after another
-  abbrev pub BeginsEach : (C → O → Type 0) → (C → O → Asked → CoStep → C → Type 0) → ℕ → ℕ → ℕ → ℕ → HomeFar C O → HomeFar C O → Type 0
-  BeginsEach is_of resumes own n loops zero before after = after ≡ before
-  BeginsEach is_of resumes own n loops (suc more) before after =
-      (mid : HomeFar C O) × BeginsEach is_of resumes own n loops more before mid × BeginsOne is_of resumes own n loops mid after
+  -- these were begun, each once and in this order
+  abbrev pub BeginsThese : (C → O → Type 0) → (C → O → Asked → CoStep → C → Type 0) → ℕ → ℕ → ℕ → List ℕ → HomeFar C O → HomeFar C O → Type 0
+  BeginsThese is_of resumes own n loops [] before after = after ≡ before
+  BeginsThese is_of resumes own n loops (co ∷ cos) before after =
+      (mid : HomeFar C O) × (one : BeginsOne is_of resumes own n loops before mid) × (one.co ≡ co) × BeginsThese is_of resumes own n loops cos mid after
 
-  pub record BeginsSome (is_of : C → O → Type 0) (resumes : C → O → Asked → CoStep → C → Type 0) (own n loops : ℕ) (before after : HomeFar C O) : Type 0 where
-    pub count : ℕ
-    pub begins : BeginsEach is_of resumes own n loops count before after
-
-  -- and none is left
-  pub record BeginsAll (is_of : C → O → Type 0) (resumes : C → O → Asked → CoStep → C → Type 0) (own n loops : ℕ) (before after : HomeFar C O) : Type 0 where
-    pub some : BeginsSome is_of resumes own n loops before after
-    pub none_left : after.known.stage.taken ≡ []
-
-  -- all that was pushed was taken by one step, and begun
+  -- All that was pushed and not entered was taken by one step, and all of it was begun, in order of pushing.
   pub record TakesAndBegins (is_of : C → O → Type 0) (resumes : C → O → Asked → CoStep → C → Type 0) (own n loops : ℕ) (before after : HomeFar C O) : Type 0 where
     pub taken : Known
     pub takes : HasTaken before.known taken
-    pub begins : BeginsAll is_of resumes own n loops (record before { known = taken }) after
+    pub begins : BeginsThese is_of resumes own n loops taken.stage.taken (record before { known = taken }) after
+    pub none_left : after.known.stage.taken ≡ []

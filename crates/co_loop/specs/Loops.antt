@@ -27,6 +27,11 @@ module _ {C O : Type 0} where
     pub home_of : (t : LoopShared C O) → IsHomeRun (slice_index_or shared crew.own t).coroutines home run
     pub idle : home.known.stage.taken ≡ []
 
+  -- the home and its run are of the loop of this number, and nothing is taken that isn't begun
+  pub record IsNewHome (shared : List (LoopShared C O)) (own : ℕ) (home : SeatState O) (run : RunState) : Type 0 where
+    pub home_of : (t : LoopShared C O) → IsHomeRun (slice_index_or shared own t).coroutines home run
+    pub idle : home.known.stage.taken ≡ []
+
   abbrev pub on_loop : Crew C O → SeatState O → Bool → OnLoop C O
   on_loop crew home is_ended =
       record { own = crew.own; coroutines = crew.coroutines; here = home_far (far crew) home.known; is_ended = is_ended }

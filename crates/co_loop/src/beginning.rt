@@ -4,7 +4,7 @@ ghost use Rattle.std.specs.Prelude.{◌≡◌, ◌<◌, ◌≤◌, length, [], S
 ghost use Rattle.std.specs.FinMap as map;
 ghost use Rattle.co_schedule.specs.Calls.{IsSeatOf};
 ghost use Rattle.co_loop.specs.Crews.{far, IsCrew, SameCrew};
-ghost use Rattle.co_loop.specs.Begins.{home_far, is_refused, IsHomeRun, Admits, AdmitsGiven, BeginsNext, BeginsAll, TakesAndBegins};
+ghost use Rattle.co_loop.specs.Begins.{home_far, is_refused, IsHomeRun, Admits, AdmitsGiven, BeginsNext, BeginsThese, TakesAndBegins};
 ghost use Rattle.co_schedule.specs.Parcels.{IsStateOf};
 
 use crate::crew::Crew;
@@ -100,7 +100,8 @@ fn begin_all<C: Co<E> + Drop, E, W: Wait>(
     ensures same { SameCrew crew.old crew.new }
     ensures origin { crew.new.store.origin ≡ crew.old.store.origin }
     ensures home { IsHomeRun table.now home.new run.new }
-    ensures begins { BeginsAll C.is_of C.resumes crew.old.own crew.old.coroutines (length shared.now) (home_far (far crew.old) home.old.known) (home_far (far crew.new) home.new.known) }
+    ensures idle { home.new.known.stage.taken ≡ [] }
+    ensures begins { BeginsThese C.is_of C.resumes crew.old.own crew.old.coroutines (length shared.now) home.old.known.stage.taken (home_far (far crew.old) home.old.known) (home_far (far crew.new) home.new.known) }
 {
     for _ in rt.forever() {
         if !begin_next(rt, env, shared, table, crew, home, run) {

@@ -1,8 +1,10 @@
 //! The runner of a loop's turns: what its callbacks do with the coroutines.
-ghost use Rattle.std.specs.Prelude.{◌≡◌, ◌||◌, ◌==◌, length};
+ghost use Rattle.std.specs.Prelude.{◌≡◌, ◌<◌, ◌||◌, ◌==◌, length};
 ghost use Rattle.co_loop.specs.Crews.{far, IsCrew, SameCrew};
 ghost use Rattle.co_loop.specs.Begins.{home_far};
-ghost use Rattle.co_loop.specs.Loops.{IsOnLoop, AnswersHandle, ExpiresFor};
+ghost use Rattle.co_loop.specs.Rows.{IsRow, AreOf};
+ghost use Rattle.co_loop.specs.Building.{IsNewCrew};
+ghost use Rattle.co_loop.specs.Loops.{IsOnLoop, IsNewHome, AnswersHandle, ExpiresFor};
 
 use crate::beginning::take_and_begin;
 use crate::crew::Crew;
@@ -35,6 +37,36 @@ pub struct CoLoop<'a, C: Origin, E, W> {
     pub run: CoRun,
     /// Whether event 0 was found set.
     pub is_ended: bool,
+}
+
+impl<'a, C: Co<E>, E, W> CoLoop<'a, C, E, W> {
+    /// The loop of the crew's number, with nobody on it yet.
+    pub fn new(
+        rt: &'a W,
+        env: &'a E,
+        shared: &'a [LoopShared<C>],
+        crew: Crew<C>,
+        home: CoHome<C>,
+        run: CoRun,
+    ) -> CoLoop<'a, C, E, W>
+        requires crew { IsNewCrew crew.own crew.coroutines (C.source_of env.now) crew.seats.items crew }
+        requires row { IsRow crew.coroutines shared.now crew.seats.items }
+        requires of { AreOf (C.source_of env.now) shared.now }
+        requires own { crew.own < length shared.now }
+        requires home { IsNewHome shared.now crew.own home run }
+        ensures fits { IsOnLoop C.is_of (C.source_of result.env.now) result.shared.now result.crew result.home result.run }
+        ensures place { (result.shared ≡ shared.entry) × (result.env ≡ env.entry) × (result.crew ≡ crew) × (result.home ≡ home) }
+    {
+        CoLoop {
+            rt,
+            env,
+            shared,
+            crew,
+            home,
+            run,
+            is_ended: false,
+        }
+    }
 }
 
 /// What the callback of a bottom half does.
