@@ -1,5 +1,5 @@
 //! A turn of a loop with coroutines, and what is left to do behind it.
-ghost use Rattle.std.specs.Prelude.{◌≡◌, ◌≤◌, IsFalse, not, length};
+ghost use Rattle.std.specs.Prelude.{◌≡◌, ◌≤◌, IsFalse, not, ◌&&◌, length};
 ghost use Rattle.aio_model.specs.LoopLegal.{IsLegal};
 ghost use Rattle.aio_bh.specs.OneShots.{ServesHome};
 ghost use Rattle.aio_loop.specs.Homes.{IsHomeFree};
@@ -47,8 +47,14 @@ impl<'a, C: Co<E> + Drop, E, W: Wait> CoLoop<'a, C, E, W> {
         post_all_kept(self.rt, self.shared, &mut self.crew);
     }
 
-    /// One turn of the loop, with all that is left to do behind it. The home thread. It blocks only where nothing is kept.
-    pub fn turn<K: Clock>(&mut self, aio: &mut AioLoop<'_, ()>, clock: &mut K) -> Turned
+    /// One turn of the loop, with all that is left to do behind it. The home thread. Where it is to block, it does so only if nothing is
+    /// kept.
+    pub fn turn<K: Clock>(
+        &mut self,
+        aio: &mut AioLoop<'_, ()>,
+        clock: &mut K,
+        block: bool,
+    ) -> Turned
         requires fits { IsOnLoop C.is_of (C.source_of self.old.env.now) self.old.shared.now self.old.crew self.old.home self.old.run }
         requires timers { self.old.crew.coroutines ≤ aio.old.side.timers.made }
         requires lots { ServesHome aio.old.table.now.sizes aio.old.pool.now aio.old.lot_pass }
@@ -62,10 +68,10 @@ impl<'a, C: Co<E> + Drop, E, W: Wait> CoLoop<'a, C, E, W> {
         ensures legal { IsLegal aio.old.table.now.sizes aio.new.home.seat.known.seen }
         ensures walking { IsFalse aio.new.side.handlers.walking }
         ensures place { (self.new.shared ≡ self.old.shared) × (self.new.env ≡ self.old.env) × SameCrew self.old.crew self.new.crew }
-        ensures turns { TurnsAndEnds (λ before entered after. (after.shared ≡ before.shared) × (after.env ≡ before.env) × RunnerDoes C.is_of C.resumes before.shared.now entered (on_loop before.crew before.home before.is_ended) (on_loop after.crew after.home after.is_ended)) (λ e. far e.crew) aio.old.pool.now (not (is_kept self.old.crew.leaving.items)) aio.old.table.now.sizes.events self.old.crew.coroutines result (K.time clock.old) (K.time clock.new) aio.old.lot_pass aio.new.lot_pass (loop_far aio.old.home.seat.known aio.old.side self.old) (loop_far aio.new.home.seat.known aio.new.side self.new) }
+        ensures turns { TurnsAndEnds (λ before entered after. (after.shared ≡ before.shared) × (after.env ≡ before.env) × RunnerDoes C.is_of C.resumes before.shared.now entered (on_loop before.crew before.home before.is_ended) (on_loop after.crew after.home after.is_ended)) (λ e. far e.crew) aio.old.pool.now (block && not (is_kept self.old.crew.leaving.items)) aio.old.table.now.sizes.events self.old.crew.coroutines result (K.time clock.old) (K.time clock.new) aio.old.lot_pass aio.new.lot_pass (loop_far aio.old.home.seat.known aio.old.side self.old) (loop_far aio.new.home.seat.known aio.new.side self.new) }
     {
         let rt = self.rt;
-        let block = self.may_block();
+        let block = block & self.may_block();
         let turned = aio.turn(rt, self, clock, block);
         self.end_turn(&mut aio.side, clock);
         turned

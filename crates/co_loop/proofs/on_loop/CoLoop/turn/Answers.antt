@@ -1,4 +1,4 @@
-use Rattle.std.proofs.Common.{refl, ◌∙◌}
+use Rattle.std.proofs.Common.{refl, ap, ◌∙◌, ◌&&◌}
 use Rattle.co_loop.specs.Crews.{far}
 use Rattle.co_loop.specs.declared.on_loop.CoLoop.{CoLoop}
 use Rattle.co_loop.proofs.Turned.{turns_and_ends}
@@ -21,4 +21,4 @@ pub returns-clause-turns : goal.returns-clause-turns
 returns-clause-turns g c =
     let turns = c.turn-turned.ensures.turns in
     let same = same_by_turn _ (λ (e : CoLoop g.row.C.Denot g.row.E.Denot g.row.W.Denot g.row.C-Source.Denot). e.crew.coroutines) (λ a e b d. d.2.coroutines) _ _ _ _ _ _ _ _ _ _ turns in
-    turns_and_ends _ (λ (e : CoLoop g.row.C.Denot g.row.E.Denot g.row.W.Denot g.row.C-Source.Denot). far e.crew) _ _ _ _ _ _ _ _ _ _ _ _ _ _ _ c.may_block-block.ensures same turns c.end_turn.ensures.ends c.end_turn.ensures.handlers refl
+    turns_and_ends _ (λ (e : CoLoop g.row.C.Denot g.row.E.Denot g.row.W.Denot g.row.C-Source.Denot). far e.crew) _ _ _ _ _ _ _ _ _ _ _ _ _ _ _ (ap (λ b. c.args.block && b) c.may_block.ensures) same turns c.end_turn.ensures.ends c.end_turn.ensures.handlers refl
