@@ -49,8 +49,8 @@ fn post_kept<C: Origin + Drop, W: Wait>(
     }
 }
 
-/// Posts all again that are kept. Those whose number still has a mark are kept on.
-pub(crate) fn post_all_kept<C: Origin + Drop, W: Wait>(
+/// Posts each again that is kept.
+fn post_each_kept<C: Origin + Drop, W: Wait>(
     rt: &W,
     shared: &[LoopShared<C>],
     crew: &mut Crew<C>,
@@ -63,6 +63,23 @@ pub(crate) fn post_all_kept<C: Origin + Drop, W: Wait>(
 {
     for co in 0..crew.coroutines {
         post_kept(rt, shared, crew, co);
+    }
+}
+
+/// Posts all again that are kept. Those whose number still has a mark are kept on.
+pub(crate) fn post_all_kept<C: Origin + Drop, W: Wait>(
+    rt: &W,
+    shared: &[LoopShared<C>],
+    crew: &mut Crew<C>,
+)
+    requires crew { IsCrew C.is_of shared.now crew.old }
+    ensures crew { IsCrew C.is_of shared.now crew.new }
+    ensures same { SameCrew crew.old crew.new }
+    ensures store { crew.new.store ≡ crew.old.store }
+    ensures posts { PostsEachAgain crew.old.coroutines (far crew.old) (far crew.new) }
+{
+    if keeps(&crew.leaving) {
+        post_each_kept(rt, shared, crew);
     }
 }
 

@@ -1,14 +1,9 @@
-use Rattle.std.proofs.Common.{◌∙◌}
+use Rattle.std.proofs.Common.{◌∙◌, ap, sym}
+use Rattle.co_loop.specs.Again.{is_kept}
 use Rattle.co_loop.specs.Crews.{far}
-use Rattle.co_loop.proofs.Posted.{one_more_posted}
+use Rattle.co_loop.proofs.Posted.{none_to_post}
 use Rattle.co_loop.proofs.again.post_all_kept.Goals as goal
 
-pub loop-co-preserved : goal.loop-co-preserved
-loop-co-preserved g c =
-    let was = c.loop-co.invariant in
-    let one = c.post_kept.ensures in (
-      one.crew,
-      record { own = one.same.own ∙ was.1.own; coroutines = one.same.coroutines ∙ was.1.coroutines },
-      one.store ∙ was.2,
-      one_more_posted c.loop-co.co (far c.args.crew.now) (far c.loop-co.crew) (far c.post_kept.new.crew) was.3 one.posts,
-    )
+pub returns-else-keeps-clause-posts : goal.returns-else-keeps-clause-posts
+returns-else-keeps-clause-posts g c =
+    none_to_post c.args.crew.now.coroutines (far c.args.crew.now) (ap is_kept (sym c.deref.ensures.value) ∙ sym c.keeps.ensures ∙ c.if-keeps.false)

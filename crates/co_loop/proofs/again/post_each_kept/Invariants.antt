@@ -1,7 +1,7 @@
 use Rattle.std.proofs.Common.{◌≡◌}
 use Rattle.co_loop.specs.Crews.{far, IsCrew, SameCrew}
 use Rattle.co_loop.specs.Again.{PostsEachAgain}
-use Rattle.co_loop.proofs.again.post_all_kept.Given as goal
+use Rattle.co_loop.proofs.again.post_each_kept.Given as goal
 
 abbrev pub invariant-loop-co : goal.invariant-loop-co
 invariant-loop-co g l =
