@@ -50,11 +50,7 @@ fn post_kept<C: Origin + Drop, W: Wait>(
 }
 
 /// Posts each again that is kept.
-fn post_each_kept<C: Origin + Drop, W: Wait>(
-    rt: &W,
-    shared: &[LoopShared<C>],
-    crew: &mut Crew<C>,
-)
+fn post_each_kept<C: Origin + Drop, W: Wait>(rt: &W, shared: &[LoopShared<C>], crew: &mut Crew<C>)
     requires crew { IsCrew C.is_of shared.now crew.old }
     ensures crew { IsCrew C.is_of shared.now crew.new }
     ensures same { SameCrew crew.old crew.new }

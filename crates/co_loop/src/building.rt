@@ -60,7 +60,9 @@ impl<C: Origin + Drop> Crew<C> {
         seats: Vec<Seats<C>>,
     ) -> Result<Crew<C>, NoMemory>
         ghost origin: { C.Source }
-        ensures { IfOk result (λ crew. IsNewCrew own coroutines origin seats.items crew) }
+        ensures new { IfOk result (λ crew. IsNewCrew origin crew) }
+        ensures numbers { IfOk result (λ crew. (crew.own ≡ own) × (crew.coroutines ≡ coroutines)) }
+        ensures seats { IfOk result (λ crew. crew.seats.items ≡ seats.items) }
     {
         let store = CoStore::build(alloc, coroutines)?;
         let woken = CoQueue::build(alloc, coroutines)?;

@@ -49,7 +49,7 @@ impl<'a, C: Co<E>, E, W> CoLoop<'a, C, E, W> {
         home: CoHome<C>,
         run: CoRun,
     ) -> CoLoop<'a, C, E, W>
-        requires crew { IsNewCrew crew.own crew.coroutines (C.source_of env.now) crew.seats.items crew }
+        requires crew { IsNewCrew (C.source_of env.now) crew }
         requires row { IsRow crew.coroutines shared.now crew.seats.items }
         requires of { AreOf (C.source_of env.now) shared.now }
         requires own { crew.own < length shared.now }
