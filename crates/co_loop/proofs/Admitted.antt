@@ -25,7 +25,7 @@ not_kept co leaving k left none is =
 
 module _ {C O : Type 0} where
   -- what is the same, and what isn't, of a crew that stays one
-  pub crew_from : (is_of : C → O → Type 0) (shared : List (LoopShared C O)) (before after : Crew C O) → SameCrew before after → after.woken ≡ before.woken → after.seats ≡ before.seats → after.naps ≡ before.naps → after.leaving ≡ before.leaving → after.store.origin ≡ before.store.origin
+  crew_from : (is_of : C → O → Type 0) (shared : List (LoopShared C O)) (before after : Crew C O) → SameCrew before after → after.woken ≡ before.woken → after.seats ≡ before.seats → after.naps ≡ before.naps → after.leaving ≡ before.leaving → after.store.origin ≡ before.store.origin
       → AreKept is_of (length shared) after.store before.leaving.items → length after.ended.items ≡ before.coroutines → ((k : ℕ) (co : C) → slice_index_or after.ended.items k None ≡ Some co → is_of co before.store.origin) → IsCrew is_of shared before → IsCrew is_of shared after
   crew_from is_of shared before after same woken seats naps leaving origin kept ended ended_of was =
       let back = sym same.coroutines in

@@ -1,5 +1,5 @@
 -- The events of the loops, one after another.
-use Rattle.std.proofs.Common.{◌≡◌, ℕ, ◌<◌, ◌+◌, List, length, slice_index_or, slice_set, subst, sym, ◌∙◌, length-set, refl, arith}
+use Rattle.std.proofs.Common.{◌≡◌, ℕ, ◌<◌, ◌+◌, List, length, slice_index_or, slice_set, subst, sym, ◌∙◌, length-set, arith}
 use Rattle.std.proofs.lemmas.Bool.{cases_eq}
 use Rattle.std.proofs.lemmas.List.{get_or-set_same, get_or-set_other, get_or_default}
 use mathlib.Core.Logic.{⊎_elim}
@@ -7,9 +7,6 @@ use Rattle.co_loop.specs.declared.shared.Seats.{Seats}
 use Rattle.co_loop.specs.Quits.{SetsEnd, SetsEnds}
 
 module _ {C O : Type 0} where
-  pub sets_none : (seats : List (Seats C O)) → SetsEnds 0 seats seats
-  sets_none seats = record { long = refl; set = λ k s h. absurd (omega (arith, h)); rest = λ k s h. refl }
-
   pub sets_one_more : (at : ℕ) (before mid : List (Seats C O)) (d is : Seats C O) → SetsEnds at before mid → at < length mid → SetsEnd (slice_index_or mid at d) is → SetsEnds (at + 1) before (slice_set mid at is)
   sets_one_more at before mid d is so_far lt sets =
       record {

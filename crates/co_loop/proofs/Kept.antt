@@ -32,7 +32,7 @@ module _ {C : Type 0} where
   none_or_none false y h = h
 
   -- a number that isn't there, where another one is resumed, isn't there after it
-  pub left_none : (s : CoStep) (held : map.FinMap nat_cmp C) (id : ℕ) (was after : C) (q : ℕ) → map.get held id ≡ Some was → map.get held q ≡ None → map.get (left_by s held id after) q ≡ None
+  left_none : (s : CoStep) (held : map.FinMap nat_cmp C) (id : ℕ) (was after : C) (q : ℕ) → map.get held id ≡ Some was → map.get held q ≡ None → map.get (left_by s held id after) q ≡ None
   left_none s held id was after q there none = by s
     where
       other : eqb q id ≡ false

@@ -1,5 +1,4 @@
 pub mod Admitted
-pub mod Alone
 pub mod Begun
 pub mod Choices
 pub mod Drained

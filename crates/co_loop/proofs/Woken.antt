@@ -15,7 +15,7 @@ one_more_within n c (d ∷ cos) below all =
     let later = one_more_within n c cos below parts.1 in
     rw parts.0 later
 
-pub queued_within : (n c : ℕ) (cos : List ℕ) → nat_lt c n ≡ true → are_within n cos ≡ true → are_within n (queued c cos) ≡ true
+queued_within : (n c : ℕ) (cos : List ℕ) → nat_lt c n ≡ true → are_within n cos ≡ true → are_within n (queued c cos) ≡ true
 queued_within n c cos below all = by (contains c cos)
   where
     by : (b : Bool) → are_within n (if b then cos else cos ++ c ∷ []) ≡ true
