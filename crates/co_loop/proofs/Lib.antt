@@ -1,0 +1,12 @@
+pub mod Admitted
+pub mod Begun
+pub mod Choices
+pub mod Drained
+pub mod Ended
+pub mod Kept
+pub mod Nobody
+pub mod Posted
+pub mod Rowed
+pub mod Turned
+pub mod Unchanged
+pub mod Woken

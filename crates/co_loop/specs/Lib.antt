@@ -1,0 +1,13 @@
+pub mod Again
+pub mod Answers
+pub mod Begins
+pub mod Building
+pub mod Crews
+pub mod Drains
+pub mod Loops
+pub mod Napping
+pub mod Posts
+pub mod Quits
+pub mod Rows
+pub mod Turning
+pub mod Wakes
