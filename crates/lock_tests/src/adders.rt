@@ -105,7 +105,12 @@ fn add_all<R: Wait + Abort>(
     let mut woken = 0u64;
     for held in 0..times {
         let mut guard = take(rt, lock, &mut pass, bells, co, &mut woken);
-        guard.value().count(rt, number, held);
+        let found = guard.value().count(number);
+        assert_eq!(rt;
+            found,
+            Some(u64::from(held)),
+            "pass {number} finds its own note"
+        );
         wake(bells, lock.unlock(rt, &mut pass, guard));
     }
     pass

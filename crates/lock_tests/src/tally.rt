@@ -2,7 +2,6 @@ ghost use Rattle.aio_model.specs.LockNotes.{SameNotes};
 ghost use Rattle.lock_tests.specs.Tallies.{own_of};
 
 use co_mutex::LockRule;
-use std::process::Abort;
 
 /// How often a lock was held, and how often by each of four passes.
 #[derive(Clone, Copy, Debug, PartialEq, Eq)]
@@ -12,15 +11,19 @@ pub struct Tally {
 }
 
 impl Tally {
-    /// One more hold of the pass of this number, which held so often before. It finds its own number as it left it.
-    pub fn count<R: Abort>(&mut self, rt: &R, number: u32, held: u32)
+    /// One more hold of the pass of this number. Answers how often it held before, by its own number; None, and nothing is changed,
+    /// where there is no such pass.
+    pub fn count(&mut self, number: u32) -> Option<u64>
         ensures others { SameNotes own_of number self.old self.new }
     {
         let place = number as usize;
-        assert!(rt; place < 4);
-        assert_eq!(rt; self.own[place], u64::from(held), "of pass {number}");
-        self.own[place] = u64::from(held) + 1;
+        if place >= self.own.len() {
+            return None;
+        }
+        let held = self.own[place];
+        self.own[place] = held.wrapping_add(1);
         self.sum = self.sum.wrapping_add(1);
+        Some(held)
     }
 }
 
