@@ -2,10 +2,9 @@
 //! own proof isn't made once more with them. What is expected was worked out by hand.
 #![tactic(auto)]
 
+#[cfg(test)]
 mod alone;
 #[cfg(test)]
 mod rows;
+#[cfg(test)]
 mod stage;
-
-pub use alone::{Tally, serve_alone};
-pub use stage::{are_short, requests_in, set_up};
