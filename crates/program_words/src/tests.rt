@@ -163,7 +163,7 @@ const PATHS: [(&[&str], Option<&str>); 6] = [
     (&["--gen=8", "image=x"], None),
     (&["--gen=8", "--image=a=b"], Some("a=b")),
     (&["--image="], Some("")),
-    (&["x", "--image=/tmp/disk.raw"], Some("/tmp/disk.raw")),
+    (&["x", "--image=a/disk.raw"], Some("a/disk.raw")),
     (&["--image=x", "--image=y"], Some("x")),
 ];
 
