@@ -30,14 +30,14 @@ scheduled c cause given v w rest is =
     let l_first : l.first ≡ m.first = ap (λ (k : Known). k.first) still in
     let m_size : m.coroutines ≡ v.coroutines = ap (λ (k : Known). k.coroutines) marks.rest in
     let l_size : l.coroutines ≡ m.coroutines = ap (λ (k : Known). k.coroutines) still in
-    let one : HasGrown seat_of m.first (Schedule c cause given v.first ∷ []) v.seen v.mine m.seen m.mine = subst (λ k. HasGrown seat_of k (Schedule c cause given v.first ∷ []) v.seen v.mine m.seen m.mine) (sym m_first) (grown_by_one seat_of [] v.seen v.mine (Schedule c cause given v.first) (part_of v) (part_of m) (grown_by_none seat_of v.first v.seen v.mine) marks.makes.part refl) in
+    let one : HasGrown seat_of m.first (Schedule c cause given v.first ∷ []) v.seen v.mine m.seen m.mine = subst (λ k. HasGrown seat_of k (Schedule c cause given v.first ∷ []) v.seen v.mine m.seen m.mine) (sym m_first) (grown_by_one seat_of (IsLegal v.coroutines) [] v.seen v.mine (Schedule c cause given v.first) (part_of v) (part_of m) (grown_by_none seat_of v.first v.seen v.mine) marks.makes refl) in
     let at_last : HasGrown seat_of l.first (Schedule c cause given v.first ∷ []) v.seen v.mine l.seen l.mine = subst (λ (k : Known). HasGrown seat_of k.first (Schedule c cause given v.first ∷ []) v.seen v.mine k.seen k.mine) (sym still) one in
-    let two : HasGrown seat_of l.first (Push c l.first ∷ Schedule c cause given v.first ∷ []) v.seen v.mine w.seen w.mine = grown_by_one seat_of (Schedule c cause given v.first ∷ []) v.seen v.mine (Push c l.first) (part_of l) (part_of w) at_last push.makes.part refl in
+    let two : HasGrown seat_of l.first (Push c l.first ∷ Schedule c cause given v.first ∷ []) v.seen v.mine w.seen w.mine = grown_by_one seat_of (IsLegal l.coroutines) (Schedule c cause given v.first ∷ []) v.seen v.mine (Push c l.first) (part_of l) (part_of w) at_last push.makes refl in
     let by_v : HasGrown seat_of v.first (Push c v.first ∷ Schedule c cause given v.first ∷ []) v.seen v.mine w.seen w.mine = subst (λ k. HasGrown seat_of k (Push c k ∷ Schedule c cause given v.first ∷ []) v.seen v.mine w.seen w.mine) (l_first ∙ m_first) two in
     let legal : IsLegal v.coroutines w.seen = subst (λ k. IsLegal k w.seen) (l_size ∙ m_size) push.makes.legal in
     record {
       steps = is;
-      stands = stands_of seat_of (IsLegal v.coroutines) v.first (Push c v.first ∷ Schedule c cause given v.first ∷ []) v.seen v.mine w.seen w.mine by_v legal (ap newest_of push.makes.part.seen ∙ ap (λ k. Some (Push c k)) (l_first ∙ m_first));
+      stands = stands_of seat_of (IsLegal v.coroutines) v.first (Push c v.first ∷ Schedule c cause given v.first ∷ []) v.seen v.mine w.seen w.mine by_v legal (ap newest_of push.makes.seen ∙ ap (λ k. Some (Push c k)) (l_first ∙ m_first));
       rest = push.rest ∙ ap (λ (k : Known). record k { seen = w.seen; mine = w.mine; did = tried c push.found push.found ++ l.did; phase = AtRest }) (still ∙ ap (λ (k : Known). record k { did = l.did }) marks.rest) ∙ ap (λ (p : Phase). record v { seen = w.seen; mine = w.mine; did = tried c push.found push.found ++ l.did; phase = p }) (sym rest) ∙ ap (λ (d : List Done). record v { seen = w.seen; mine = w.mine; did = d }) (sym (ap (λ (k : Known). k.did) push.rest));
     }
 
@@ -83,7 +83,7 @@ taken v w numbered is =
 pub taken_within : (v w : Known) → HasTaken v w → are_within w.coroutines w.stage.taken ≡ true
 taken_within v w is =
     let sized : w.coroutines ≡ v.coroutines = ap (λ (k : Known). k.coroutines) is.rest in
-    subst (λ k. are_within k w.stage.taken ≡ true) (sym sized) (subst (λ l. are_within v.coroutines l ≡ true) (sym is.taken) (within_of v.coroutines (queue_of w.seen) (queue_below v.coroutines w.seen is.stands.legal)))
+    subst (λ k. are_within k w.stage.taken ≡ true) (sym sized) (subst (λ l. are_within v.coroutines l ≡ true) (sym is.taken) (within_of v.coroutines (queue_of w.seen) (queue_below v.coroutines w.seen is.stands.stands.legal)))
 
 -- The first one.
 
@@ -94,11 +94,11 @@ begun c given more v w first taken is =
     let firsts : o.first ≡ v.first = ap (λ (k : Known). k.first) is.opens.rest in
     let sized : o.coroutines ≡ v.coroutines = ap (λ (k : Known). k.coroutines) is.opens.rest in
     let start : HasGrown seat_of o.first [] v.seen v.mine o.seen o.mine = subst (λ (k : Known). HasGrown seat_of k.first [] v.seen v.mine k.seen k.mine) (sym is.opens.rest) (grown_by_none seat_of v.first v.seen v.mine) in
-    let one : HasGrown seat_of o.first (Enter c ∷ []) v.seen v.mine w.seen w.mine = grown_by_one seat_of [] v.seen v.mine (Enter c) (part_of o) (part_of w) start enters.makes.part (sym (firsts ∙ first)) in
+    let one : HasGrown seat_of o.first (Enter c ∷ []) v.seen v.mine w.seen w.mine = grown_by_one seat_of (IsLegal o.coroutines) [] v.seen v.mine (Enter c) (part_of o) (part_of w) start enters.makes (sym (firsts ∙ first)) in
     let left : w.stage.taken ≡ more = ap (λ (k : Known). k.stage.taken) enters.rest in
     record {
       steps = subst (λ l. Begins c given l v w) (sym left) is;
-      stands = stands_of seat_of (IsLegal v.coroutines) v.first (Enter c ∷ []) v.seen v.mine w.seen w.mine (subst (λ k. HasGrown seat_of k (Enter c ∷ []) v.seen v.mine w.seen w.mine) firsts one) (subst (λ k. IsLegal k w.seen) sized enters.makes.legal) (ap newest_of enters.makes.part.seen);
+      stands = stands_of seat_of (IsLegal v.coroutines) v.first (Enter c ∷ []) v.seen v.mine w.seen w.mine (subst (λ k. HasGrown seat_of k (Enter c ∷ []) v.seen v.mine w.seen w.mine) firsts one) (subst (λ k. IsLegal k w.seen) sized enters.makes.legal) (ap newest_of enters.makes.seen);
       first = taken ∙ ap (λ (l : List ℕ). c ∷ l) (sym left);
       rest = opened_on o enters.rest ∙ ap (λ (k : Known). record k { seen = w.seen; mine = w.mine; did = w.did; stage = w.stage }) is.opens.rest;
     }

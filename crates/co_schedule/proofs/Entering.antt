@@ -168,11 +168,11 @@ module _ {S : Type 0} (given_in : S → Bool) (IsOf : S → Type 0) where
       let is = stand.seats.each id v at in
       let sized : v.coroutines ≡ n = was.coroutines_are numbered in
       let gave_then = given_at_hand c v.stage place.1 (get_elem? s.homes c) hand (kept.2.full id v at is_home c low place.0 place.1 place.2) in
-      let part = makes_of seat_of h entry (part_of v) (part_of w) is numbered refl refl in
+      let makes = makes_of seat_of (IsLegal v.coroutines) h entry (part_of v) (part_of w) is numbered refl refl (subst (λ k. IsLegal k (entry ∷ h)) (sym sized) now.legal) in
       let told : Enters c more v w = record {
-        makes = record { part = part; legal = subst (λ k. IsLegal k (entry ∷ h)) (sym sized) now.legal };
+        makes = makes;
         scheduler = place.0;
-        was = ap (place_of c) (sym (same_older entry h (part.others ++ v.seen) part.seen)) ∙ place.2 ∙ ap (λ b. Pushed place.0 b) (sym gave_then);
+        was = ap (place_of c) (sym (same_older entry h (makes.others ++ v.seen) makes.seen)) ∙ place.2 ∙ ap (λ b. Pushed place.0 b) (sym gave_then);
         rest = refl;
       } in (
         w,

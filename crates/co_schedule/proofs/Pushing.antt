@@ -121,7 +121,7 @@ module _ {S : Type 0} (given_in : S → Bool) (IsOf : S → Type 0) where
         (λ own small t b is_pushed. has_here c v.stage b x (get_elem? (set s.homes c (some x)) c) (not_at_hand s.words stand.taken v.stage c ((stand.knows id v at).walks own) away) placed (gave ∙ same_given v.first t given b (sym here ∙ is_pushed)) of)
         (λ far u ne atu k own small t b is_pushed. has_here c u.stage b x (get_elem? (set s.homes c (some x)) c) (not_at_hand s.words stand.taken u.stage c (k.walks own) away) placed (gave ∙ same_given v.first t given b (sym here ∙ is_pushed)) of)) in
         let sized : v.coroutines ≡ n = (stand.knows id v at).coroutines_are numbered in
-        let told : Pushes c found_now v w = record { makes = record { part = makes_of seat_of h entry (part_of v) (part_of w) (stand.seats.each id v at) numbered refl refl; legal = subst (λ k. IsLegal k (entry ∷ h)) (sym sized) now.legal }; rest = refl } in (
+        let told : Pushes c found_now v w = record { makes = makes_of seat_of (IsLegal v.coroutines) h entry (part_of v) (part_of w) (stand.seats.each id v at) numbered refl refl (subst (λ k. IsLegal k (entry ∷ h)) (sym sized) now.legal); rest = refl } in (
           w,
           gives,
           tt,

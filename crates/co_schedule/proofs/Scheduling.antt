@@ -99,7 +99,7 @@ module _ {S : Type 0} (cause_in : S → Cause) (given_in : S → Bool) (IsOf : S
         (λ small is_free. absurd (let no : Free ≡ Scheduled v.first given = sym is_free ∙ here in cc))
         (λ far u atu own small t b is_pushed. absurd (let no : Pushed t b ≡ Scheduled v.first given = sym is_pushed ∙ here in cc)) in
         let sized : v.coroutines ≡ n = (stand.knows id v at).coroutines_are numbered in
-        let told : Schedules c (cause_in y) given v w = record { makes = record { part = makes_of seat_of h entry (part_of v) (part_of w) (stand.seats.each id v at) numbered refl refl; legal = subst (λ k. IsLegal k (entry ∷ h)) (sym sized) now.legal }; rest = refl } in (
+        let told : Schedules c (cause_in y) given v w = record { makes = makes_of seat_of (IsLegal v.coroutines) h entry (part_of v) (part_of w) (stand.seats.each id v at) numbered refl refl (subst (λ k. IsLegal k (entry ∷ h)) (sym sized) now.legal); rest = refl } in (
           w,
           takes c vacant.0,
           vacant.1,

@@ -9,9 +9,9 @@ use Rattle.co_schedule.specs.Known.{Kind, MarkCompare, HeadLoad, NextStore, Head
 abbrev pub done : Kind → ℕ → ℕ → Done
 done kind word found = record { kind = kind; word = word; found = found }
 
-pub record Makes (entry : Entry) (before after : Known) : Type 0 where
-  pub part : makes_part seat_of entry (part_of before) (part_of after)
-  pub legal : IsLegal before.coroutines after.seen
+abbrev pub Makes : Entry → Known → Known → Type 0
+Makes entry before after =
+    makes_part seat_of (IsLegal before.coroutines) entry (part_of before) (part_of after)
 
 -- the coroutine was scheduled
 pub record Schedules (c : ℕ) (cause : Cause) (given : Bool) (before after : Known) : Type 0 where
@@ -64,7 +64,7 @@ pub record Opens (c found : ℕ) (given : Bool) (before after : Known) : Type 0 
 pub record Enters (c : ℕ) (more : List ℕ) (before after : Known) : Type 0 where
   pub makes : Makes (Enter c) before after
   pub scheduler : ℕ
-  pub was : place_of c (makes.part.others ++ before.seen) ≡ Pushed scheduler before.stage.given
+  pub was : place_of c (makes.others ++ before.seen) ≡ Pushed scheduler before.stage.given
   pub rest : after ≡ record before { seen = after.seen; mine = after.mine; did = done MarkClear (mark_at c) 0 ∷ before.did; stage = record before.stage { taken = more; run = more; hand = None } }
 
 -- Calls.

@@ -82,14 +82,15 @@ module _ {E : Type 0} (seat_of : E → ℕ) where
       }
 
   -- the entry that a seat has just made, behind all that it had not seen
-  pub makes_of : (h : List E) (e : E) (v w : Part E) → IsSeat seat_of h v → 0 < v.count → w.seen ≡ e ∷ h → w.mine ≡ e ∷ v.mine → Makes seat_of e v w
-  makes_of h e v w is numbered seen mine =
+  pub makes_of : (IsLegal : List E → Type 0) (h : List E) (e : E) (v w : Part E) → IsSeat seat_of h v → 0 < v.count → w.seen ≡ e ∷ h → w.mine ≡ e ∷ v.mine → IsLegal (e ∷ h) → Makes seat_of IsLegal e v w
+  makes_of IsLegal h e v w is numbered seen mine legal =
       record {
         numbered = numbered;
         others = is.seen_of.rest;
         not_own = is.seen_of.none_missed;
         seen = seen ∙ ap (λ (l : List E). e ∷ l) is.seen_of.longer;
         mine = mine;
+        legal = subst IsLegal (sym seen) legal;
       }
 
   -- who owns all numbers has seen all

@@ -2,7 +2,7 @@
 use Rattle.std.proofs.Common.{◌≡◌, ℕ, ◌<◌, Bool, true, false, cond, eqb, List, [], ◌∷◌, ◌++◌, refl, sym, ap, ◌∙◌, subst, append_assoc}
 use Rattle.std.proofs.lemmas.Bool.{cond-true, eq-eqb, eqb-true}
 use Rattle.table_seats.specs.Seats.{Numbers, Part, numbers_in, owns, entries_of, own_entries, Makes}
-use Rattle.table_seats.specs.Calls.{EndsWith, StandsInHistory}
+use Rattle.table_seats.specs.Calls.{newest_of, EndsWith, StandsInHistory, StandsAtTheEnd}
 use Rattle.table_seats.proofs.Entries.{owns_first}
 
 module _ {E : Type 0} (seat_of : E → ℕ) where
@@ -21,7 +21,7 @@ module _ {E : Type 0} (seat_of : E → ℕ) where
   appended true e xs ys zs h = ap (λ (l : List E). e ∷ l) h
   appended false e xs ys zs h = h
 
-  entries-append : (number : ℕ) (xs ys : List E) → entries_of seat_of number (xs ++ ys) ≡ entries_of seat_of number xs ++ entries_of seat_of number ys
+  pub entries-append : (number : ℕ) (xs ys : List E) → entries_of seat_of number (xs ++ ys) ≡ entries_of seat_of number xs ++ entries_of seat_of number ys
   entries-append number [] ys = refl
   entries-append number (e ∷ xs) ys =
       appended (eqb (seat_of e) number) e (entries_of seat_of number xs) (entries_of seat_of number ys) (entries_of seat_of number (xs ++ ys)) (entries-append number xs ys)
@@ -46,8 +46,8 @@ module _ {E : Type 0} (seat_of : E → ℕ) where
       record { rest = others; longer = seen; just_these = none_of (numbers_in v) v.first others (owns_first (numbers_in v) numbered) not_own; mine_grows = mine }
 
   -- one entry more, by the seat's own number
-  pub grown_by_one : (entries seen mine : List E) (e : E) (v w : Part E) → HasGrown v.first entries seen mine v.seen v.mine → Makes seat_of e v w → seat_of e ≡ v.first → HasGrown v.first (e ∷ entries) seen mine w.seen w.mine
-  grown_by_one entries seen mine e v w so_far makes own =
+  pub grown_by_one : (IsLegal : List E → Type 0) (entries seen mine : List E) (e : E) (v w : Part E) → HasGrown v.first entries seen mine v.seen v.mine → Makes seat_of IsLegal e v w → seat_of e ≡ v.first → HasGrown v.first (e ∷ entries) seen mine w.seen w.mine
+  grown_by_one IsLegal entries seen mine e v w so_far makes own =
       let none : entries_of seat_of v.first makes.others ≡ [] = none_of (numbers_in v) v.first makes.others (owns_first (numbers_in v) makes.numbered) makes.not_own in
       record {
         rest = e ∷ (makes.others ++ so_far.rest);
@@ -57,6 +57,22 @@ module _ {E : Type 0} (seat_of : E → ℕ) where
       }
 
   -- what was seen then is legal, and ends with the last of these
-  pub stands_of : (IsLegal : List E → Type 0) (number : ℕ) (entries seen mine seen_after mine_after : List E) → HasGrown number entries seen mine seen_after mine_after → IsLegal seen_after → EndsWith entries seen_after → StandsInHistory seat_of IsLegal number entries seen mine seen_after mine_after
+  pub stands_of : (IsLegal : List E → Type 0) (number : ℕ) (entries seen mine seen_after mine_after : List E) → HasGrown number entries seen mine seen_after mine_after → IsLegal seen_after → EndsWith entries seen_after → StandsAtTheEnd seat_of IsLegal number entries seen mine seen_after mine_after
   stands_of IsLegal number entries seen mine seen_after mine_after grown legal ends =
-      record { rest = grown.rest; longer = grown.longer; legal = legal; just_these = grown.just_these; mine_grows = grown.mine_grows; ends = ends }
+      record { stands = record { rest = grown.rest; longer = grown.longer; legal = legal; just_these = grown.just_these; mine_grows = grown.mine_grows }; ends = ends }
+
+  -- one entry, by the seat's own number
+  pub makes_stand : (IsLegal : List E → Type 0) (e : E) (v w : Part E) → Makes seat_of IsLegal e v w → seat_of e ≡ v.first → StandsAtTheEnd seat_of IsLegal v.first (e ∷ []) v.seen v.mine w.seen w.mine
+  makes_stand IsLegal e v w makes own =
+      stands_of IsLegal v.first (e ∷ []) v.seen v.mine w.seen w.mine (grown_by_one IsLegal [] v.seen v.mine e v w (grown_by_none v.first v.seen v.mine) makes own) makes.legal (ap newest_of makes.seen)
+
+  -- more entries behind those of a call
+  pub stands_append : (IsLegal : List E → Type 0) (number : ℕ) (es fs a ma b mb c mc : List E) → StandsInHistory seat_of IsLegal number es a ma b mb → StandsInHistory seat_of IsLegal number fs b mb c mc → StandsInHistory seat_of IsLegal number (fs ++ es) a ma c mc
+  stands_append IsLegal number es fs a ma b mb c mc h k =
+      record {
+        rest = k.rest ++ h.rest;
+        longer = k.longer ∙ ap (λ (l : List E). k.rest ++ l) h.longer ∙ sym (append_assoc k.rest h.rest a);
+        legal = k.legal;
+        just_these = entries-append number k.rest h.rest ∙ ap (λ (l : List E). l ++ entries_of seat_of number h.rest) k.just_these ∙ ap (λ (l : List E). fs ++ l) h.just_these;
+        mine_grows = k.mine_grows ∙ ap (λ (l : List E). fs ++ l) h.mine_grows ∙ sym (append_assoc fs es ma);
+      }

@@ -19,6 +19,10 @@ module _ {E : Type 0} (seat_of : E → ℕ) (IsLegal : List E → Type 0) where
     pub legal : IsLegal seen_after
     pub just_these : entries_of seat_of number rest ≡ entries
     pub mine_grows : mine_after ≡ entries ++ mine
+
+  -- and what was seen ends with the last of them
+  pub record StandsAtTheEnd (number : ℕ) (entries seen mine seen_after mine_after : List E) : Type 0 where
+    pub stands : StandsInHistory number entries seen mine seen_after mine_after
     pub ends : EndsWith entries seen_after
 
   -- each of the two lists is a part of the longer one, which is legal, and in which each of the two has just the entries that it made

@@ -98,10 +98,11 @@ module _ {E : Type 0} (seat_of : E → ℕ) where
       pub apart : AreApart views
       pub all_owned : own_entries everyone history ≡ history
 
-  -- The entry was made, behind some of others, and what was seen goes on with it.
-  pub record Makes (entry : E) (before after : Part E) : Type 0 where
+  -- The entry was made, behind some of others: it stands in the one history, which is legal, and what was seen goes on with it.
+  pub record Makes (IsLegal : List E → Type 0) (entry : E) (before after : Part E) : Type 0 where
     pub numbered : 0 < before.count
     pub others : List E
     pub not_own : own_entries (numbers_in before) others ≡ []
     pub seen : after.seen ≡ entry ∷ (others ++ before.seen)
     pub mine : after.mine ≡ entry ∷ before.mine
+    pub legal : IsLegal after.seen
