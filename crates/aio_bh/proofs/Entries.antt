@@ -1,52 +1,26 @@
 -- The home's entries in what came between, and what others leave as it is.
 use Rattle.std.proofs.Common.{◌≡◌, ℕ, ◌<◌, Bool, true, false, cond, eqb, [], ◌∷◌, ◌++◌, drop, refl, sym, ap, ◌∙◌, subst}
-use Rattle.std.proofs.lemmas.Bool.{and_parts, eqb-true, false≢true}
+use Rattle.std.proofs.lemmas.Bool.{and_parts, false≢true}
+use Rattle.table_seats.proofs.Entries.{owns_first}
+use Rattle.table_seats.proofs.Standing.{none_of}
 use Rattle.aio_model.specs.LoopHistory.{Entry, New, Enqueue, Put, Cancel, Take, Dequeue, Free, SetEvent, ClearEvent, History}
 use Rattle.aio_model.specs.LoopLists.{seat_of, taken_of, dequeue_count, out_of}
-use Rattle.aio_model.specs.LoopSeats.{Numbers, owns, home, entries_by, entries_of, own_entries}
+use Rattle.aio_model.specs.LoopSeats.{Numbers, owns, home, entries_of, own_entries}
 use Rattle.aio_model.specs.LoopFrame.{are_of_callback}
-use Rattle.aio_core.proofs.Entries.{owns_first}
-
-chosen-append : (b : Bool) (e : Entry) (xs xs' ys : History) → xs' ≡ xs ++ ys → cond b (e ∷ xs') xs' ≡ cond b (e ∷ xs) xs ++ ys
-chosen-append true e xs xs' ys h = ap (λ l. e ∷ l) h
-chosen-append false e xs xs' ys h = h
-
-pub entries_of-append : (n : ℕ) (newer older : History) → entries_of n (newer ++ older) ≡ entries_of n newer ++ entries_of n older
-entries_of-append n [] older = refl
-entries_of-append n (e ∷ newer) older =
-    chosen-append (eqb (seat_of e) n) e (entries_of n newer) (entries_of n (newer ++ older)) (entries_of n older) (entries_of-append n newer older)
-
--- Who has no entry of some numbers has none of fewer.
-
-none_here : (a b : Bool) (e : Entry) (ps qs : History) → (b ≡ true → a ≡ true) → (ps ≡ [] → qs ≡ []) → cond a (e ∷ ps) ps ≡ [] → cond b (e ∷ qs) qs ≡ []
-none_here true b e ps qs implies k h = absurd cc
-none_here false true e ps qs implies k h = absurd (false≢true (implies refl))
-none_here false false e ps qs implies k h = k h
-
-none_by : (p q : ℕ → Bool) (xs : History) → ((n : ℕ) → q n ≡ true → p n ≡ true) → entries_by p xs ≡ [] → entries_by q xs ≡ []
-none_by p q [] implies h = refl
-none_by p q (e ∷ xs) implies h =
-    none_here (p (seat_of e)) (q (seat_of e)) e (entries_by p xs) (entries_by q xs) (implies (seat_of e)) (none_by p q xs implies) h
-
-home_is_owned : (numbers : Numbers) → numbers.first ≡ 64 → numbers.count ≡ 1 → (n : ℕ) → eqb n home ≡ true → owns numbers n ≡ true
-home_is_owned numbers first count n is =
-    let same : n ≡ home = eqb-true n home is in
-    let of_first : (f c : ℕ) → f ≡ 64 → c ≡ 1 → owns (record { first = f; count = c }) home ≡ true = λ f c ef ec. subst (λ x. owns (record { first = x; count = c }) home ≡ true) (sym ef) (subst (λ y. owns (record { first = 64; count = y }) home ≡ true) (sym ec) refl) in
-    subst (λ m. owns numbers m ≡ true) (sym same) (of_first numbers.first numbers.count first count)
 
 -- none of the home's own
 pub none_of_home : (numbers : Numbers) (others : History) → numbers.first ≡ 64 → numbers.count ≡ 1 → own_entries numbers others ≡ [] → entries_of home others ≡ []
 none_of_home numbers others first count h =
-    none_by (owns numbers) (λ n. eqb n home) others (home_is_owned numbers first count) h
-
-first_is_owned : (numbers : Numbers) → 0 < numbers.count → (n : ℕ) → eqb n numbers.first ≡ true → owns numbers n ≡ true
-first_is_owned numbers some n is =
-    subst (λ m. owns numbers m ≡ true) (sym (eqb-true n numbers.first is)) (owns_first numbers some)
+    none_of seat_of numbers home others (owned numbers.first numbers.count first count) h
+  where
+    owned : (f c : ℕ) → f ≡ 64 → c ≡ 1 → owns (record { first = f; count = c }) home ≡ true
+    owned f c ef ec =
+        subst (λ x. owns (record { first = x; count = c }) home ≡ true) (sym ef) (subst (λ y. owns (record { first = 64; count = y }) home ≡ true) (sym ec) refl)
 
 -- none of a seat's own number
 pub none_of_own : (numbers : Numbers) (others : History) → 0 < numbers.count → own_entries numbers others ≡ [] → entries_of numbers.first others ≡ []
 none_of_own numbers others some h =
-    none_by (owns numbers) (λ n. eqb n numbers.first) others (first_is_owned numbers some) h
+    none_of seat_of numbers numbers.first others (owns_first numbers some) h
 
 -- What is out stays as it is, where home does only what a callback may.
 

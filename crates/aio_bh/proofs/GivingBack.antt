@@ -1,6 +1,7 @@
 -- How a callback shows that it gives back the seat that it was lent: by the steps that it made, one after another.
 use Rattle.std.proofs.Common.{◌≡◌, ℕ, ◌<◌, Bool, true, false, cond, eqb, MatchBool, List, [], ◌∷◌, ◌++◌, refl, sym, ap, ◌∙◌, subst, append_assoc}
 use Rattle.std.proofs.lemmas.Bool.{eq-eqb, and_from, and_parts}
+use Rattle.table_seats.proofs.Standing.{entries-append}
 use Rattle.aio_model.specs.declared.flags.Flags.{Flags}
 use Rattle.aio_model.specs.LoopHistory.{Entry, ToCallOnce, New, Enqueue, Put, Cancel, History}
 use Rattle.aio_model.specs.LoopHistory.{Asked}
@@ -15,7 +16,7 @@ use Rattle.aio_core.specs.Standing.{Makes, Claims, Enqueues, Aims, Pushes, Cance
 use Rattle.aio_notify.specs.Notifying.{Notifies}
 use Rattle.aio_bh.specs.HomeSteps.{home_steps}
 use Rattle.aio_bh.specs.Running.{GivesBack}
-use Rattle.aio_bh.proofs.Entries.{entries_of-append, none_of_own}
+use Rattle.aio_bh.proofs.Entries.{none_of_own}
 
 -- as what gives back, but for the phase
 pub record GoesThrough (made : History) (before after : Known) : Type 0 where
@@ -39,7 +40,7 @@ GoesThrough-then older newer a b c first then =
     let same_first : b.first ≡ a.first = ap (λ (k : Known). k.first) first.rest in
     record {
       between = then.between ++ first.between;
-      just_these = entries_of-append a.first then.between first.between ∙ ap (λ n. entries_of n then.between ++ entries_of a.first first.between) (sym same_first) ∙ ap (λ l. l ++ entries_of a.first first.between) then.just_these ∙ ap (λ l. newer ++ l) first.just_these;
+      just_these = entries-append seat_of a.first then.between first.between ∙ ap (λ n. entries_of n then.between ++ entries_of a.first first.between) (sym same_first) ∙ ap (λ l. l ++ entries_of a.first first.between) then.just_these ∙ ap (λ l. newer ++ l) first.just_these;
       of_callback = are_of_callback-append newer older then.of_callback first.of_callback;
       seen = then.seen ∙ ap (λ l. then.between ++ l) first.seen ∙ sym (append_assoc then.between first.between a.seen);
       mine = then.mine ∙ ap (λ l. newer ++ l) first.mine ∙ sym (append_assoc newer older a.mine);

@@ -1,10 +1,13 @@
 -- A one-shot stands in the history.
 use Rattle.std.proofs.Common.{◌≡◌, ℕ, cond, List, [], ◌∷◌, refl, sym, ap, ◌∙◌, subst}
+use Rattle.table_seats.proofs.Standing.{makes_stand, stands_append}
 use Rattle.aio_model.specs.declared.flags.Flags.{Flags}
 use Rattle.aio_model.specs.LoopHistory.{ToCallOnce, New, Enqueue, Put, History}
+use Rattle.aio_model.specs.LoopLists.{seat_of}
+use Rattle.aio_model.specs.LoopLegal.{IsLegal}
 use Rattle.aio_model.specs.LoopSeats.{StandsAtTheEnd}
 use Rattle.aio_model.specs.InFlight.{Announced, ToStore, ForIndex}
-use Rattle.aio_core.specs.Known.{Known}
+use Rattle.aio_core.specs.Known.{Known, part_of}
 use Rattle.aio_core.specs.Standing.{PlacesJob}
 use Rattle.aio_core.specs.Calls.{IsTaken}
 use Rattle.aio_notify.specs.Notifying.{Notifies}
@@ -12,7 +15,7 @@ use Rattle.lot_pool.specs.Pools.{PassState}
 use Rattle.aio_bh.specs.HomeSteps.{home_steps}
 use Rattle.aio_bh.specs.Enqueuing.{PushesAtLast, Stands}
 use Rattle.aio_bh.specs.OneShots.{FindsEachTaken, PlacesIn, one_shot_entries}
-use Rattle.aio_bh.proofs.Standing.{IsSame, IsQuiet, AtEnd, makes_stand, stands_append, changed, quieted, quiet_refl, quiet_then, same_then, at_quiet, to_stands, then_quiet, notifies_quiet, enqueue_then_push, pushes_at_last_stands}
+use Rattle.aio_bh.proofs.Standing.{IsSame, IsQuiet, AtEnd, changed, quieted, quiet_refl, quiet_then, same_then, at_quiet, to_stands, then_quiet, notifies_quiet, enqueue_then_push, pushes_at_last_stands}
 
 quiet_steps : (v w : Known) → IsQuiet v w → home_steps w.did ≡ home_steps v.did
 quiet_steps v w quiet = quiet.same.steps
@@ -53,12 +56,12 @@ job_stands lot job v placed pushed places pushes =
     let flags = places.flags in
     let claimed = places.claimed in
     let later : ℕ → History = λ n. Put lot n ∷ Enqueue lot ToCallOnce n flags ∷ [] in
-    let new = makes_stand (New lot v.first job) v claimed places.claims.makes refl in
+    let new = makes_stand seat_of (IsLegal v.sizes) (New lot v.first job) (part_of v) (part_of claimed) places.claims.makes refl in
     let same = changed v claimed _ _ _ _ places.claims.rest refl in
     let rest = enqueue_then_push lot ToCallOnce flags claimed placed pushed places.enqueues (pushes_at_last_stands lot placed pushed pushes) in
     let one = subst (λ z. StandsAtTheEnd z claimed.first (later claimed.first) claimed.seen claimed.mine pushed.seen pushed.mine) same.sizes rest.0 in
     let two = subst (λ n. StandsAtTheEnd v.sizes n (later n) claimed.seen claimed.mine pushed.seen pushed.mine) same.first one in
-    (record { stands = stands_append v.sizes v.first (New lot v.first job ∷ []) (later v.first) v.seen v.mine claimed.seen claimed.mine pushed.seen pushed.mine new.stands two.stands; ends = two.ends }, same_then v claimed pushed same rest.1)
+    (record { stands = stands_append seat_of (IsLegal v.sizes) v.first (New lot v.first job ∷ []) (later v.first) v.seen v.mine claimed.seen claimed.mine pushed.seen pushed.mine new.stands two.stands; ends = two.ends }, same_then v claimed pushed same rest.1)
 
 pub places_stands : (lot job : ℕ) (pass : PassState) (v : Known) (pass_after : PassState) (placed pushed w : Known) (places : PlacesIn lot job pass v pass_after placed) → PushesAtLast lot placed pushed → Notifies pushed w → Stands (one_shot_entries lot job v.first places.places.flags) v w
 places_stands lot job pass v pass_after placed pushed w places pushes notifies =

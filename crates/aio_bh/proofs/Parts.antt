@@ -1,8 +1,9 @@
 -- The parts of a poll one after another, at any depth: entries, bodies, turns, and the frame.
 use Rattle.std.proofs.Common.{◌≡◌, ℕ, zero, suc, ◌+◌, min, Bool, true, false, cond, Option, None, MatchBool, List, [], ◌∷◌, ◌++◌, refl, sym, ap, ◌∙◌, subst, append_assoc, arith, inl, inr}
+use Rattle.table_seats.proofs.Standing.{entries-append}
 use Rattle.aio_model.specs.LoopHistory.{Sizes, Take, Dequeue, History}
 use Rattle.aio_model.specs.LoopFlags.{is_lot}
-use Rattle.aio_model.specs.LoopLists.{job_of, out_of}
+use Rattle.aio_model.specs.LoopLists.{seat_of, job_of, out_of}
 use Rattle.aio_model.specs.LoopLegal.{IsLegal}
 use Rattle.aio_model.specs.LoopSeats.{home, entries_of}
 use Rattle.aio_model.specs.LoopFrame.{Answer, Ended, Nests, Place, Entered, Makes, Enters, Body, Turn, Frame, lent_of, nests_above, is_cut, ran_of, cut_nests_of}
@@ -13,7 +14,6 @@ use Rattle.aio_bh.specs.HomeSteps.{home_steps, steps_for}
 use Rattle.aio_bh.specs.Running.{GivesBack, RunsOnce}
 use Rattle.aio_bh.specs.Polling.{counted, GoesOn}
 use Rattle.aio_bh.specs.SoFar.{Far, far, place_of, Counts, EntersSome, Goes, TakesNext, Follows, TakesAndSome, noted}
-use Rattle.aio_bh.proofs.Entries.{entries_of-append}
 use Rattle.aio_bh.proofs.HomeSteps.{added_up, none_added, more_added, steps_for-append, steps_for-callback}
 
 -- What the home's seat goes through.
@@ -33,10 +33,10 @@ pub GoesOn-then : (a b c : Known) → GoesOn a b → GoesOn b c → GoesOn a c
 GoesOn-then a b c first then = record {
   between = then.between ++ first.between;
   seen = then.seen ∙ ap (λ l. then.between ++ l) first.seen ∙ sym (append_assoc then.between first.between a.seen);
-  mine = then.mine ∙ ap (λ l. entries_of home then.between ++ l) first.mine ∙ sym (append_assoc (entries_of home then.between) (entries_of home first.between) a.mine) ∙ ap (λ l. l ++ a.mine) (sym (entries_of-append home then.between first.between));
+  mine = then.mine ∙ ap (λ l. entries_of home then.between ++ l) first.mine ∙ sym (append_assoc (entries_of home then.between) (entries_of home first.between) a.mine) ∙ ap (λ l. l ++ a.mine) (sym (entries-append seat_of home then.between first.between));
   legal = subst (λ s. IsLegal s c.seen) (same_sizes a b first) then.legal;
   rest = then.rest ∙ ap (λ (k : Known). record k { seen = c.seen; mine = c.mine; did = c.did; stage = c.stage; told = c.told }) first.rest;
-  steps = added_up (home_steps c.did) (home_steps b.did) (home_steps a.did) (steps_for (entries_of home then.between)) (steps_for (entries_of home first.between)) _ then.steps first.steps (ap steps_for (entries_of-append home then.between first.between) ∙ steps_for-append (entries_of home then.between) (entries_of home first.between));
+  steps = added_up (home_steps c.did) (home_steps b.did) (home_steps a.did) (steps_for (entries_of home then.between)) (steps_for (entries_of home first.between)) _ then.steps first.steps (ap steps_for (entries-append seat_of home then.between first.between) ∙ steps_for-append (entries_of home then.between) (entries_of home first.between));
 }
 
 -- Entries into the runner.

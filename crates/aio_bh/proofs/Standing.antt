@@ -1,43 +1,17 @@
 -- Steps of one seat, one after another, stand in the history.
-use Rattle.std.proofs.Common.{◌≡◌, ℕ, zero, suc, Bool, true, false, cond, eqb, MatchBool, List, [], ◌∷◌, ◌++◌, refl, sym, ap, ◌∙◌, subst, append_assoc}
-use Rattle.std.proofs.lemmas.Bool.{cond-true, eq-eqb}
+use Rattle.std.proofs.Common.{◌≡◌, ℕ, zero, suc, Bool, true, false, cond, eqb, MatchBool, List, [], ◌∷◌, refl, sym, ap, ◌∙◌, subst}
+use Rattle.table_seats.proofs.Standing.{makes_stand, stands_append}
 use Rattle.aio_model.specs.declared.flags.Flags.{Flags}
-use Rattle.aio_model.specs.LoopHistory.{Sizes, Asked, Entry, Enqueue, Put, History}
+use Rattle.aio_model.specs.LoopHistory.{Asked, Enqueue, Put, History}
 use Rattle.aio_model.specs.LoopLists.{seat_of}
-use Rattle.aio_model.specs.LoopSeats.{entries_of, newest_of, StandsInHistory, StandsAtTheEnd}
+use Rattle.aio_model.specs.LoopLegal.{IsLegal}
+use Rattle.aio_model.specs.LoopSeats.{StandsAtTheEnd}
 use Rattle.aio_model.specs.InFlight.{Phase}
-use Rattle.aio_core.specs.Known.{Done, Known, numbers_of}
-use Rattle.aio_core.specs.Standing.{Makes, Enqueues, Aims, SetsNotifier}
-use Rattle.aio_bh.proofs.Entries.{entries_of-append, none_of_own}
+use Rattle.aio_core.specs.Known.{Done, Known, part_of}
+use Rattle.aio_core.specs.Standing.{Enqueues, Aims, SetsNotifier}
 use Rattle.aio_bh.specs.HomeSteps.{home_steps}
 use Rattle.aio_notify.specs.Notifying.{Notifies}
 use Rattle.aio_bh.specs.Enqueuing.{MissesOnce, PushesOnce, Tries, PushesAtLast, Inserts, InsertsAtOnce, Schedules, SchedulesAtOnce, SchedulesLater, enqueue_entries, Stands}
-
--- one entry
-pub makes_stand : (e : Entry) (v w : Known) → Makes e v w → seat_of e ≡ v.first → StandsAtTheEnd v.sizes v.first (e ∷ []) v.seen v.mine w.seen w.mine
-makes_stand e v w makes by_it =
-    let same : eqb (seat_of e) v.first ≡ true = eq-eqb (seat_of e) v.first by_it in
-    record {
-      stands = record {
-        rest = e ∷ makes.others;
-        longer = makes.seen;
-        legal = makes.legal;
-        just_these = cond-true (eqb (seat_of e) v.first) (e ∷ entries_of v.first makes.others) (entries_of v.first makes.others) same ∙ ap (λ (l : History). e ∷ l) (none_of_own (numbers_of v) makes.others makes.numbered makes.not_own);
-        mine_grows = makes.mine;
-      };
-      ends = ap newest_of makes.seen;
-    }
-
--- more entries behind those of a call
-pub stands_append : (z : Sizes) (n : ℕ) (es fs a ma b mb c mc : History) → StandsInHistory z n es a ma b mb → StandsInHistory z n fs b mb c mc → StandsInHistory z n (fs ++ es) a ma c mc
-stands_append z n es fs a ma b mb c mc h k =
-    record {
-      rest = k.rest ++ h.rest;
-      longer = k.longer ∙ ap (λ (l : History). k.rest ++ l) h.longer ∙ sym (append_assoc k.rest h.rest a);
-      legal = k.legal;
-      just_these = entries_of-append n k.rest h.rest ∙ ap (λ (l : History). l ++ entries_of n h.rest) k.just_these ∙ ap (λ (l : History). fs ++ l) h.just_these;
-      mine_grows = k.mine_grows ∙ ap (λ (l : History). fs ++ l) h.mine_grows ∙ sym (append_assoc fs es ma);
-    }
 
 -- What steps leave.
 
@@ -128,7 +102,7 @@ at_quiet v a w entries quiet h =
 pub pushes_once_stands : (i : ℕ) (v w : Known) → PushesOnce i v w → AtEnd v (Put i v.first ∷ []) w × IsSame v w
 pushes_once_stands i v w once =
     let aimed = aims_quiet i once.head v once.aimed once.aims in
-    (at_quiet v once.aimed w (λ n. Put i n ∷ []) aimed (makes_stand (Put i once.aimed.first) once.aimed w once.pushes.makes refl), same_then v once.aimed w aimed.same (changed once.aimed w _ _ _ _ once.pushes.rest refl))
+    (at_quiet v once.aimed w (λ n. Put i n ∷ []) aimed (makes_stand seat_of (IsLegal once.aimed.sizes) (Put i once.aimed.first) (part_of once.aimed) (part_of w) once.pushes.makes refl), same_then v once.aimed w aimed.same (changed once.aimed w _ _ _ _ once.pushes.rest refl))
 
 pub pushes_at_last_stands : (i : ℕ) (v w : Known) → PushesAtLast i v w → AtEnd v (Put i v.first ∷ []) w × IsSame v w
 pushes_at_last_stands i v w run =
@@ -140,14 +114,14 @@ pushes_at_last_stands i v w run =
 pub enqueue_then_push : (i : ℕ) (asked : Asked) (flags : Flags) (v a w : Known) → Enqueues i asked flags v a → AtEnd a (Put i a.first ∷ []) w × IsSame a w → AtEnd v (Put i v.first ∷ Enqueue i asked v.first flags ∷ []) w × IsSame v w
 enqueue_then_push i asked flags v a w enqueues push =
     let same = changed v a _ _ _ _ enqueues.rest refl in
-    let first = makes_stand (Enqueue i asked v.first flags) v a enqueues.makes refl in
+    let first = makes_stand seat_of (IsLegal v.sizes) (Enqueue i asked v.first flags) (part_of v) (part_of a) enqueues.makes refl in
     let one = subst (λ z. StandsAtTheEnd z a.first (Put i a.first ∷ []) a.seen a.mine w.seen w.mine) same.sizes push.0 in
     let second : StandsAtTheEnd v.sizes v.first (Put i v.first ∷ []) a.seen a.mine w.seen w.mine = subst (λ n. StandsAtTheEnd v.sizes n (Put i n ∷ []) a.seen a.mine w.seen w.mine) same.first one in
-    (record { stands = stands_append v.sizes v.first (Enqueue i asked v.first flags ∷ []) (Put i v.first ∷ []) v.seen v.mine a.seen a.mine w.seen w.mine first.stands second.stands; ends = second.ends }, same_then v a w same push.1)
+    (record { stands = stands_append seat_of (IsLegal v.sizes) v.first (Enqueue i asked v.first flags ∷ []) (Put i v.first ∷ []) v.seen v.mine a.seen a.mine w.seen w.mine first.stands second.stands; ends = second.ends }, same_then v a w same push.1)
 
 pub enqueue_alone : (i : ℕ) (asked : Asked) (flags : Flags) (v a : Known) → Enqueues i asked flags v a → AtEnd v (Enqueue i asked v.first flags ∷ []) a × IsSame v a
 enqueue_alone i asked flags v a enqueues =
-    (makes_stand (Enqueue i asked v.first flags) v a enqueues.makes refl, changed v a _ _ _ _ enqueues.rest refl)
+    (makes_stand seat_of (IsLegal v.sizes) (Enqueue i asked v.first flags) (part_of v) (part_of a) enqueues.makes refl, changed v a _ _ _ _ enqueues.rest refl)
 
 pub to_stands : (entries : History) (v w : Known) → AtEnd v entries w × IsSame v w → Stands entries v w
 to_stands entries v w h = record { stands = h.0; rest = same_rest v w h.1; steps = h.1.steps }

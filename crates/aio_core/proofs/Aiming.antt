@@ -14,7 +14,7 @@ use Rattle.aio_core.specs.Rule.{IsOwed, Owes, Stands, Kept}
 use Rattle.aio_core.specs.Standing.{done, index_in}
 use Rattle.aio_core.specs.Plays.{HeadIsLoaded, NextIsStored, head_loaded, next_stored}
 use Rattle.aio_core.proofs.Slots.{same_entry, same_hand, slots_kept}
-use Rattle.aio_core.proofs.Seats.{seats_keep}
+use Rattle.aio_core.proofs.Seats.{seats_keep, same_view}
 use Rattle.aio_core.proofs.Histories.{announced_alone}
 use Rattle.aio_core.proofs.Flags.{events_apart, read_here, read_else, flags_apart}
 use Rattle.aio_core.proofs.Lists.{owes_kept, owed_apart, has_out_kept, lists_after}
@@ -39,9 +39,9 @@ head_load_allowed number sizes slots id i me numbered phase s kept long at fits 
     let found = slice_index s.words head_at in
     let owed : IsOwed sizes h v.first i = owed_of sizes s.words h v.first v.phase (Announced i) phase (stand.lists.owed id v at) in
     let w = after_head_load v i found in
-    let low : i < index_count v.sizes = subst (λ z. i < index_count z) (sym ((stand.seats.each id v at).sizes_are numbered)) owed.below in
+    let low : i < index_count v.sizes = subst (λ z. i < index_count z) (sym ((stand.seats.tables id v at).sizes_are numbered)) owed.below in
     let told : HeadIsLoaded i found v w = record { below = low; rest = refl } in
-    (w, keeps, tt, (h, load_stands sizes h s.words s.views id head_at v w stand at numbered (record { sizes_are = refl; numbers_are = refl; told_is = refl }) refl refl owed (stand.lists.out id v at) (record { step = done HeadLoad head_at found; longer = refl; sleep_is = refl; flight = flight_by v.phase (Announced i) (HeadLoaded i found) phase (record { pushes = refl; stores = refl; flies = refl }) }), slots_kept number sizes h h s.homes s.views id me.0 w kept.2 at refl (λ m low. (same_entry h (sizes.handles + m), same_hand (sizes.handles + m) me.0.stage w.stage refl refl))), (refl, λ j is. let same : i ≡ j = ap index_in (sym phase ∙ is) in subst (λ k. HeadIsLoaded k found v w) same told))
+    (w, keeps, tt, (h, load_stands sizes h s.words s.views id head_at v w stand at numbered (same_view v w refl refl refl) refl refl owed (stand.lists.out id v at) (record { step = done HeadLoad head_at found; longer = refl; sleep_is = refl; flight = flight_by v.phase (Announced i) (HeadLoaded i found) phase (record { pushes = refl; stores = refl; flies = refl }) }), slots_kept number sizes h h s.homes s.views id me.0 w kept.2 at refl (λ m low. (same_entry h (sizes.handles + m), same_hand (sizes.handles + m) me.0.stage w.stage refl refl))), (refl, λ j is. let same : i ≡ j = ap index_in (sym phase ∙ is) in subst (λ k. HeadIsLoaded k found v w) same told))
 
 -- Storing what follows the index.
 
@@ -76,12 +76,12 @@ module _ (sizes : Sizes) (h : History) (words : List ℕ) (views : List Known) (
       record {
         long = length-set words (next_at i) head ∙ stand.long;
         legal = stand.legal;
-        seats = seats_keep sizes h views id v w stand.seats at (record { sizes_are = refl; numbers_are = refl; told_is = refl }) refl refl numbered;
+        seats = seats_keep sizes h views id v w stand.seats at (same_view v w refl refl refl) refl refl numbered;
         flags = flags_apart sizes h h words (next_at i) head stand.flags (λ j q. omega arith) (λ j. refl);
         lists = lists_after sizes h h words words' views id w stand.lists
             (subst (λ k. IsChain (next_in words') k (stack_of h)) (sym top) (chain_kept (next_in words) (next_in words') (slice_index words head_at) (stack_of h) stand.lists.stack on_stack))
             (owed, here)
-            (λ beside u ne atu. owes_kept sizes words words' h h u.first u.phase (λ j busy theirs. (theirs, else_same j (owed_apart sizes h views id beside v u i j stand.seats at atu ne owed numbered theirs ((stand.seats.each beside u atu).active busy)))) (λ j job busy c. c))
+            (λ beside u ne atu. owes_kept sizes words words' h h u.first u.phase (λ j busy theirs. (theirs, else_same j (owed_apart sizes h views id beside v u i j stand.seats at atu ne owed numbered theirs ((stand.seats.tables beside u atu).active busy)))) (λ j job busy c. c))
             (has_out_kept words words' h h v refl in_out (stand.lists.out id v at))
             (λ beside u ne atu. has_out_kept words words' h h u refl in_out);
         events = events_apart h (h) words (next_at i) head stand.events (λ e low q. omega arith) (λ e. refl);

@@ -14,12 +14,12 @@ use Rattle.aio_core.specs.Standing.{done}
 use Rattle.aio_core.specs.SleepSteps.{is_to_disarm, made_after, Arms, after_test, Tests, Disarms, ClearsNotifier, Accepts}
 use Rattle.aio_core.specs.Plays.{armed, tested, disarmed, notifier_cleared, accepted}
 use Rattle.aio_core.proofs.Slots.{same_entry, same_hand, slots_kept}
-use Rattle.aio_core.proofs.Seats.{seats_keep}
+use Rattle.aio_core.proofs.Seats.{seats_keep, same_view}
 use Rattle.aio_core.proofs.Flags.{read_here, read_else}
 use Rattle.aio_core.proofs.Keeping.{loaded_words, view_stands}
 use Rattle.aio_core.proofs.Sleeping.{some_set, some_mono, store_flies, sleeps_own}
 use Rattle.aio_core.proofs.Notifying.{word_stands}
-use Rattle.aio_core.proofs.Scanning.{running_me, home_sleeps, sleep_home, covered_still, same_view, made_same}
+use Rattle.aio_core.proofs.Scanning.{running_me, home_sleeps, sleep_home, covered_still, made_same}
 
 -- The arm.
 

@@ -15,8 +15,8 @@ use Rattle.aio_core.specs.Rule.{Stands, Kept}
 use Rattle.aio_core.specs.Standing.{done, Cancels}
 use Rattle.aio_core.specs.Plays.{Canceled, canceled}
 use Rattle.aio_core.proofs.Slots.{same_lot, same_hand, slots_kept}
-use Rattle.aio_core.proofs.Entries.{owns_first}
-use Rattle.aio_core.proofs.Seats.{seats_make, makes_of}
+use Rattle.table_seats.proofs.Entries.{owns_first}
+use Rattle.aio_core.proofs.Seats.{seats_make, makes_of, same_view}
 use Rattle.aio_core.proofs.Histories.{owed_still}
 use Rattle.aio_core.proofs.Masks.{canceled_flags, canceled_word}
 use Rattle.aio_core.proofs.Flags.{events_apart, read_else, word_alive, handle_lives, flags_of-cancel, flags_of-cancel_other, flags_change, flags_again, word_same}
@@ -44,7 +44,7 @@ module _ (sizes : Sizes) (h : History) (words : List ℕ) (views : List Known) (
       record {
         long = length-set words (flags_at i) x ∙ stand.long;
         legal = ((handle, refl), stand.legal);
-        seats = seats_make sizes h views id entry v w stand.seats at (record { sizes_are = refl; numbers_are = refl; told_is = refl }) (owns_first (numbers_of v) numbered) refl refl numbered;
+        seats = seats_make sizes h views id entry v w stand.seats at (same_view v w refl refl refl) (owns_first (numbers_of v) numbered) refl refl numbered;
         flags = flags_change sizes h (entry ∷ h) words i x stand.flags stand.long below new_word (λ j ne. word_same sizes j h (entry ∷ h) refl (flags_of-cancel_other j i v.first (flags_of i h) h ne));
         lists = lists_after sizes h (entry ∷ h) words words' views id w stand.lists
             (subst (λ k. IsChain (next_in words') k (stack_of h)) (sym (head_beside_flags words i x)) (chain_kept (next_in words) (next_in words') (slice_index words head_at) (stack_of h) stand.lists.stack (each_all _ (stack_of h) same_next)))
@@ -76,6 +76,6 @@ cancel_allowed number sizes slots id i me numbered handle s kept long at fits =
     let word : bit_and (slice_index s.words (flags_at i)) 18446744073709551613 ≡ word_of (canceled_flags flags) = ap (λ n. bit_and n 18446744073709551613) found ∙ canceled_word flags in
     let now = cancel_stands sizes h s.words s.views id me.0 i stand at numbered handle (bit_and (slice_index s.words (flags_at i)) 18446744073709551613) word in
     let w = after_canceling me.0 h i in
-    let cancels : Cancels i flags me.0 w = record { makes = makes_of sizes h (Cancel i me.0.first flags) me.0 w (stand.seats.each id me.0 at) numbered refl refl now.legal; rest = refl } in
+    let cancels : Cancels i flags me.0 w = record { makes = makes_of sizes h (Cancel i me.0.first flags) me.0 w (stand.seats.parts.each id me.0 at) (stand.seats.tables id me.0 at) numbered refl refl now.legal; rest = refl } in
     let told : Canceled i (slice_index s.words (flags_at i)) me.0 w = record { flags = flags; found_is = found; cancels = cancels } in
     (w, keeps, tt, (Cancel i me.0.first flags ∷ h, now, slots_kept number sizes h (Cancel i me.0.first flags ∷ h) s.homes s.views id me.0 w kept.2 at refl (λ m low. (same_lot (sizes.handles + m) (Cancel i me.0.first flags) h refl refl refl refl, same_hand (sizes.handles + m) me.0.stage w.stage refl refl))), (refl, λ j same. let is_i : i ≡ j = omega arith in subst (λ k. Canceled k (slice_index s.words (flags_at i)) me.0 w) is_i told))

@@ -20,8 +20,8 @@ use Rattle.aio_core.specs.Known.{LotClaimCompare, Known, numbers_of}
 use Rattle.aio_core.specs.Rule.{push_of, store_of, is_wanted, Stands, Kept}
 use Rattle.aio_core.specs.Standing.{done, Claims, Looks}
 use Rattle.aio_core.specs.Plays.{lot_claimed}
-use Rattle.aio_core.proofs.Entries.{owns_first}
-use Rattle.aio_core.proofs.Seats.{seats_make, makes_of}
+use Rattle.table_seats.proofs.Entries.{owns_first}
+use Rattle.aio_core.proofs.Seats.{seats_make, makes_of, same_view}
 use Rattle.aio_core.proofs.Histories.{owed_still}
 use Rattle.aio_core.proofs.Flags.{events_apart, read_else, flags_change, word_same}
 use Rattle.aio_core.proofs.Lists.{each_all, owes_kept, claimed_still, has_out_kept, lists_after}
@@ -87,7 +87,7 @@ module _ (sizes : Sizes) (h : History) (words : List ℕ) (views : List Known) (
       record {
         long = length-set words k 0 ∙ stand.long;
         legal = ((lot, dead), stand.legal);
-        seats = seats_make sizes h views id entry v w stand.seats at (record { sizes_are = refl; numbers_are = refl; told_is = refl }) (owns_first (numbers_of v) numbered) refl refl numbered;
+        seats = seats_make sizes h views id entry v w stand.seats at (same_view v w refl refl refl) (owns_first (numbers_of v) numbered) refl refl numbered;
         flags = flags_change sizes h (entry ∷ h) words i 0 stand.flags stand.long below new_word (λ j ne. word_same sizes j h (entry ∷ h) (life-new_other sizes j i v.first job h ne) (flags_of-new_other j i v.first job h ne));
         lists = lists_after sizes h (entry ∷ h) words words' views id w stand.lists
             (subst (λ t. IsChain (next_in words') t (stack_of h)) (sym (head_beside_flags words i 0)) (chain_kept (next_in words) (next_in words') (slice_index words head_at) (stack_of h) stand.lists.stack (each_all _ (stack_of h) same_next)))
@@ -159,8 +159,8 @@ module _ {J : Type 0} (number : J → ℕ) where
         (λ small gone. absurd (let alive = lives-new i v.first job h in let both : true ≡ false = sym alive ∙ gone in cc))
         (λ small alive gone. absurd (let none_yet : false ≡ true = rw same at gone in cc))
         (λ far u atu own small full. absurd (let by_it : Some v.first ≡ None = rw same at full.enqueued in cc)) in
-        let told : Claims i job word_now v w = record { makes = makes_of sizes h entry v w (stand.seats.each id v at) numbered refl refl now.legal; rest = refl } in
-        let sizes_are : v.sizes ≡ sizes = (stand.seats.each id v at).sizes_are numbered in (
+        let told : Claims i job word_now v w = record { makes = makes_of sizes h entry v w (stand.seats.parts.each id v at) (stand.seats.tables id v at) numbered refl refl now.legal; rest = refl } in
+        let sizes_are : v.sizes ≡ sizes = (stand.seats.tables id v at).sizes_are numbered in (
           w,
           takes m None,
           kept.2.vacant m low dead,

@@ -18,8 +18,9 @@ use Rattle.aio_core.specs.Known.{Stage, Known, numbers_of}
 use Rattle.aio_core.specs.Rule.{SeatsStand, IsClaimed, Owes, IsOut, HasOut, push_of, store_of, is_at_hand, IsFull, HasJob, Kept, SlotOf}
 use Rattle.aio_core.specs.Standing.{Enqueues}
 use Rattle.aio_core.specs.Plays.{Enqueued, lot_enqueued}
-use Rattle.aio_core.proofs.Entries.{owns_first}
-use Rattle.aio_core.proofs.Seats.{each_set, makes_of}
+use Rattle.table_seats.proofs.Entries.{owns_first}
+use Rattle.table_seats.proofs.Seats.{each_set}
+use Rattle.aio_core.proofs.Seats.{makes_of}
 use Rattle.aio_core.proofs.Flags.{flags_again}
 use Rattle.aio_core.proofs.Masks.{enqueued_flags, enqueued_word}
 use Rattle.aio_core.proofs.Enqueuing.{IsCalm, after_enqueuing, enqueue_stands}
@@ -34,7 +35,7 @@ claimed_apart : (sizes : Sizes) (h : History) (views : List Known) (id other : �
 claimed_apart sizes h views id other v u i j a b seats at atu ne mine has theirs have =
     ne_eqb j i (λ same.
     let firsts : v.first ≡ u.first = some_is v.first u.first (sym mine.by_it ∙ ap (λ k. claimer_of k h) (sym same) ∙ theirs.by_it) in
-    let not_theirs : owns (numbers_of u) v.first ≡ false = seats.apart id other v u at atu (λ q. ne (sym q)) v.first (owns_first (numbers_of v) has) in
+    let not_theirs : owns (numbers_of u) v.first ≡ false = seats.parts.apart id other v u at atu (λ q. ne (sym q)) v.first (owns_first (numbers_of v) has) in
     let is_theirs : owns (numbers_of u) v.first ≡ true = subst (λ k. owns (numbers_of u) k ≡ true) (sym firsts) (owns_first (numbers_of u) have) in
     cc)
   where
@@ -82,7 +83,7 @@ module _ {J : Type 0} (number : J → ℕ) where
       (each_set (HasOut s.words h) (λ u. owns (numbers_of u) home ≡ true → m < sizes.lots → IsFull (entry ∷ h) i → HasJob number i u.stage (job_of i h) (get_elem? (set s.homes m (some (Some x))) m)) s.views id w stand.lists.out
       (λ own small full. has_here number i v.stage (job_of i h) x (get_elem? (set s.homes m (some (Some x))) m) (not_at_hand s.words h i sizes v stand.legal fresh.0 own (stand.lists.out id v at)) placed (claimed.job_is ∙ ap Some job_is))
       (λ far u ne atu has own small full. has_here number i u.stage (job_of i h) x (get_elem? (set s.homes m (some (Some x))) m) (not_at_hand s.words h i sizes u stand.legal fresh.0 own has) placed (claimed.job_is ∙ ap Some job_is))) in
-      let enqueues_it : Enqueues i ToCallOnce flags v w = record { makes = makes_of sizes h entry v w (stand.seats.each id v at) numbered refl refl now.legal; rest = refl } in
+      let enqueues_it : Enqueues i ToCallOnce flags v w = record { makes = makes_of sizes h entry v w (stand.seats.parts.each id v at) (stand.seats.tables id v at) numbered refl refl now.legal; rest = refl } in
       let told : Enqueued i 11 (slice_index s.words (flags_at i)) v w = record { flags = flags; found_is = found; enqueues = enqueues_it } in
       (w, gives, tt, (entry ∷ h, now, slots_now), (refl, λ j q. let is_i : i ≡ j = omega arith in subst (λ k. Enqueued k 11 (slice_index s.words (flags_at i)) v w) is_i told))
 

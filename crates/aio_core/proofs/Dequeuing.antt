@@ -18,7 +18,7 @@ use Rattle.aio_core.specs.Rule.{is_at_hand, IsOwed, IsOut, NoneEmpty, Stands, Ke
 use Rattle.aio_core.specs.Standing.{done, is_empty, Makes, Dequeues}
 use Rattle.aio_core.specs.Plays.{Dequeued, dequeued}
 use Rattle.aio_core.proofs.Slots.{same_lot, no_lot_here, slots_kept}
-use Rattle.aio_core.proofs.Seats.{seats_make, makes_of}
+use Rattle.aio_core.proofs.Seats.{seats_make, makes_of, same_view}
 use Rattle.aio_core.proofs.Histories.{pending_below, announced_alone, owed_still}
 use Rattle.aio_core.proofs.Masks.{dequeued_flags, dequeued_word}
 use Rattle.aio_core.proofs.Flags.{events_apart, read_else, word_alive, flags_of-dequeue, flags_of-dequeue_other, flags_change, flags_again, word_same}
@@ -78,7 +78,7 @@ module _ (sizes : Sizes) (h : History) (words : List ℕ) (views : List Known) (
         record {
           long = length-set words (flags_at i) x ∙ stand.long;
           legal = ((first, refl), stand.legal);
-          seats = seats_make sizes h views id entry v w stand.seats at (record { sizes_are = refl; numbers_are = refl; told_is = refl }) is_home refl refl numbered;
+          seats = seats_make sizes h views id entry v w stand.seats at (same_view v w refl refl refl) is_home refl refl numbered;
           flags = flags_change sizes h (entry ∷ h) words i x stand.flags stand.long below new_word (λ j ne. word_same sizes j h (entry ∷ h) refl (flags_of-dequeue_other j i ran h ne));
           lists = lists_after sizes h (entry ∷ h) words words' views id w stand.lists
               (subst (λ k. IsChain (next_in words') k (stack_of h)) (sym (head_beside_flags words i x)) (chain_kept (next_in words) (next_in words') (slice_index words head_at) (stack_of h) stand.lists.stack (each_all _ (stack_of h) same_next)))
@@ -114,8 +114,8 @@ dequeue_allowed number sizes slots id i me numbered is_home handle hand s kept l
     let word : bit_and (slice_index s.words (flags_at i)) 18446744073709551596 ≡ word_of (dequeued_flags flags) = ap (λ n. bit_and n 18446744073709551596) found ∙ dequeued_word flags in
     let now = dequeue_stands sizes h s.words s.views id v i stand at numbered is_home hand (bit_and (slice_index s.words (flags_at i)) 18446744073709551596) word in
     let w = after_dequeue v h i in
-    let is = stand.seats.each id v at in
-    let makes : Makes (Dequeue i (are_due flags)) v w = makes_of sizes h (Dequeue i (are_due flags)) v w is numbered refl refl now.0.legal in
+    let is = stand.seats.parts.each id v at in
+    let makes : Makes (Dequeue i (are_due flags)) v w = makes_of sizes h (Dequeue i (are_due flags)) v w is (stand.seats.tables id v at) numbered refl refl now.0.legal in
     let dequeues : Dequeues i flags v w = record { makes = makes; were = ap (flags_of i) (same_older (Dequeue i (are_due flags)) h (makes.others ++ v.seen) makes.seen); left = now.1; rest = refl } in
     let told : Dequeued i (slice_index s.words (flags_at i)) v w = record { flags = flags; found_is = found; dequeues = dequeues } in
     (w, keeps, tt, (Dequeue i (are_due flags) ∷ h, now.0, slots_kept number sizes h (Dequeue i (are_due flags) ∷ h) s.homes s.views id me.0 w kept.2 at refl (λ m low. (same_lot (sizes.handles + m) (Dequeue i (are_due flags)) h refl refl refl (no_lot_here sizes.handles m i handle), record { hand = sym (ap (is_at_hand (sizes.handles + m)) hand ∙ no_lot_here sizes.handles m i handle); job = λ e. absurd (let none_held : false ≡ true = sym (ap (is_at_hand (sizes.handles + m)) hand ∙ no_lot_here sizes.handles m i handle) ∙ e in cc) }))), (refl, λ j eq. let index : i ≡ j = same_index i j (sym hand ∙ eq) in subst (λ k. Dequeued k (slice_index s.words (flags_at i)) v w) index told))

@@ -19,8 +19,8 @@ use Rattle.aio_core.specs.Rule.{IsOwed, IsClaimed, Owes, push_of, store_of, Stan
 use Rattle.aio_core.specs.Standing.{mask_of, done, after_enqueue, Enqueues}
 use Rattle.aio_core.specs.Plays.{Enqueued, enqueued}
 use Rattle.aio_core.proofs.Slots.{same_lot, same_hand, no_lot_here, slots_kept}
-use Rattle.aio_core.proofs.Entries.{owns_first}
-use Rattle.aio_core.proofs.Seats.{seats_make, makes_of}
+use Rattle.table_seats.proofs.Entries.{owns_first}
+use Rattle.aio_core.proofs.Seats.{seats_make, makes_of, same_view}
 use Rattle.aio_core.proofs.Histories.{idle_has_none, idle_was_not_put, owed_still}
 use Rattle.aio_core.proofs.Masks.{asked_with-mask_of, enqueued_flags, enqueued_word}
 use Rattle.aio_core.proofs.Flags.{events_apart, word_alive, handle_lives, read_else, flags_of-enqueue, flags_of-enqueue_other, flags_change, flags_again, word_same, may_ask_handle}
@@ -85,12 +85,12 @@ module _ (sizes : Sizes) (h : History) (words : List ℕ) (views : List Known) (
       record {
         long = long;
         legal = ((alive, refl, may), stand.legal);
-        seats = seats_make sizes h views id entry v w stand.seats at (record { sizes_are = refl; numbers_are = refl; told_is = refl }) (owns_first (numbers_of v) numbered) refl refl numbered;
+        seats = seats_make sizes h views id entry v w stand.seats at (same_view v w refl refl refl) (owns_first (numbers_of v) numbered) refl refl numbered;
         flags = flags_change sizes h (entry ∷ h) words i x stand.flags stand.long below new_word (λ j ne. word_same sizes j h (entry ∷ h) refl (flags_of-enqueue_other j i v.first asked (flags_of i h) h ne));
         lists = lists_after sizes h (entry ∷ h) words words' views id w stand.lists
             (subst (λ k. IsChain (next_in words') k (stack_of h)) (sym (head_beside_flags words i x)) (chain_kept (next_in words) (next_in words') (slice_index words head_at) (stack_of h) stand.lists.stack (each_all _ (stack_of h) same_next)))
             (owed_after sizes h i v.first asked stand.legal below words' (is_pending i h) refl)
-            (λ beside u ne atu. owes_kept sizes words words' h (entry ∷ h) u.first u.phase (λ j busy owed. (owed_still sizes h entry u.first j owed refl refl, same_next j)) (λ j job busy c. claimed_still sizes h entry u.first j job refl (others beside j job u ne atu ((stand.seats.each beside u atu).active busy) c) refl c))
+            (λ beside u ne atu. owes_kept sizes words words' h (entry ∷ h) u.first u.phase (λ j busy owed. (owed_still sizes h entry u.first j owed refl refl, same_next j)) (λ j job busy c. claimed_still sizes h entry u.first j job refl (others beside j job u ne atu ((stand.seats.tables beside u atu).active busy) c) refl c))
             (has_out_kept words words' h (entry ∷ h) v refl (each_all _ (out_of h) same_next) (stand.lists.out id v at))
             (λ beside u ne atu. has_out_kept words words' h (entry ∷ h) u refl (each_all _ (out_of h) same_next));
         events = events_apart h (entry ∷ h) words (flags_at i) x stand.events (λ e low q. omega arith) (λ e. refl);
@@ -117,6 +117,6 @@ enqueue_allowed number sizes slots id i me asked numbered rest once handle s kep
     let word : bit_or (slice_index s.words (flags_at i)) (mask_of asked) ≡ word_of (enqueued_flags asked flags) = ap (λ n. bit_or n (mask_of asked)) found ∙ enqueued_word asked flags in
     let now = enqueue_stands sizes h s.words s.views id me.0 i asked stand at numbered (calm_at_rest me.0.phase rest) (handle_lives sizes i h handle) below (may_ask_handle sizes i me.0.first asked h once handle) (λ beside j job u ne atu full c. lot_not_handle sizes j i c.lot handle) (bit_or (slice_index s.words (flags_at i)) (mask_of asked)) word in
     let w = after_enqueuing me.0 h i asked in
-    let enqueues : Enqueues i asked flags me.0 w = record { makes = makes_of sizes h (Enqueue i asked me.0.first flags) me.0 w (stand.seats.each id me.0 at) numbered refl refl now.legal; rest = refl } in
+    let enqueues : Enqueues i asked flags me.0 w = record { makes = makes_of sizes h (Enqueue i asked me.0.first flags) me.0 w (stand.seats.parts.each id me.0 at) (stand.seats.tables id me.0 at) numbered refl refl now.legal; rest = refl } in
     let told : Enqueued i (mask_of asked) (slice_index s.words (flags_at i)) me.0 w = record { flags = flags; found_is = found; enqueues = subst (λ a. Enqueues i a flags me.0 w) (sym (asked_with-mask_of asked)) enqueues } in
     (w, keeps, tt, (Enqueue i asked me.0.first flags ∷ h, now, slots_kept number sizes h (Enqueue i asked me.0.first flags ∷ h) s.homes s.views id me.0 w kept.2 at refl (λ m low. (same_lot (sizes.handles + m) (Enqueue i asked me.0.first flags) h refl refl (no_lot_here sizes.handles m i handle) refl, same_hand (sizes.handles + m) me.0.stage w.stage refl refl))), (refl, λ j same. let is_i : i ≡ j = omega arith in subst (λ k. Enqueued k (mask_of asked) (slice_index s.words (flags_at i)) me.0 w) is_i told))

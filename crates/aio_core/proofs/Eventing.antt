@@ -18,8 +18,8 @@ use Rattle.aio_core.specs.Standing.{done, Makes}
 use Rattle.aio_core.specs.SleepSteps.{made_after, SetsEvent, ClearsEvent, after_event, after_any_load, LoadsEvent}
 use Rattle.aio_core.specs.Plays.{event_set, event_cleared, event_loaded}
 use Rattle.aio_core.proofs.Slots.{same_lot, same_entry, same_hand, slots_kept}
-use Rattle.aio_core.proofs.Entries.{owns_first}
-use Rattle.aio_core.proofs.Seats.{seats_make, seats_keep, makes_of}
+use Rattle.table_seats.proofs.Entries.{owns_first}
+use Rattle.aio_core.proofs.Seats.{seats_make, seats_keep, makes_of, same_view}
 use Rattle.aio_core.proofs.Histories.{owed_still}
 use Rattle.aio_core.proofs.Flags.{read_here, read_else, flags_apart}
 use Rattle.aio_core.proofs.Lists.{claimed_still, each_all, owes_kept, has_out_kept, lists_after}
@@ -76,7 +76,7 @@ module _ (sizes : Sizes) (h : History) (words : List ℕ) (views : List Known) (
       record {
         long = length-set words k 1 ∙ stand.long;
         legal = (tt, stand.legal);
-        seats = seats_make sizes h views id entry v w stand.seats at (record { sizes_are = refl; numbers_are = refl; told_is = refl }) (owns_first (numbers_of v) numbered) refl refl numbered;
+        seats = seats_make sizes h views id entry v w stand.seats at (same_view v w refl refl refl) (owns_first (numbers_of v) numbered) refl refl numbered;
         flags = flags_apart sizes h (entry ∷ h) words k 1 stand.flags (λ j q. omega arith) (λ j. refl);
         lists = lists_after sizes h (entry ∷ h) words words' views id w stand.lists
             (subst (λ t. IsChain (next_in words') t (stack_of h)) (sym top) (chain_kept (next_in words) (next_in words') (slice_index words head_at) (stack_of h) stand.lists.stack (each_all _ (stack_of h) same_next)))
@@ -106,7 +106,7 @@ event_set_allowed number sizes slots id e me numbered rest below s kept long at 
     let found = slice_index s.words (event_at e) in
     let now = event_set_stands sizes h s.words s.views id v e found stand at numbered rest below in
     let w = after_event_set v h e found in
-    let told : SetsEvent e found v w = record { makes = makes_of sizes h (SetEvent e v.first) v w (stand.seats.each id v at) numbered refl refl now.legal; rest = refl } in
+    let told : SetsEvent e found v w = record { makes = makes_of sizes h (SetEvent e v.first) v w (stand.seats.parts.each id v at) (stand.seats.tables id v at) numbered refl refl now.legal; rest = refl } in
     (w, keeps, tt, (SetEvent e v.first ∷ h, now, slots_kept number sizes h (SetEvent e v.first ∷ h) s.homes s.views id me.0 w kept.2 at refl (λ m low. (same_lot (sizes.handles + m) (SetEvent e v.first) h refl refl refl refl, same_hand (sizes.handles + m) me.0.stage w.stage refl refl))), (refl, λ other same. let is_e : e ≡ other = omega arith in subst (λ k. SetsEvent k found v w) is_e told))
 
 -- A clear.
@@ -130,7 +130,7 @@ module _ (sizes : Sizes) (h : History) (words : List ℕ) (views : List Known) (
       record {
         long = length-set words k 0 ∙ stand.long;
         legal = (refl, stand.legal);
-        seats = seats_make sizes h views id entry v w stand.seats at (record { sizes_are = refl; numbers_are = refl; told_is = refl }) is_home refl refl numbered;
+        seats = seats_make sizes h views id entry v w stand.seats at (same_view v w refl refl refl) is_home refl refl numbered;
         flags = flags_apart sizes h (entry ∷ h) words k 0 stand.flags (λ j q. omega arith) (λ j. refl);
         lists = lists_after sizes h (entry ∷ h) words words' views id w stand.lists
             (subst (λ t. IsChain (next_in words') t (stack_of h)) (sym top) (chain_kept (next_in words) (next_in words') (slice_index words head_at) (stack_of h) stand.lists.stack (each_all _ (stack_of h) same_next)))
@@ -165,7 +165,7 @@ event_clear_allowed number sizes slots id e me numbered is_home below s kept lon
     let now = event_clear_stands sizes h s.words s.views id v e found stand at numbered is_home below in
     let w = after_event_clear v h e found in
     let was : eqb found 1 ≡ is_set e h = was_one (is_set e h) found (stand.events e below) in
-    let told : ClearsEvent e found v w = record { makes = subst (λ b. Makes (ClearEvent e b) v w) (sym was) (makes_of sizes h (ClearEvent e (is_set e h)) v w (stand.seats.each id v at) numbered refl refl now.legal); rest = refl } in
+    let told : ClearsEvent e found v w = record { makes = subst (λ b. Makes (ClearEvent e b) v w) (sym was) (makes_of sizes h (ClearEvent e (is_set e h)) v w (stand.seats.parts.each id v at) (stand.seats.tables id v at) numbered refl refl now.legal); rest = refl } in
     (w, keeps, tt, (ClearEvent e (is_set e h) ∷ h, now, slots_kept number sizes h (ClearEvent e (is_set e h) ∷ h) s.homes s.views id me.0 w kept.2 at refl (λ m low. (same_lot (sizes.handles + m) (ClearEvent e (is_set e h)) h refl refl refl refl, same_hand (sizes.handles + m) me.0.stage w.stage refl refl))), (refl, λ other same. let is_e : e ≡ other = omega arith in subst (λ k. ClearsEvent k found v w) is_e told))
 
 -- A look at an event by home: one that isn't set is watched from then on, where a scan is fresh.
@@ -234,6 +234,6 @@ event_load_allowed number sizes slots id e me numbered is_home below s kept long
     let found = slice_index s.words (event_at e) in
     let w : Known = record v { did = done EventLoad (event_at e) found ∷ v.did; sleep = after_any_load found e (length v.did) v.sleep } in
     let sleep = sleep_home sizes h s.words s.views id v stand at is_home s.words w refl refl (stand.sleep.notified, stand.sleep.notifier) (any_sleep sizes h s.words s.views id v e stand at is_home below w (done EventLoad (event_at e) found) refl v.sleep refl) in
-    let seats = seats_keep sizes h s.views id v w stand.seats at (record { sizes_are = refl; numbers_are = refl; told_is = refl }) refl refl numbered in
+    let seats = seats_keep sizes h s.views id v w stand.seats at (same_view v w refl refl refl) refl refl numbered in
     let told : LoadsEvent e found v w = record { bit = subst (λ n. n ≤ 1) (sym (stand.events e below)) (bit_at_most (is_set e h)); rest = refl } in
     (w, keeps, tt, (h, subst (λ ws. Stands sizes h ws (set s.views id w)) (sym (loaded_words s.words (event_at e))) (view_stands sizes h s.words s.views id v w stand seats (stand.lists.owed id v at) (stand.lists.out id v at) sleep), slots_kept number sizes h h s.homes s.views id me.0 w kept.2 at refl (λ m low. (same_entry h (sizes.handles + m), same_hand (sizes.handles + m) me.0.stage w.stage refl refl))), (refl, λ other same. let is_e : e ≡ other = omega arith in subst (λ k. LoadsEvent k found v w) is_e told))

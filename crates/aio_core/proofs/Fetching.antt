@@ -18,7 +18,8 @@ use Rattle.aio_core.specs.Known.{NextLoad, Stage, Known, numbers_of}
 use Rattle.aio_core.specs.Rule.{IsOut, NoneEmpty, HasOut, is_at_hand, IsFull, HasJob, Kept, SlotOf}
 use Rattle.aio_core.specs.Standing.{done, without_first, Makes, Lifts, Dequeues}
 use Rattle.aio_core.specs.Plays.{Dequeued, lot_lifted, lot_dequeued}
-use Rattle.aio_core.proofs.Seats.{each_set, makes_of}
+use Rattle.table_seats.proofs.Seats.{each_set}
+use Rattle.aio_core.proofs.Seats.{makes_of, same_view}
 use Rattle.aio_core.proofs.Histories.{pending_below, out_below}
 use Rattle.aio_core.proofs.Flags.{flags_again}
 use Rattle.aio_core.proofs.Masks.{dequeued_flags, dequeued_word}
@@ -67,7 +68,7 @@ module _ {J : Type 0} (number : J → ℕ) where
       let x = here.0 in
       let w = after_lot_lift v i found more (number x) in
       let has : HasOut s.words h w = λ own. (lifted, none_empty-lifted (next_in s.words) i more full_slices.1) in
-      let stands = load_stands sizes h s.words s.views id (next_at i) v w stand at numbered (record { sizes_are = refl; numbers_are = refl; told_is = refl }) refl refl (stand.lists.owed id v at) has (record { step = done NextLoad (next_at i) found; longer = refl; sleep_is = refl; flight = same_flight v.phase v.phase refl }) in
+      let stands = load_stands sizes h s.words s.views id (next_at i) v w stand at numbered (same_view v w refl refl refl) refl refl (stand.lists.owed id v at) has (record { step = done NextLoad (next_at i) found; longer = refl; sleep_is = refl; flight = same_flight v.phase v.phase refl }) in
       let same : eqb i i ≡ true = eq-eqb i i refl in
       let slots_now = slots_change number sizes h h s.homes (set s.homes m none) s.views id v w m kept.2 at refl
       (λ other ne small. let away : eqb (sizes.handles + other) i ≡ false = ne_eqb (sizes.handles + other) i (λ q. ne (omega arith)) in (same_entry h (sizes.handles + other), set_else s.homes m other none ne, record { hand = away ∙ sym (ap (is_at_hand (sizes.handles + other)) hand); job = λ e. absurd (let none_held : false ≡ true = sym (ap (is_at_hand (sizes.handles + other)) hand) ∙ e in cc) }))
@@ -75,8 +76,8 @@ module _ {J : Type 0} (number : J → ℕ) where
       (λ small life gone. absurd (let both : false ≡ true = sym is_full.not_dequeued ∙ gone in cc))
       (each_set (λ u. Unit {0}) (λ u. owns (numbers_of u) home ≡ true → m < sizes.lots → IsFull h i → HasJob number i u.stage (job_of i h) (get_elem? (set s.homes m none) m)) s.views id w (λ far u atu. tt)
       (λ own small full. rw same here.2)
-      (λ far u ne atu old own small full. absurd (let no_home : owns (numbers_of u) home ≡ false = stand.seats.apart id far v u at atu (λ q. ne (sym q)) home is_home in let both : true ≡ false = sym own ∙ no_home in cc))) in
-      let sizes_are : v.sizes ≡ sizes = (stand.seats.each id v at).sizes_are numbered in
+      (λ far u ne atu old own small full. absurd (let no_home : owns (numbers_of u) home ≡ false = stand.seats.parts.apart id far v u at atu (λ q. ne (sym q)) home is_home in let both : true ≡ false = sym own ∙ no_home in cc))) in
+      let sizes_are : v.sizes ≡ sizes = (stand.seats.tables id v at).sizes_are numbered in
       let below : found ≤ index_count v.sizes = subst (λ z. found ≤ index_count z) (sym sizes_are) (lifted_word_below (next_in s.words) i (index_count sizes) more (out_of h) out (out_below sizes h stand.legal)) in
       let told : Lifts i found (Some (number x)) more v w = record { below = below; rest = refl } in (
         w,
@@ -126,8 +127,8 @@ module _ {J : Type 0} (number : J → ℕ) where
       (λ small gone. absurd (let both : true ≡ false = sym is_full.alive ∙ gone in cc))
       (λ small life gone. placed)
       (λ far u atu own small full. absurd (let gone : true ≡ false = rw same at full.not_dequeued in cc)) in
-      let is = stand.seats.each id v at in
-      let makes : Makes entry v w = makes_of sizes h entry v w is numbered refl refl now.0.legal in
+      let is = stand.seats.parts.each id v at in
+      let makes : Makes entry v w = makes_of sizes h entry v w is (stand.seats.tables id v at) numbered refl refl now.0.legal in
       let dequeues_it : Dequeues i flags v w = record { makes = makes; were = ap (flags_of i) (same_older entry h (makes.others ++ v.seen) makes.seen); left = now.1; rest = refl } in
       let told : Dequeued i (slice_index s.words (flags_at i)) v w = record { flags = flags; found_is = found; dequeues = dequeues_it } in
       (w, gives, tt, (entry ∷ h, now.0, slots_now), (refl, λ j eq. let index : i ≡ j = same_index i j (sym hand ∙ eq) in subst (λ k. Dequeued k (slice_index s.words (flags_at i)) v w × (job_of k (entry ∷ h) ≡ v.stage.job)) index (told, job_is)))

@@ -20,7 +20,7 @@ use Rattle.aio_core.specs.Known.{LotFreeStore, Known, numbers_of}
 use Rattle.aio_core.specs.Rule.{is_wanted, Stands, Kept}
 use Rattle.aio_core.specs.Standing.{done, Frees}
 use Rattle.aio_core.specs.Plays.{lot_freed}
-use Rattle.aio_core.proofs.Seats.{seats_make, makes_of}
+use Rattle.aio_core.proofs.Seats.{seats_make, makes_of, same_view}
 use Rattle.aio_core.proofs.Histories.{owed_still}
 use Rattle.aio_core.proofs.Flags.{events_apart, read_else, flags_change, word_same}
 use Rattle.aio_core.proofs.Lists.{each_all, owes_kept, claimed_still, has_out_kept, lists_after}
@@ -95,7 +95,7 @@ module _ (sizes : Sizes) (h : History) (words : List ℕ) (views : List Known) (
       record {
         long = length-set words k free_word ∙ stand.long;
         legal = ((lot, alive, gone), stand.legal);
-        seats = seats_make sizes h views id entry v w stand.seats at (record { sizes_are = refl; numbers_are = refl; told_is = refl }) is_home refl refl numbered;
+        seats = seats_make sizes h views id entry v w stand.seats at (same_view v w refl refl refl) is_home refl refl numbered;
         flags = flags_change sizes h (entry ∷ h) words i free_word stand.flags stand.long below new_word (λ j ne. word_same sizes j h (entry ∷ h) (life-free_other sizes j i h ne) (flags_of-free_other j i h ne));
         lists = lists_after sizes h (entry ∷ h) words words' views id w stand.lists
             (subst (λ t. IsChain (next_in words') t (stack_of h)) (sym (head_beside_flags words i free_word)) (chain_kept (next_in words) (next_in words') (slice_index words head_at) (stack_of h) stand.lists.stack (each_all _ (stack_of h) same_next)))
@@ -124,7 +124,7 @@ module _ {J : Type 0} (number : J → ℕ) where
       let stand = kept.1 in
       let v = me.0 in
       let i = sizes.handles + m in
-      let is = stand.seats.each id v at in
+      let is = stand.seats.parts.each id v at in
       let may : MayFollow sizes (Free i) h = subst (MayFollow sizes (Free i)) (sym is.seen_of.longer) (may_free-beside sizes (numbers_of v) is.seen_of.rest v.seen i is_home (subst (IsLegal sizes) is.seen_of.longer stand.legal) is.seen_of.none_missed may_seen) in
       let entry = Free i in
       let w = after_free v h i in
@@ -136,7 +136,7 @@ module _ {J : Type 0} (number : J → ℕ) where
       (λ small dead. home_slot)
       (λ small life gone. absurd (let both : false ≡ true = sym (lives-free i h) ∙ life in cc))
       (λ far u atu own small full. absurd (let both : false ≡ true = sym (lives-free i h) ∙ full.alive in cc)) in
-      let told : Frees i v w = record { makes = makes_of sizes h entry v w is numbered refl refl now.legal; rest = refl } in
+      let told : Frees i v w = record { makes = makes_of sizes h entry v w is (stand.seats.tables id v at) numbered refl refl now.legal; rest = refl } in
       (w, keeps, tt, (entry ∷ h, now, slots_now), (refl, λ j q. let is_i : i ≡ j = omega arith in subst (λ k. Frees k v w) is_i told))
 
 -- the place of a lot among the lots

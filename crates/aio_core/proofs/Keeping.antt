@@ -36,7 +36,7 @@ keeps_stand sizes h words views id v w stand at numbered same seen mine owes out
       flags = stand.flags;
       lists = lists_after sizes h h words words views id w stand.lists stand.lists.stack owes (λ beside u ne atu old. old) out (λ beside u ne atu old. old);
       events = stand.events;
-      sleep = sleep_still sizes h words words views id v w still.step stand.seats at same.numbers_are still.longer still.sleep_is stand.sleep still.flight (refl, refl, refl) (λ j put. refl);
+      sleep = sleep_still sizes h words words views id v w still.step stand.seats at same.part.numbers_are still.longer still.sleep_is stand.sleep still.flight (refl, refl, refl) (λ j put. refl);
     }
 
 -- the same, where a load wrote back what it found

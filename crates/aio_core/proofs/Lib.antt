@@ -1,4 +1,3 @@
-pub mod Entries
 pub mod Seats
 pub mod Histories
 pub mod Masks

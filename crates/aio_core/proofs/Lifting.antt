@@ -10,6 +10,7 @@ use Rattle.aio_core.specs.Known.{NextLoad, Known, numbers_of}
 use Rattle.aio_core.specs.Rule.{is_at_hand, IsOut, NoneEmpty, HasOut, Kept}
 use Rattle.aio_core.specs.Standing.{done, without_first, Lifts}
 use Rattle.aio_core.specs.Plays.{next_loaded}
+use Rattle.aio_core.proofs.Seats.{same_view}
 use Rattle.aio_core.proofs.Slots.{same_entry, no_lot_here, slots_kept}
 use Rattle.aio_core.proofs.Histories.{out_below}
 use Rattle.aio_core.proofs.Keeping.{load_stands}
@@ -38,6 +39,6 @@ lift_allowed number sizes slots id i more me numbered is_home handle slices hand
     let full : NoneEmpty ((i + 1) ∷ more) = subst NoneEmpty slices now.1 in
     let w = after_lift v i found more in
     let has : HasOut s.words h w = λ own. (out_lifted (next_in s.words) i more (out_of h) out, none_empty-lifted (next_in s.words) i more full.1) in
-    let low : found ≤ index_count v.sizes = subst (λ z. found ≤ index_count z) (sym ((stand.seats.each id v at).sizes_are numbered)) (lifted_word_below (next_in s.words) i (index_count sizes) more (out_of h) out (out_below sizes h stand.legal)) in
+    let low : found ≤ index_count v.sizes = subst (λ z. found ≤ index_count z) (sym ((stand.seats.tables id v at).sizes_are numbered)) (lifted_word_below (next_in s.words) i (index_count sizes) more (out_of h) out (out_below sizes h stand.legal)) in
     let told : Lifts i found None more v w = record { below = low; rest = refl } in
-    (w, keeps, tt, (h, load_stands sizes h s.words s.views id (next_at i) v w stand at numbered (record { sizes_are = refl; numbers_are = refl; told_is = refl }) refl refl (stand.lists.owed id v at) has (record { step = done NextLoad (next_at i) found; longer = refl; sleep_is = refl; flight = same_flight v.phase v.phase refl }), slots_kept number sizes h h s.homes s.views id me.0 w kept.2 at refl (λ m low. (same_entry h (sizes.handles + m), record { hand = no_lot_here sizes.handles m i handle ∙ sym (ap (is_at_hand (sizes.handles + m)) hand); job = λ e. absurd (let none_held : false ≡ true = sym (ap (is_at_hand (sizes.handles + m)) hand) ∙ e in cc) }))), (refl, λ j others eq. let both = sym slices ∙ eq in let index : i ≡ j = same_first i j more others both in let rest : more ≡ others = same_rest i j more others both in subst (λ k. Lifts k found None others v w) index (subst (λ l. Lifts i found None l v w) rest told)))
+    (w, keeps, tt, (h, load_stands sizes h s.words s.views id (next_at i) v w stand at numbered (same_view v w refl refl refl) refl refl (stand.lists.owed id v at) has (record { step = done NextLoad (next_at i) found; longer = refl; sleep_is = refl; flight = same_flight v.phase v.phase refl }), slots_kept number sizes h h s.homes s.views id me.0 w kept.2 at refl (λ m low. (same_entry h (sizes.handles + m), record { hand = no_lot_here sizes.handles m i handle ∙ sym (ap (is_at_hand (sizes.handles + m)) hand); job = λ e. absurd (let none_held : false ≡ true = sym (ap (is_at_hand (sizes.handles + m)) hand) ∙ e in cc) }))), (refl, λ j others eq. let both = sym slices ∙ eq in let index : i ≡ j = same_first i j more others both in let rest : more ≡ others = same_rest i j more others both in subst (λ k. Lifts k found None others v w) index (subst (λ l. Lifts i found None l v w) rest told)))

@@ -12,8 +12,8 @@ use Rattle.aio_chain.proofs.Chains.{Each, chains_kept}
 use Rattle.aio_core.specs.Words.{head_at, next_in}
 use Rattle.aio_core.specs.Known.{Known, numbers_of}
 use Rattle.aio_core.specs.Rule.{SeatsStand, IsOwed, IsClaimed, Owes, IsOut, HasOut, ListsStand}
-use Rattle.aio_core.proofs.Entries.{owns_first}
-use Rattle.aio_core.proofs.Seats.{each_set}
+use Rattle.table_seats.proofs.Entries.{owns_first}
+use Rattle.table_seats.proofs.Seats.{each_set}
 
 pub each_all : (P : ℕ → Type 0) (xs : List ℕ) → ((i : ℕ) → P i) → Each P xs
 each_all P [] h = tt
@@ -40,7 +40,7 @@ some_same a b h = cc
 pub owed_apart : (sizes : Sizes) (h : History) (views : List Known) (id other : ℕ) (v u : Known) (i j : ℕ) → SeatsStand sizes h views → get_elem? views id ≡ some v → get_elem? views other ≡ some u → other ≢ id → IsOwed sizes h v.first i → 0 < v.count → IsOwed sizes h u.first j → 0 < u.count → i ≢ j
 owed_apart sizes h views id other v u i j seats at atu ne mine has theirs have same =
     let firsts : v.first ≡ u.first = some_same v.first u.first (sym mine.by_it ∙ ap (λ k. announcer_of k h) same ∙ theirs.by_it) in
-    let not_theirs : owns (numbers_of u) v.first ≡ false = seats.apart id other v u at atu (λ q. ne (sym q)) v.first (owns_first (numbers_of v) has) in
+    let not_theirs : owns (numbers_of u) v.first ≡ false = seats.parts.apart id other v u at atu (λ q. ne (sym q)) v.first (owns_first (numbers_of v) has) in
     let is_theirs : owns (numbers_of u) v.first ≡ true = subst (λ k. owns (numbers_of u) k ≡ true) (sym firsts) (owns_first (numbers_of u) have) in
     cc
 
@@ -61,7 +61,7 @@ has_out_kept words other h g u same k has own =
 -- another than the home's view says nothing
 pub no_other_home : (sizes : Sizes) (h g : History) (views : List Known) (id other : ℕ) (v u : Known) (words : List ℕ) → SeatsStand sizes h views → get_elem? views id ≡ some v → get_elem? views other ≡ some u → other ≢ id → owns (numbers_of v) home ≡ true → HasOut words g u
 no_other_home sizes h g views id other v u words seats at atu ne is_home own =
-    let no : owns (numbers_of u) home ≡ false = seats.apart id other v u at atu (λ q. ne (sym q)) home is_home in
+    let no : owns (numbers_of u) home ≡ false = seats.parts.apart id other v u at atu (λ q. ne (sym q)) home is_home in
     absurd cc
 
 -- The part: from the stack, and from what the views say.

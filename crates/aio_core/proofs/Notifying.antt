@@ -16,7 +16,7 @@ use Rattle.aio_core.specs.Rule.{Owes, HasOut, push_of, store_of, AreCovered, IsS
 use Rattle.aio_core.specs.Standing.{may_notify, done, after_load, StoresNotified, LoadsNotifyMe, SetsNotifier}
 use Rattle.aio_core.specs.Plays.{notified_stored, notify_me_loaded, notifier_set}
 use Rattle.aio_core.proofs.Slots.{same_entry, same_hand, slots_kept}
-use Rattle.aio_core.proofs.Seats.{IsSame, seats_keep}
+use Rattle.aio_core.proofs.Seats.{IsSame, seats_keep, same_view}
 use Rattle.aio_core.proofs.Flags.{events_apart, read_here, read_else, flags_apart}
 use Rattle.aio_core.proofs.Lists.{each_all, owes_kept, has_out_kept, lists_after}
 use Rattle.aio_core.proofs.Keeping.{loaded_words}
@@ -45,11 +45,8 @@ word_stands sizes h words views id k x v w stand at numbered same seen mine stag
   where
     stage_same : HasOut (set words k x) h v → HasOut (set words k x) h w
     stage_same has own =
-        let own' : owns (numbers_of v) home ≡ true = subst (λ n. owns n home ≡ true) same.numbers_are own in
+        let own' : owns (numbers_of v) home ≡ true = subst (λ n. owns n home ≡ true) same.part.numbers_are own in
         subst (λ t. IsOut (next_in (set words k x)) t.slices t.hand (out_of h) × NoneEmpty t.slices) (sym stage) (has own')
-
-alike : (v w : Known) → w.sizes ≡ v.sizes → numbers_of w ≡ numbers_of v → w.told ≡ v.told → IsSame v w
-alike v w sizes numbers told = record { sizes_are = sizes; numbers_are = numbers; told_is = told }
 
 abbrev pub reason_of : Phase → Reason
 reason_of AtRest = ForNothing
@@ -103,7 +100,7 @@ notified_store_allowed number sizes slots id me numbered ready s kept long at fi
     let v = me.0 in
     let w = after_store v reason in
     let told : StoresNotified reason v w = record { rest = refl } in
-    (w, keeps, tt, (h, word_stands sizes h s.words s.views id notified_at 1 v w stand at numbered (alike v w refl refl refl) refl refl refl (omega arith) (omega arith) tt (store_sleep sizes h s.words s.views id v reason stand at ready refl), slots_kept number sizes h h s.homes s.views id me.0 w kept.2 at refl (λ m low. (same_entry h (sizes.handles + m), same_hand (sizes.handles + m) me.0.stage w.stage refl refl))), (refl, λ _. told))
+    (w, keeps, tt, (h, word_stands sizes h s.words s.views id notified_at 1 v w stand at numbered (same_view v w refl refl refl) refl refl refl (omega arith) (omega arith) tt (store_sleep sizes h s.words s.views id v reason stand at ready refl), slots_kept number sizes h h s.homes s.views id me.0 w kept.2 at refl (λ m low. (same_entry h (sizes.handles + m), same_hand (sizes.handles + m) me.0.stage w.stage refl refl))), (refl, λ _. told))
 
 -- The load.
 
@@ -146,7 +143,7 @@ notify_me_load_allowed number sizes slots id reason me numbered phase s kept lon
     let w = after_me_load v reason found in
     let told : LoadsNotifyMe reason found v w = record { rest = refl } in
     let sleep = load_sleep sizes h s.words s.views id v reason stand at phase in
-    (w, keeps, tt, (h, word_stands sizes h s.words s.views id notify_me_at found v w stand at numbered (alike v w refl refl refl) refl refl refl (omega arith) (omega arith) (owes_nothing sizes s.words h v.first reason (eqb found 0)) (subst (λ ws. SleepStands h ws (set s.views id w)) (sym (loaded_words s.words notify_me_at)) sleep), slots_kept number sizes h h s.homes s.views id me.0 w kept.2 at refl (λ m low. (same_entry h (sizes.handles + m), same_hand (sizes.handles + m) me.0.stage w.stage refl refl))), (refl, λ other is. let same : reason ≡ other = ap reason_of (sym phase ∙ is) in subst (λ r. LoadsNotifyMe r found v w) same told))
+    (w, keeps, tt, (h, word_stands sizes h s.words s.views id notify_me_at found v w stand at numbered (same_view v w refl refl refl) refl refl refl (omega arith) (omega arith) (owes_nothing sizes s.words h v.first reason (eqb found 0)) (subst (λ ws. SleepStands h ws (set s.views id w)) (sym (loaded_words s.words notify_me_at)) sleep), slots_kept number sizes h h s.homes s.views id me.0 w kept.2 at refl (λ m low. (same_entry h (sizes.handles + m), same_hand (sizes.handles + m) me.0.stage w.stage refl refl))), (refl, λ other is. let same : reason ≡ other = ap reason_of (sym phase ∙ is) in subst (λ r. LoadsNotifyMe r found v w) same told))
 
 -- The swap.
 
@@ -183,4 +180,4 @@ notifier_set_allowed number sizes slots id reason me numbered phase s kept long 
     let found = slice_index s.words notifier_at in
     let w = after_set v found in
     let told : SetsNotifier found v w = record { rest = refl } in
-    (w, keeps, tt, (h, word_stands sizes h s.words s.views id notifier_at 1 v w stand at numbered (alike v w refl refl refl) refl refl refl (omega arith) (omega arith) tt (set_sleep sizes h s.words s.views id v reason stand at phase), slots_kept number sizes h h s.homes s.views id me.0 w kept.2 at refl (λ m low. (same_entry h (sizes.handles + m), same_hand (sizes.handles + m) me.0.stage w.stage refl refl))), (refl, told))
+    (w, keeps, tt, (h, word_stands sizes h s.words s.views id notifier_at 1 v w stand at numbered (same_view v w refl refl refl) refl refl refl (omega arith) (omega arith) tt (set_sleep sizes h s.words s.views id v reason stand at phase), slots_kept number sizes h h s.homes s.views id me.0 w kept.2 at refl (λ m low. (same_entry h (sizes.handles + m), same_hand (sizes.handles + m) me.0.stage w.stage refl refl))), (refl, told))

@@ -7,7 +7,7 @@ use Rattle.aio_core.specs.Words.{event_at, flags_at, next_at, index_count, word_
 use Rattle.aio_model.specs.LoopSeats.{owns, home}
 use Rattle.aio_core.specs.Known.{Known, numbers_of}
 use Rattle.aio_core.specs.Calls.{TableState, SeatState, IsSeatOf}
-use Rattle.aio_core.proofs.Entries.{owns_first}
+use Rattle.table_seats.proofs.Entries.{owns_first}
 
 abbrev pub seat_state : TableId → Known → SeatState
 seat_state table known = record { table = table; known = known }

@@ -2,19 +2,19 @@
 use Rattle.std.proofs.Common.{Option, None, true, false, ◌+◌, map, replicate, ◌≡◌, ℕ, zero, suc, ◌<◌, ◌≤◌, List, [], ◌∷◌, length, slice_index, refl, sym, subst, arith}
 use mathlib.Core.Option.{some, some-injective, some-ne-none}
 use lib.ListN.{get_elem?}
-use Rattle.aio_model.specs.LoopLists.{job_of}
-use Rattle.aio_model.specs.LoopSeats.{owns, home}
+use Rattle.aio_model.specs.LoopLists.{seat_of, job_of}
+use Rattle.table_seats.specs.Seats.{owns, home, EachView, AreApart, IsSeat}
 use Rattle.aio_model.specs.LoopHistory.{Sizes}
 use Rattle.aio_core.specs.Words.{head_at, notified_at, notify_me_at, notifier_at, event_at, flags_at, index_count, word_count, flags_word}
-use Rattle.aio_core.specs.Known.{Known, first_known, numbers_of}
+use Rattle.aio_core.specs.Known.{Known, first_known, part_of, numbers_of}
 use Rattle.aio_core.specs.Opening.{AreFirst}
-use Rattle.aio_core.specs.Rule.{EachView, AreApart, IsSeat, Owes, HasOut, HasSleep, Stands, IsFull, HasJob, SlotsStand}
+use Rattle.aio_core.specs.Rule.{IsOfTable, Owes, HasOut, HasSleep, Stands, IsFull, HasJob, SlotsStand}
 
 each_alone : (P : Known → Type 0) (v : Known) → P v → EachView P (v ∷ [])
 each_alone P v h zero u e = subst P (some-injective v u e) h
 each_alone P v h (suc n) u e = absurd (some-ne-none u (sym e))
 
-apart_alone : (v : Known) → AreApart (v ∷ [])
+apart_alone : (v : Known) → AreApart seat_of part_of (v ∷ [])
 apart_alone v zero zero u x e f ne n own = absurd (ne refl)
 apart_alone v zero (suc j) u x e f ne n own = absurd (some-ne-none x (sym f))
 apart_alone v (suc i) j u x e f ne n own = absurd (some-ne-none u (sym e))
@@ -33,11 +33,14 @@ pub record WordsSoFar (sizes : Sizes) (lot : ℕ) (words : List ℕ) : Type 0 wh
 pub opening_stands : (sizes : Sizes) (words : List ℕ) → AreFirst sizes words → Stands sizes [] words (first_known sizes ∷ [])
 opening_stands sizes words first =
     let v = first_known sizes in
-    let is : IsSeat sizes [] v = record { sizes_are = λ _. refl; seen_of = record { rest = []; longer = refl; none_missed = refl; mine_is = refl }; below = omega arith; active = λ q. absurd cc; told_of = tt } in
+    let is : IsSeat seat_of [] (part_of v) = record { seen_of = record { rest = []; longer = refl; none_missed = refl; mine_is = refl }; below = omega arith; told_of = tt } in
     record {
       long = first.long;
       legal = tt;
-      seats = record { each = each_alone (IsSeat sizes []) v is; apart = apart_alone v; all_owned = refl };
+      seats = record {
+        parts = record { each = each_alone (λ u. IsSeat seat_of [] (part_of u)) v is; apart = apart_alone v; all_owned = refl };
+        tables = each_alone (IsOfTable sizes) v (record { sizes_are = λ _. refl; active = λ q. absurd cc });
+      };
       flags = record { each = first.flags };
       events = first.events;
       sleep = record { notified = let n = first.notified in omega arith; notifier = let n = first.notifier in omega arith; pushers = λ i a. absurd cc; home = each_alone (HasSleep [] words (v ∷ [])) v (λ own. first.notify_me) };

@@ -16,8 +16,8 @@ use Rattle.aio_core.specs.Rule.{IsOwed, Owes, push_of, store_of, Stands, Kept}
 use Rattle.aio_core.specs.Standing.{done, index_in, Pushes, Misses}
 use Rattle.aio_core.specs.Plays.{head_compared}
 use Rattle.aio_core.proofs.Slots.{same_lot, same_entry, same_hand, slots_kept}
-use Rattle.aio_core.proofs.Entries.{owns_first}
-use Rattle.aio_core.proofs.Seats.{seats_make, makes_of}
+use Rattle.table_seats.proofs.Entries.{owns_first}
+use Rattle.aio_core.proofs.Seats.{seats_make, makes_of, same_view}
 use Rattle.aio_core.proofs.Histories.{owed_still}
 use Rattle.aio_core.proofs.Flags.{events_apart, read_here, read_else, flags_apart}
 use Rattle.aio_core.proofs.Lists.{claimed_still, each_all, owes_kept, owed_apart, has_out_kept, lists_after}
@@ -47,12 +47,12 @@ module _ (sizes : Sizes) (h : History) (words : List ℕ) (views : List Known) (
       record {
         long = length-set words head_at (i + 1) ∙ stand.long;
         legal = ((owed.announced, owed.by_it), stand.legal);
-        seats = seats_make sizes h views id entry v w stand.seats at (record { sizes_are = refl; numbers_are = refl; told_is = refl }) (owns_first (numbers_of v) numbered) refl refl numbered;
+        seats = seats_make sizes h views id entry v w stand.seats at (same_view v w refl refl refl) (owns_first (numbers_of v) numbered) refl refl numbered;
         flags = flags_apart sizes h (entry ∷ h) words head_at (i + 1) stand.flags (λ j q. omega arith) (λ j. refl);
         lists = lists_after sizes h (entry ∷ h) words words' views id w stand.lists
             (subst (λ k. IsChain (next_in words') k (i ∷ stack_of h)) (sym top) (pushed (next_in words') (slice_index words head_at) i (stack_of h) below_it (same_next i ∙ linked)))
             tt
-            (λ beside u ne atu. owes_kept sizes words words' h (entry ∷ h) u.first u.phase (λ j busy theirs. (owed_still sizes h entry u.first j theirs refl (ne_eqb j i (λ q. owed_apart sizes h views id beside v u i j stand.seats at atu ne owed numbered theirs ((stand.seats.each beside u atu).active busy) (sym q))), same_next j)) (λ j job busy c. claimed_still sizes h entry _ j job refl refl refl c))
+            (λ beside u ne atu. owes_kept sizes words words' h (entry ∷ h) u.first u.phase (λ j busy theirs. (owed_still sizes h entry u.first j theirs refl (ne_eqb j i (λ q. owed_apart sizes h views id beside v u i j stand.seats at atu ne owed numbered theirs ((stand.seats.tables beside u atu).active busy) (sym q))), same_next j)) (λ j job busy c. claimed_still sizes h entry _ j job refl refl refl c))
             (has_out_kept words words' h (entry ∷ h) v refl (each_all _ (out_of h) same_next) (stand.lists.out id v at))
             (λ beside u ne atu. has_out_kept words words' h (entry ∷ h) u refl (each_all _ (out_of h) same_next));
         events = events_apart h (entry ∷ h) words head_at (i + 1) stand.events (λ e low q. omega arith) (λ e. refl);
@@ -88,14 +88,14 @@ module _ {J : Type 0} (number : J → ℕ) (sizes : Sizes) (slots id i head : �
       let w = after_push v h i found_now in
       let linked : next_in s.words i ≡ found_now = owed_now.1 ∙ sym (eqb-true found_now head is) in
       let now = push_stands sizes h s.words s.views id v i found_now head phase stand at numbered owed_now.0 linked in
-      let told : Pushes i found_now v w = record { makes = makes_of sizes h (Put i v.first) v w (stand.seats.each id v at) numbered refl refl now.legal; rest = refl } in
+      let told : Pushes i found_now v w = record { makes = makes_of sizes h (Put i v.first) v w (stand.seats.parts.each id v at) (stand.seats.tables id v at) numbered refl refl now.legal; rest = refl } in
       (w, keeps, tt, (Put i v.first ∷ h, now, slots_kept number sizes h (Put i v.first ∷ h) s.homes s.views id me.0 w kept.2 at refl (λ m low. (same_lot (sizes.handles + m) (Put i v.first) h refl refl refl refl, same_hand (sizes.handles + m) me.0.stage w.stage refl refl))), (refl, λ j to eq. let index : i ≡ j = ap index_in (sym phase ∙ eq) in let loaded : head ≡ to = ap loaded_in (sym phase ∙ eq) in subst (λ k. MatchBool (eqb found_now k) (Pushes j found_now v w) (Misses j found_now v w)) loaded (subst (λ c. MatchBool c (Pushes j found_now v w) (Misses j found_now v w)) (sym is) (subst (λ k. Pushes k found_now v w) index told))))
   compared false is =
       let h = kept.0 in
       let stand = kept.1 in
       let v = me.0 in
       let w = after_miss v i found_now in
-      let now = load_stands sizes h s.words s.views id head_at v w stand at numbered (record { sizes_are = refl; numbers_are = refl; told_is = refl }) refl refl owed_now.0 (stand.lists.out id v at) (record { step = done HeadCompare head_at found_now; longer = refl; sleep_is = refl; flight = flight_by v.phase (Linked i head) (Announced i) phase (record { pushes = refl; stores = refl; flies = refl }) }) in
+      let now = load_stands sizes h s.words s.views id head_at v w stand at numbered (same_view v w refl refl refl) refl refl owed_now.0 (stand.lists.out id v at) (record { step = done HeadCompare head_at found_now; longer = refl; sleep_is = refl; flight = flight_by v.phase (Linked i head) (Announced i) phase (record { pushes = refl; stores = refl; flies = refl }) }) in
       let told : Misses i found_now v w = record { rest = refl } in
       (w, keeps, tt, (h, now, slots_kept number sizes h h s.homes s.views id me.0 w kept.2 at refl (λ m low. (same_entry h (sizes.handles + m), same_hand (sizes.handles + m) me.0.stage w.stage refl refl))), (refl, λ j to eq. let index : i ≡ j = ap index_in (sym phase ∙ eq) in let loaded : head ≡ to = ap loaded_in (sym phase ∙ eq) in subst (λ k. MatchBool (eqb found_now k) (Pushes j found_now v w) (Misses j found_now v w)) loaded (subst (λ c. MatchBool c (Pushes j found_now v w) (Misses j found_now v w)) (sym is) (subst (λ k. Misses k found_now v w) index told))))
 

@@ -7,21 +7,21 @@ use Rattle.atomic_table.specs.Table.{Me, keeps, step, Allows}
 use Rattle.aio_model.specs.FlagsWord.{word_of}
 use Rattle.aio_model.specs.LoopHistory.{Sizes, History}
 use Rattle.aio_model.specs.LoopFlags.{flags_of, are_urgent, is_urgent}
-use Rattle.aio_model.specs.LoopLists.{was_put, stack_of, out_of}
+use Rattle.aio_model.specs.LoopLists.{seat_of, was_put, stack_of, out_of}
 use Rattle.aio_model.specs.LoopLegal.{IsLegal}
-use Rattle.aio_model.specs.LoopSeats.{owns, home}
+use Rattle.table_seats.specs.Seats.{owns, home, IsSeat}
 use Rattle.aio_model.specs.InFlight.{ForIndex, ForEvent, ForNothing, Phase}
 use Rattle.aio_model.proofs.AnnouncedOnce.{fits}
 use Rattle.aio_chain.specs.Chains.{IsChain, AreChains}
 use Rattle.aio_chain.proofs.Chains.{none_taken}
 use Rattle.aio_core.specs.Words.{head_at, notified_at, notify_me_at, notifier_at, flags_at, next_at, index_count, next_in}
-use Rattle.aio_core.specs.Known.{Done, ScanHeadLoad, ScanNextLoad, ScanFlagsLoad, Scan, Sleep, Running, Scanning, Armed, ToDisarm, Committed, is_running, Known, numbers_of}
-use Rattle.aio_core.specs.Rule.{IsSeat, IsOut, NoneEmpty, push_of, store_of, SomeSeat, is_among, is_open, AreCovered, IsScan, Sleeps, SleepStands, Stands, Kept}
+use Rattle.aio_core.specs.Known.{Done, ScanHeadLoad, ScanNextLoad, ScanFlagsLoad, Scan, Sleep, Running, Scanning, Armed, ToDisarm, Committed, is_running, Known, part_of, numbers_of}
+use Rattle.aio_core.specs.Rule.{IsOfTable, IsOut, NoneEmpty, push_of, store_of, SomeSeat, is_among, is_open, AreCovered, IsScan, Sleeps, SleepStands, Stands, Kept}
 use Rattle.aio_core.specs.Standing.{done, is_empty, without_first}
 use Rattle.aio_core.specs.SleepSteps.{Learns, scan_of, made_after, BeginsScan, ScansNext, after_flags, ScansFlags}
 use Rattle.aio_core.specs.Plays.{FlagsAreScanned, scan_begun, scan_lifted, flags_scanned}
 use Rattle.aio_core.proofs.Slots.{same_entry, same_hand, slots_kept}
-use Rattle.aio_core.proofs.Seats.{IsSame, seats_keep, seats_learn}
+use Rattle.aio_core.proofs.Seats.{seats_keep, seats_learn, same_view}
 use Rattle.aio_core.proofs.Histories.{pending_below, stack_below}
 use Rattle.aio_core.proofs.Flags.{flags_again}
 use Rattle.aio_core.proofs.Keeping.{loaded_words, view_stands}
@@ -57,16 +57,13 @@ module _ (sizes : Sizes) (h : History) (words : List ℕ) (views : List Known) (
   covered_still other w left watched phase same covered r wanted closed =
       ⊎_elim (λ s. inl (some_set (λ p. store_of p ≡ r) views id v w at (λ e. ap store_of phase ∙ e) s)) (λ n. inr (same ∙ n)) (covered r wanted closed)
 
-pub same_view : (v w : Known) → w.sizes ≡ v.sizes → numbers_of w ≡ numbers_of v → w.told ≡ v.told → IsSame v w
-same_view v w sizes numbers told = record { sizes_are = sizes; numbers_are = numbers; told_is = told }
-
-learns_of : (sizes : Sizes) (h : History) (v w : Known) → IsSeat sizes h v → 0 < v.count → w.seen ≡ h → IsLegal sizes h → Learns v w
-learns_of sizes h v w is numbered seen legal =
+learns_of : (sizes : Sizes) (h : History) (v w : Known) → IsSeat seat_of h (part_of v) → IsOfTable sizes v → 0 < v.count → w.seen ≡ h → IsLegal sizes h → Learns v w
+learns_of sizes h v w is table numbered seen legal =
     record {
       others = is.seen_of.rest;
       not_own = is.seen_of.none_missed;
       seen = seen ∙ is.seen_of.longer;
-      legal = subst (IsLegal v.sizes) (sym seen) (subst (λ z. IsLegal z h) (sym (is.sizes_are numbered)) legal);
+      legal = subst (IsLegal v.sizes) (sym seen) (subst (λ z. IsLegal z h) (sym (table.sizes_are numbered)) legal);
     }
 
 -- The head load.
@@ -117,14 +114,14 @@ scan_head_allowed number sizes slots id me numbered is_home running no_hand s ke
     let v = me.0 in
     let found = slice_index s.words head_at in
     let w = after_scan_head v h found in
-    let is = stand.seats.each id v at in
+    let table = stand.seats.tables id v at in
     let scan = head_scan sizes h s.words s.views id v stand at is_home no_hand (set s.views id w) (λ P one. some_set P s.views id v w at (λ e. e) one) in
     let me_is : slice_index s.words notify_me_at ≡ 0 = home_me sizes h s.words s.views id v stand at is_home running in
     let sleep = sleep_home sizes h s.words s.views id v stand at is_home s.words w refl refl (stand.sleep.notified, stand.sleep.notifier) (me_is, omega arith, λ e. scan) in
     let seats = seats_learn sizes h s.views id v w stand.seats at (same_view v w refl refl refl) refl refl numbered in
-    let low : found ≤ index_count v.sizes = subst (λ z. found ≤ index_count z) (sym (is.sizes_are numbered)) (chain_word_below (next_in s.words) found (index_count sizes) (stack_of h) stand.lists.stack (stack_below sizes h stand.legal)) in
+    let low : found ≤ index_count v.sizes = subst (λ z. found ≤ index_count z) (sym (table.sizes_are numbered)) (chain_word_below (next_in s.words) found (index_count sizes) (stack_of h) stand.lists.stack (stack_below sizes h stand.legal)) in
     let told : BeginsScan found v w = record {
-      learns = learns_of sizes h v w is numbered refl stand.legal;
+      learns = learns_of sizes h v w (stand.seats.parts.each id v at) table numbered refl stand.legal;
       below = low;
       left = chains_empty (next_in s.words) (without_first found v.stage.slices) (stack_of h ++ out_of h) scan.leads scan.full;
       rest = refl;
@@ -169,7 +166,7 @@ scan_next_allowed number sizes slots id made i more scan me numbered is_home asl
     } in
     let sleep = sleep_home sizes h s.words s.views id v stand at is_home s.words w refl refl (stand.sleep.notified, stand.sleep.notifier) (was.0, omega arith, λ e. new) in
     let seats = seats_keep sizes h s.views id v w stand.seats at (same_view v w refl refl refl) refl refl numbered in
-    let low : found ≤ index_count v.sizes = subst (λ z. found ≤ index_count z) (sym ((stand.seats.each id v at).sizes_are numbered)) (lifted_word_below (next_in s.words) i (index_count sizes) more scan.left out (each_among (λ j. j < index_count sizes) scan.left (λ j there. put_is_below sizes h stand.legal j (old.pushed j there)))) in
+    let low : found ≤ index_count v.sizes = subst (λ z. found ≤ index_count z) (sym ((stand.seats.tables id v at).sizes_are numbered)) (lifted_word_below (next_in s.words) i (index_count sizes) more scan.left out (each_among (λ j. j < index_count sizes) scan.left (λ j there. put_is_below sizes h stand.legal j (old.pushed j there)))) in
     let told : ScansNext i found more scan v w = record { below = low; rest = refl } in (
       w,
       keeps,
@@ -247,7 +244,7 @@ scan_flags_allowed number sizes slots id made i scan me numbered is_home asleep 
     let v = me.0 in
     let flags = flags_of i h in
     let w = after_scan_flags v h scan i in
-    let is = stand.seats.each id v at in
+    let table = stand.seats.tables id v at in
     let held = in_hand sizes h s.words s.views id v made i scan stand at is_home asleep fresh hand in
     let put = hand_was_put sizes h s.words s.views id v made i scan stand at is_home asleep fresh hand in
     let scanned = at_scan sizes h s.words s.views id v made i scan stand at is_home asleep fresh hand in
@@ -257,7 +254,7 @@ scan_flags_allowed number sizes slots id made i scan me numbered is_home asleep 
     let seats = seats_learn sizes h s.views id v w stand.seats at (same_view v w refl refl refl) refl refl numbered in
     let left_is : scan.left ≡ i ∷ drop 1 scan.left = held.1 ∙ ap (λ (l : List ℕ). i ∷ drop 1 l) (sym held.1) in
     let left : is_empty scan.stage.slices ≡ is_empty (drop 1 scan.left) = chains_empty (next_in s.words) scan.stage.slices (drop 1 scan.left) (subst (λ l. AreChains (next_in s.words) scan.stage.slices (drop 1 l)) (sym held.1) held.2) scanned.1.full in
-    let scans : ScansFlags i flags scan v w = record { learns = learns_of sizes h v w is numbered refl stand.legal; were = refl; was_left = left_is; left = left; rest = refl } in
+    let scans : ScansFlags i flags scan v w = record { learns = learns_of sizes h v w (stand.seats.parts.each id v at) table numbered refl stand.legal; were = refl; was_left = left_is; left = left; rest = refl } in
     let told : FlagsAreScanned i (slice_index s.words (flags_at i)) scan v w = record { flags = flags; found_is = found; scans = scans } in (
       w,
       keeps,

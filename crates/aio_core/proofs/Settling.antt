@@ -5,46 +5,29 @@ use Rattle.std.proofs.lemmas.Bool.{cases_eq, cases_Bool, eq-eqb, ne_eqb, cond-tr
 use mathlib.Core.Option.{some, none, some-injective}
 use lib.ListN.{get_elem?}
 use Rattle.atomic_table.specs.Table.{Me, keeps, step, Allows}
+use Rattle.table_seats.specs.Seats.{owns, everyone}
+use Rattle.table_seats.proofs.Entries.{owns_first, owns_everyone}
+use Rattle.table_seats.proofs.Seats.{all_seen as sees_all}
 use Rattle.aio_model.specs.declared.flags.Flags.{Flags}
 use Rattle.aio_model.specs.FlagsWord.{bit, word_of, flags_in}
 use Rattle.aio_model.specs.LoopHistory.{Sizes, History}
 use Rattle.aio_model.specs.LoopFlags.{has_life, is_pending, flags_of}
 use Rattle.aio_model.specs.LoopLists.{seat_of, is_set}
 use Rattle.aio_model.specs.LoopLegal.{IsLegal}
-use Rattle.aio_model.specs.LoopSeats.{Numbers, owns, own_entries}
+use Rattle.aio_model.specs.LoopSeats.{own_entries}
 use Rattle.aio_model.specs.InFlight.{Reason, Phase, AtRest, LotClaimed, Announced, HeadLoaded, Linked, ToStore, ToLoad, ToSet, is_at_rest, flight_of}
 use Rattle.aio_model.proofs.AnnouncedOnce.{fits}
 use Rattle.aio_model.proofs.FlagsWords.{flags_in-word_of}
 use Rattle.aio_core.specs.Words.{notifier_at, event_at, flags_at, index_count, flags_word, free_word}
-use Rattle.aio_core.specs.Known.{NotifierLoad, EventLoad, ScanFlagsLoad, Kind, Committed, Known, numbers_of}
-use Rattle.aio_core.specs.Rule.{everyone, is_wanted, SomeSeat, Sleeps, Stands, Kept}
+use Rattle.aio_core.specs.Known.{NotifierLoad, EventLoad, ScanFlagsLoad, Kind, Committed, Known, part_of, numbers_of}
+use Rattle.aio_core.specs.Rule.{is_wanted, SomeSeat, Sleeps, Stands, Kept}
 use Rattle.aio_core.specs.Standing.{done, Looks}
 use Rattle.aio_core.specs.SleepSteps.{OwnsAll}
 use Rattle.aio_core.specs.Plays.{notifier_looked_at, event_told, flags_told}
 use Rattle.aio_core.proofs.Slots.{same_entry, same_hand, slots_kept}
-use Rattle.aio_core.proofs.Entries.{own-append, owns_first, owns_everyone}
+use Rattle.aio_core.proofs.Seats.{same_view}
 use Rattle.aio_core.proofs.Keeping.{load_stands}
 use Rattle.aio_core.proofs.Sleeping.{something, same_flight}
-
-own_shorter : (n : Numbers) (xs : History) → length (own_entries n xs) ≤ length xs
-own_shorter n [] = omega arith
-own_shorter n (e ∷ xs) = by (owns n (seat_of e)) (own_shorter n xs)
-  where
-    by : (b : Bool) → length (own_entries n xs) ≤ length xs → length (cond b (e ∷ own_entries n xs) (own_entries n xs)) ≤ suc (length xs)
-    by true low = omega arith
-    by false low = omega arith
-
-none_left : (xs : History) → length xs ≡ 0 → xs ≡ []
-none_left [] e = refl
-none_left (x ∷ xs) e = absurd (omega arith)
-
--- where all entries are owned, none is behind what was seen
-nothing_behind : (n : Numbers) (rest seen h : History) → h ≡ rest ++ seen → own_entries n h ≡ h → own_entries n rest ≡ [] → rest ≡ []
-nothing_behind n rest seen h is all missed =
-    let owned : own_entries n seen ≡ h = sym (ap (own_entries n) is ∙ own-append n rest seen ∙ ap (λ (l : History). l ++ own_entries n seen) missed) ∙ all in
-    let low = own_shorter n seen in
-    let count : length (own_entries n seen) ≡ length rest + length seen = ap length (owned ∙ is) ∙ length-append rest seen in
-    none_left rest (omega arith)
 
 module _ (sizes : Sizes) (h : History) (words : List ℕ) (views : List Known) (id : ℕ) (v : Known) (stand : Stands sizes h words views) (at : get_elem? views id ≡ some v) (all : OwnsAll v) where
   numbers_are : numbers_of v ≡ everyone
@@ -52,20 +35,19 @@ module _ (sizes : Sizes) (h : History) (words : List ℕ) (views : List Known) (
 
   pub all_seen : (v.seen ≡ h) × (v.mine ≡ h)
   all_seen =
-      let is = stand.seats.each id v at in
-      let own_all : own_entries (numbers_of v) h ≡ h = ap (λ n. own_entries n h) numbers_are ∙ stand.seats.all_owned in
-      let behind : is.seen_of.rest ≡ [] = nothing_behind (numbers_of v) is.seen_of.rest v.seen h is.seen_of.longer own_all is.seen_of.none_missed in
-      let seen : h ≡ v.seen = is.seen_of.longer ∙ ap (λ (l : History). l ++ v.seen) behind in
-      (sym seen, is.seen_of.mine_is ∙ ap (own_entries (numbers_of v)) (sym seen) ∙ own_all)
+      let is = stand.seats.parts.each id v at in
+      let own_all : own_entries (numbers_of v) h ≡ h = ap (λ n. own_entries n h) numbers_are ∙ stand.seats.parts.all_owned in
+      let seen : v.seen ≡ h = sees_all seat_of h (part_of v) is numbers_are stand.seats.parts.all_owned in
+      (seen, is.seen_of.mine_is ∙ ap (own_entries (numbers_of v)) seen ∙ own_all)
 
   -- no other seat has a number
   pub others_have_none : (other : ℕ) (u : Known) → get_elem? views other ≡ some u → other ≢ id → u.count ≡ 0
   others_have_none other u atu ne =
       ⊎_elim (λ z. z) (λ (full : 0 < u.count). absurd (
-      let below = (stand.seats.each other u atu).below in
+      let below = (stand.seats.parts.each other u atu).below in
       let theirs : owns (numbers_of u) u.first ≡ true = owns_first (numbers_of u) full in
       let mine : owns (numbers_of v) u.first ≡ true = subst (λ n. owns n u.first ≡ true) (sym numbers_are) (owns_everyone u.first (omega arith)) in
-      let not_theirs : owns (numbers_of u) u.first ≡ false = stand.seats.apart id other v u at atu (λ q. ne (sym q)) u.first mine in
+      let not_theirs : owns (numbers_of u) u.first ≡ false = stand.seats.parts.apart id other v u at atu (λ q. ne (sym q)) u.first mine in
       cc)) (eq-zero-or-pos u.count)
 
   -- so nobody is under way
@@ -73,7 +55,7 @@ module _ (sizes : Sizes) (h : History) (words : List ℕ) (views : List Known) (
   all_at_rest rest P none_rests one =
       ⊎_elim
       (λ (z : one.id ≡ id). let same : one.known ≡ v = some-injective _ _ (sym one.at ∙ (ap (get_elem? views) z ∙ at)) in none_rests one.known.phase (ap is_at_rest (ap (λ (k : Known). k.phase) same ∙ rest)) one.is)
-      (λ (z : one.id ≢ id). ⊎_elim (λ resting. none_rests one.known.phase resting one.is) (λ busy. absurd (let none_owned = others_have_none one.id one.known one.at z in let full = (stand.seats.each one.id one.known one.at).active busy in omega arith)) (cases_Bool (is_at_rest one.known.phase)))
+      (λ (z : one.id ≢ id). ⊎_elim (λ resting. none_rests one.known.phase resting one.is) (λ busy. absurd (let none_owned = others_have_none one.id one.known one.at z in let full = (stand.seats.tables one.id one.known one.at).active busy in omega arith)) (cases_Bool (is_at_rest one.known.phase)))
       (cases_eq one.id id)
 
 resting_flies : (r : Reason) (h : History) (p : Phase) → is_wanted r h ≡ true → is_at_rest p ≡ true → flight_of p ≡ r → ⊥
@@ -94,7 +76,7 @@ after_look v kind word found = record v { did = done kind word found ∷ v.did }
 -- a look by any seat keeps the rule
 pub look_stands : (sizes : Sizes) (h : History) (words : List ℕ) (views : List Known) (id : ℕ) (v : Known) (kind : Kind) (word : ℕ) → Stands sizes h words views → get_elem? views id ≡ some v → 0 < v.count → Stands sizes h (set words word (slice_index words word)) (set views id (after_look v kind word (slice_index words word)))
 look_stands sizes h words views id v kind word stand at numbered =
-    load_stands sizes h words views id word v (after_look v kind word (slice_index words word)) stand at numbered (record { sizes_are = refl; numbers_are = refl; told_is = refl }) refl refl (stand.lists.owed id v at) (stand.lists.out id v at) (record { step = done kind word (slice_index words word); longer = refl; sleep_is = refl; flight = same_flight v.phase v.phase refl })
+    load_stands sizes h words views id word v (after_look v kind word (slice_index words word)) stand at numbered (same_view v (after_look v kind word (slice_index words word)) refl refl refl) refl refl (stand.lists.owed id v at) (stand.lists.out id v at) (record { step = done kind word (slice_index words word); longer = refl; sleep_is = refl; flight = same_flight v.phase v.phase refl })
 
 pub notifier_load_allowed : {J : Type 0} (number : J → ℕ) (sizes : Sizes) (slots id : ℕ) (me : Me (Option J) Known) → 0 < me.0.count → Allows (Kept number sizes) slots id me notifier_at (λ n. n) (notifier_looked_at (step slots notifier_at 0 0 none) me)
 notifier_load_allowed number sizes slots id me numbered s kept long at fits_word =
@@ -112,7 +94,7 @@ notifier_load_allowed number sizes slots id me numbered s kept long at fits_word
         refl,
         told,
         stand.sleep.notifier,
-        λ all. let both = all_seen sizes h s.words s.views id v stand at all in (subst (IsLegal v.sizes) (sym both.0) (subst (λ z. IsLegal z h) (sym ((stand.seats.each id v at).sizes_are numbered)) stand.legal), both.1 ∙ sym both.0),
+        λ all. let both = all_seen sizes h s.words s.views id v stand at all in (subst (IsLegal v.sizes) (sym both.0) (subst (λ z. IsLegal z h) (sym ((stand.seats.tables id v at).sizes_are numbered)) stand.legal), both.1 ∙ sym both.0),
         λ all rest watched asleep r wanted closed.
             let seen : v.seen ≡ h = (all_seen sizes h s.words s.views id v stand at all).0 in
             let owned : owns (numbers_of v) 64 ≡ true = subst (λ n. owns n 64 ≡ true) (sym (numbers_are sizes h s.words s.views id v stand at all)) refl in

@@ -13,7 +13,7 @@ use Rattle.aio_chain.proofs.Chains.{Each}
 use Rattle.aio_core.specs.Words.{notified_at, notify_me_at, notifier_at, next_in}
 use Rattle.aio_core.specs.Known.{Done, Sleep, Running, Scanning, Armed, ToDisarm, Committed, calmed, Known, numbers_of}
 use Rattle.aio_core.specs.Rule.{SeatsStand, push_of, store_of, is_wanted, SomeSeat, WillPush, is_among, AreCovered, IsSleepSafe, Sleeps, HasSleep, SleepStands}
-use Rattle.aio_core.proofs.Seats.{each_set}
+use Rattle.table_seats.proofs.Seats.{each_set}
 use Rattle.aio_core.proofs.Lists.{is_out_kept}
 
 -- Some seat.
@@ -155,7 +155,7 @@ sleep_after sizes h g words other views id v w seats at numbers stand bits pushe
       pushers = pushers;
       home = each_set (HasSleep h words views) (HasSleep g other (set views id w)) views id w stand.home
           (λ is_home. let mine : owns (numbers_of v) home ≡ true = subst (λ n. owns n home ≡ true) numbers is_home in own mine (stand.home id v at mine))
-          (λ far u ne atu has is_home. beside (seats.apart far id u v atu at ne home is_home) u.did u.sleep (has is_home));
+          (λ far u ne atu has is_home. beside (seats.parts.apart far id u v atu at ne home is_home) u.did u.sleep (has is_home));
     }
 
 -- what a step leaves of who is to push

@@ -6,10 +6,10 @@ use lib.ListN.{get_elem?}
 use Rattle.aio_model.specs.LoopHistory.{Sizes, Entry, New, Enqueue, Put, Cancel, Take, Dequeue, Free, SetEvent, ClearEvent, History}
 use Rattle.aio_model.specs.LoopFlags.{lives, was_dequeued, begins, frees, enqueues, dequeues}
 use Rattle.aio_model.specs.LoopLists.{claimer_of, job_of}
-use Rattle.aio_model.specs.LoopSeats.{owns, home}
+use Rattle.table_seats.specs.Seats.{owns, home, EachView}
 use Rattle.aio_core.specs.Known.{Stage, Known, numbers_of}
-use Rattle.aio_core.specs.Rule.{EachView, is_at_hand, IsFull, HasJob, SlotsStand, SlotOf}
-use Rattle.aio_core.proofs.Seats.{each_set}
+use Rattle.aio_core.specs.Rule.{is_at_hand, IsFull, HasJob, SlotsStand, SlotOf}
+use Rattle.table_seats.proofs.Seats.{each_set}
 
 -- Slots.
 

@@ -15,7 +15,7 @@ use Rattle.aio_core.specs.Rule.{IsOut, NoneEmpty, HasOut, Stands, Kept}
 use Rattle.aio_core.specs.Standing.{done, is_empty, with_slice, Takes}
 use Rattle.aio_core.specs.Plays.{taken}
 use Rattle.aio_core.proofs.Slots.{same_lot, same_hand, slots_kept}
-use Rattle.aio_core.proofs.Seats.{seats_make, makes_of}
+use Rattle.aio_core.proofs.Seats.{seats_make, makes_of, same_view}
 use Rattle.aio_core.proofs.Histories.{stack_below, owed_still}
 use Rattle.aio_core.proofs.Flags.{events_apart, read_here, read_else, flags_apart}
 use Rattle.aio_core.proofs.Lists.{claimed_still, each_all, owes_kept, is_out_kept, no_other_home, lists_after}
@@ -52,7 +52,7 @@ module _ (sizes : Sizes) (h : History) (words : List ℕ) (views : List Known) (
       record {
         long = length-set words head_at 0 ∙ stand.long;
         legal = (tt, stand.legal);
-        seats = seats_make sizes h views id Take v w stand.seats at (record { sizes_are = refl; numbers_are = refl; told_is = refl }) is_home refl refl numbered;
+        seats = seats_make sizes h views id Take v w stand.seats at (same_view v w refl refl refl) is_home refl refl numbered;
         flags = flags_apart sizes h (Take ∷ h) words head_at 0 stand.flags (λ j q. omega arith) (λ j. refl);
         lists = lists_after sizes h (Take ∷ h) words words_taken views id w stand.lists
             (read_here words head_at 0 (omega arith))
@@ -87,7 +87,7 @@ take_allowed number sizes slots id me numbered is_home s kept long at fits =
     let found = slice_index s.words head_at in
     let now = take_stands sizes h s.words s.views id v stand at numbered is_home in
     let w = after_take v h found in
-    let is = stand.seats.each id v at in
-    let low : found ≤ index_count v.sizes = subst (λ z. found ≤ index_count z) (sym (is.sizes_are numbered)) (chain_word_below (next_in s.words) found (index_count sizes) (stack_of h) stand.lists.stack (stack_below sizes h stand.legal)) in
-    let told : Takes found v w = record { makes = makes_of sizes h Take v w is numbered refl refl now.legal; below = low; left = λ e. left_of (set s.words head_at 0) (Take ∷ h) w.stage.slices w.stage.hand e (has_out_taken sizes h s.words s.views id v stand at is_home); rest = refl } in
+    let table = stand.seats.tables id v at in
+    let low : found ≤ index_count v.sizes = subst (λ z. found ≤ index_count z) (sym (table.sizes_are numbered)) (chain_word_below (next_in s.words) found (index_count sizes) (stack_of h) stand.lists.stack (stack_below sizes h stand.legal)) in
+    let told : Takes found v w = record { makes = makes_of sizes h Take v w (stand.seats.parts.each id v at) table numbered refl refl now.legal; below = low; left = λ e. left_of (set s.words head_at 0) (Take ∷ h) w.stage.slices w.stage.hand e (has_out_taken sizes h s.words s.views id v stand at is_home); rest = refl } in
     (w, keeps, tt, (Take ∷ h, now, slots_kept number sizes h (Take ∷ h) s.homes s.views id me.0 w kept.2 at refl (λ m low. (same_lot (sizes.handles + m) (Take) h refl refl refl refl, same_hand (sizes.handles + m) me.0.stage w.stage refl refl))), (refl, told))

@@ -1,31 +1,28 @@
 -- How what two seats know is put together.
-use Rattle.std.specs.Prelude.{◌≡◌, ◌+◌, if◌then◌else◌, Some, None, []}
-use Rattle.aio_model.specs.LoopHistory.{Sizes, History}
+use Rattle.std.specs.Prelude.{if◌then◌else◌, None, []}
+use Rattle.table_seats.specs.Seats.{Told, owns, home}
+use Rattle.table_seats.specs.Dividing.{told_of as told_of_parts, joined_part}
+use Rattle.table_seats.specs.Calls as calls
+use Rattle.aio_model.specs.LoopHistory.{Sizes, Entry, History}
+use Rattle.aio_model.specs.LoopLists.{seat_of}
 use Rattle.aio_model.specs.LoopLegal.{IsLegal}
-use Rattle.aio_model.specs.LoopSeats.{Numbers, owns, own_entries, home}
 use Rattle.aio_model.specs.InFlight.{AtRest}
-use Rattle.aio_core.specs.Known.{empty_stage, calmed, Running, Told, Known, numbers_of}
-use Rattle.aio_core.specs.Rule.{IsPart, longer_of}
+use Rattle.aio_core.specs.Known.{empty_stage, calmed, Running, Known, part_of, numbers_of}
 
--- the numbers of both, the other's behind the first's
-abbrev pub both_numbers : Known → Known → Numbers
-both_numbers known other = record { first = known.first; count = known.count + other.count }
-
-abbrev pub told_of : Known → Known → Told
-told_of known other =
-    record { staying = known.seen; joining = other.seen; stays = numbers_of known; joins = numbers_of other; made_by_staying = known.mine; made_by_joining = other.mine }
+abbrev pub told_of : Known → Known → Told Entry
+told_of known other = told_of_parts (part_of known) (part_of other)
 
 -- the seat that stays has seen the longer of the two, and has all numbers; what is the home's stays with the home's number
 abbrev pub joined_known : Known → Known → Known
 joined_known known other =
-    let seen = longer_of known.seen other.seen in
+    let part = joined_part seat_of (part_of known) (part_of other) in
     record known {
-      seen = seen;
-      mine = own_entries (both_numbers known other) seen;
-      count = known.count + other.count;
+      seen = part.seen;
+      mine = part.mine;
+      count = part.count;
       stage = (if owns (numbers_of other) home then other.stage else known.stage);
       sleep = (if owns (numbers_of other) home then calmed other.sleep else known.sleep);
-      told = Some (told_of known other);
+      told = part.told;
     }
 
 -- what is left of the other: it owns no number, and has seen nothing
@@ -34,9 +31,5 @@ spent_known =
     record { sizes = record { handles = 0; lots = 0; events = 0 }; seen = []; mine = []; did = []; first = 0; count = 0; phase = AtRest; stage = empty_stage; sleep = Running; told = None }
 
 -- each of the two lists is a part of the longer one, which is legal, and in which each of the two has just the entries that it made
-pub record IsJoined (sizes : Sizes) (told : Told) (seen : History) : Type 0 where
-  pub stayed : IsPart told.staying seen
-  pub joined : IsPart told.joining seen
-  pub legal : IsLegal sizes seen
-  pub made_by_staying : own_entries told.stays seen ≡ told.made_by_staying
-  pub made_by_joining : own_entries told.joins seen ≡ told.made_by_joining
+abbrev pub IsJoined : Sizes → Told Entry → History → Type 0
+IsJoined sizes told seen = calls.IsJoined seat_of (IsLegal sizes) told seen

@@ -1,7 +1,7 @@
 -- What a seat of a loop's table knows.
 use Rattle.std.specs.Prelude.{ℕ, Bool, true, false, Option, None, List, []}
-use Rattle.aio_model.specs.LoopHistory.{Sizes, History}
-use Rattle.aio_model.specs.LoopSeats.{Numbers}
+use Rattle.table_seats.specs.Seats.{Numbers, Told, Part, numbers_in}
+use Rattle.aio_model.specs.LoopHistory.{Sizes, Entry, History}
 use Rattle.aio_model.specs.InFlight.{Phase, AtRest}
 
 -- the kinds of atomic step on a word
@@ -80,15 +80,6 @@ calmed (Armed made watched) = ToDisarm
 calmed ToDisarm = ToDisarm
 calmed (Committed watched) = Committed watched
 
--- What was seen when two seats were last joined, and what each had made under its numbers: the one that stayed, and the other.
-pub record Told : Type 0 where
-  pub staying : History
-  pub joining : History
-  pub stays : Numbers
-  pub joins : Numbers
-  pub made_by_staying : History
-  pub made_by_joining : History
-
 -- Histories have the newest entry in front, and so have the steps that were done.
 pub record Known : Type 0 where
   pub sizes : Sizes
@@ -100,10 +91,15 @@ pub record Known : Type 0 where
   pub phase : Phase
   pub stage : Stage
   pub sleep : Sleep
-  pub told : Option Told
+  pub told : Option (Told Entry)
+
+-- the part that is about numbers and the history
+abbrev pub part_of : Known → Part Entry
+part_of known =
+    record { first = known.first; count = known.count; seen = known.seen; mine = known.mine; told = known.told }
 
 abbrev pub numbers_of : Known → Numbers
-numbers_of known = record { first = known.first; count = known.count }
+numbers_of known = numbers_in (part_of known)
 
 -- what the first view knows: all numbers, and nothing done
 abbrev pub first_known : Sizes → Known

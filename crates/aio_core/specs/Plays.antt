@@ -3,15 +3,17 @@
 use Rattle.std.specs.Prelude.{◌≡◌, ℕ, ◌+◌, ◌<◌, ◌≤◌, ◌==◌, true, false, Option, None, Some, List, [], ◌∷◌, MatchBool}
 use mathlib.Core.Option.{some}
 use Rattle.atomic_table.specs.Table.{Me, Step, rest}
+use Rattle.table_seats.specs.Seats.{Told, longer_of}
 use Rattle.aio_model.specs.declared.flags.Flags.{Flags}
 use Rattle.aio_model.specs.FlagsWord.{word_of, flags_in}
 use Rattle.aio_model.specs.InFlight.{Reason, AtRest, Announced, HeadLoaded, Linked, ToLoad, flight_of}
 use Rattle.aio_core.specs.Words.{head_at, notifier_at, event_at, flags_at, next_at, index_count, free_word}
-use Rattle.aio_core.specs.Known.{LotClaimCompare, HeadLoad, NextStore, ScanFlagsLoad, EventLoad, NotifierLoad, Scan, Scanning, Committed, Armed, Told, Known}
+use Rattle.aio_core.specs.Known.{LotClaimCompare, HeadLoad, NextStore, ScanFlagsLoad, EventLoad, NotifierLoad, Scan, Scanning, Committed, Armed, Known}
+use Rattle.aio_model.specs.LoopHistory.{Entry}
 use Rattle.aio_model.specs.LoopFlags.{is_pending}
 use Rattle.aio_model.specs.LoopLists.{job_of, is_set}
 use Rattle.aio_model.specs.LoopLegal.{IsLegal}
-use Rattle.aio_core.specs.Rule.{longer_of, is_wanted, is_open}
+use Rattle.aio_core.specs.Rule.{is_wanted, is_open}
 use Rattle.aio_core.specs.Joining.{IsJoined}
 use Rattle.aio_core.specs.Standing.{may_notify, StoresNotified, LoadsNotifyMe, SetsNotifier, Claims, Frees, Looks, done, asked_with, Enqueues, Pushes, Misses, Cancels, Takes, Lifts, Dequeues}
 use Rattle.aio_core.specs.SleepSteps.{BeginsScan, ScansNext, ScansFlags, Arms, Tests, Disarms, ClearsNotifier, Accepts, SetsEvent, ClearsEvent, LoadsEvent, OwnsAll}
@@ -153,7 +155,7 @@ module _ {S : Type 0} where
   -- what two joined seats had seen
   abbrev pub learned : Step S → Me S Known → ℕ → Me S Known → Type 0
   learned step before found after =
-      (after ≡ before) × ((told : Told) → before.0.told ≡ Some told → IsJoined before.0.sizes told (longer_of told.staying told.joining))
+      (after ≡ before) × ((told : Told Entry) → before.0.told ≡ Some told → IsJoined before.0.sizes told (longer_of told.staying told.joining))
 
 -- The steps that move a job besides: of a lot's place, the job's number, and what the step announces.
 module _ {J : Type 0} (number : J → ℕ) where

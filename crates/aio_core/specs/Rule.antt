@@ -1,65 +1,31 @@
 -- The rule of a loop's table: its words stand for one legal history, of which each seat has seen a part. It is a record of
 -- parts, each about words of its own.
-use Rattle.std.specs.Prelude.{◌≡◌, ◌≢◌, ℕ, ◌+◌, ◌<◌, ◌≤◌, ◌⊎◌, ◌==◌, Bool, true, false, not, ◌||◌, Option, None, Some, List, [], ◌∷◌, ◌++◌, length, slice_index, nat_lt, if◌then◌else◌, MatchBool}
+use Rattle.std.specs.Prelude.{◌≡◌, ℕ, ◌+◌, ◌<◌, ◌≤◌, ◌⊎◌, ◌==◌, Bool, true, false, not, ◌||◌, Option, None, Some, List, [], ◌∷◌, length, slice_index, MatchBool}
 use mathlib.Core.Option.{some}
 use lib.ListN.{get_elem?}
 use Rattle.atomic_table.specs.Table.{State}
+use Rattle.table_seats.specs.Seats.{owns, home, EachView, SeatsStand as parts_stand}
 use Rattle.aio_model.specs.FlagsWord.{bit}
 use Rattle.aio_model.specs.LoopHistory.{Sizes, History}
 use Rattle.aio_model.specs.LoopFlags.{is_lot, lives, was_dequeued, is_urgent}
-use Rattle.aio_model.specs.LoopLists.{was_put, is_announced, announcer_of, claimer_of, job_of, stack_of, out_of, is_set}
+use Rattle.aio_model.specs.LoopLists.{seat_of, was_put, is_announced, announcer_of, claimer_of, job_of, stack_of, out_of, is_set}
 use Rattle.aio_model.specs.LoopLegal.{IsLegal}
-use Rattle.aio_model.specs.LoopSeats.{Numbers, owns, own_entries, home, IsSeenOf}
 use Rattle.aio_model.specs.InFlight.{Reason, ForIndex, ForEvent, ForNothing, Phase, AtRest, LotClaimed, Announced, HeadLoaded, Linked, ToStore, ToLoad, ToSet, is_at_rest, flight_of}
 use Rattle.aio_chain.specs.Chains.{IsChain, AreChains}
 use Rattle.aio_core.specs.Words.{head_at, notified_at, notify_me_at, notifier_at, event_at, flags_at, index_count, word_count, flags_word, next_in}
-use Rattle.aio_core.specs.Known.{Done, Stage, Scan, Sleep, Running, Scanning, Armed, ToDisarm, Committed, Told, Known, numbers_of}
-
--- all numbers: those of seats, and the home's
-abbrev pub everyone : Numbers
-everyone = record { first = 0; count = 65 }
+use Rattle.aio_core.specs.Known.{Done, Stage, Scan, Sleep, Running, Scanning, Armed, ToDisarm, Committed, Known, part_of, numbers_of}
 
 -- Seats.
 
--- the first list is an older part of the second
-abbrev pub IsPart : History → History → Type 0
-IsPart older history = (rest : History) × (history ≡ rest ++ older)
-
-abbrev pub longer_of : History → History → History
-longer_of history other = if nat_lt (length history) (length other) then other else history
-
--- in the longer of what two joined seats had seen, the entries of each one's numbers are just those that it made
-pub record NoneMissed (told : Told) : Type 0 where
-  pub by_staying : own_entries told.stays (longer_of told.staying told.joining) ≡ told.made_by_staying
-  pub by_joining : own_entries told.joins (longer_of told.staying told.joining) ≡ told.made_by_joining
-
--- what two joined seats had seen are parts of the one history
-abbrev pub AreParts : History → Option Told → Type 0
-AreParts history None = Unit {0}
-AreParts history (Some told) = IsPart told.staying history × IsPart told.joining history × NoneMissed told
-
--- What a seat knows is of this table and of the history, and it owns a number in every phase but rest. One that was joined into
--- another has no number left, and knows nothing of the sizes.
-pub record IsSeat (sizes : Sizes) (history : History) (known : Known) : Type 0 where
+-- What a seat knows is of this table, and it owns a number in every phase but rest. One that was joined into another has no number
+-- left, and knows nothing of the sizes.
+pub record IsOfTable (sizes : Sizes) (known : Known) : Type 0 where
   pub sizes_are : 0 < known.count → known.sizes ≡ sizes
-  pub seen_of : IsSeenOf history (numbers_of known) known.seen known.mine
-  pub below : known.first + known.count ≤ 65
   pub active : is_at_rest known.phase ≡ false → 0 < known.count
-  pub told_of : AreParts history known.told
-
--- a fact of every view
-abbrev pub EachView : (Known → Type 0) → List Known → Type 0
-EachView P views = (id : ℕ) (known : Known) → get_elem? views id ≡ some known → P known
-
--- two views own no number together
-abbrev pub AreApart : List Known → Type 0
-AreApart views =
-    (id other : ℕ) (known beside : Known) → get_elem? views id ≡ some known → get_elem? views other ≡ some beside → id ≢ other → (n : ℕ) → owns (numbers_of known) n ≡ true → owns (numbers_of beside) n ≡ false
 
 pub record SeatsStand (sizes : Sizes) (history : History) (views : List Known) : Type 0 where
-  pub each : EachView (IsSeat sizes history) views
-  pub apart : AreApart views
-  pub all_owned : own_entries everyone history ≡ history
+  pub parts : parts_stand seat_of part_of history views
+  pub tables : EachView (IsOfTable sizes) views
 
 -- Flags.
 

@@ -1,17 +1,17 @@
 -- What one step, or one call, makes of what a seat knows.
 use Rattle.std.specs.Prelude.{◌≡◌, ℕ, ◌≤◌, ◌<◌, Bool, true, false, ◌==◌, if◌then◌else◌, Option, None, Some, List, [], ◌∷◌, ◌++◌}
+use Rattle.table_seats.specs.Seats.{Makes as makes_part}
 use Rattle.aio_model.specs.declared.flags.Flags.{Flags}
 use Rattle.aio_model.specs.declared.kinds.Kind as asking
 use Rattle.aio_model.specs.declared.kinds.Kind.TheVariants.{Sched, Idle, Del}
 use Rattle.aio_model.specs.FlagsWord.{word_of}
-use Rattle.aio_model.specs.LoopHistory.{Asked, ToCall, ToCallIdle, ToDelete, ToCallOnce, Entry, New, Free, Enqueue, Put, Cancel, Take, Dequeue, History}
+use Rattle.aio_model.specs.LoopHistory.{Asked, ToCall, ToCallIdle, ToDelete, ToCallOnce, Entry, New, Free, Enqueue, Put, Cancel, Take, Dequeue}
 use Rattle.aio_model.specs.LoopFlags.{flags_of, are_due}
-use Rattle.aio_model.specs.LoopLists.{out_of}
+use Rattle.aio_model.specs.LoopLists.{seat_of, out_of}
 use Rattle.aio_model.specs.LoopLegal.{IsLegal}
-use Rattle.aio_model.specs.LoopSeats.{own_entries}
 use Rattle.aio_model.specs.InFlight.{Reason, ForIndex, Phase, AtRest, LotClaimed, Announced, HeadLoaded, Linked, ToStore, ToLoad, ToSet}
 use Rattle.aio_core.specs.Words.{head_at, notified_at, notify_me_at, notifier_at, flags_at, next_at, index_count, free_word}
-use Rattle.aio_core.specs.Known.{Kind, EnqueueFetchOr, HeadLoad, NextStore, HeadCompare, TakeSwap, NextLoad, DequeueFetchAnd, CancelFetchAnd, NotifiedStore, NotifyMeLoad, NotifierSwap, LotClaimCompare, LotFreeStore, Done, Known, numbers_of}
+use Rattle.aio_core.specs.Known.{Kind, EnqueueFetchOr, HeadLoad, NextStore, HeadCompare, TakeSwap, NextLoad, DequeueFetchAnd, CancelFetchAnd, NotifiedStore, NotifyMeLoad, NotifierSwap, LotClaimCompare, LotFreeStore, Done, Known, part_of}
 
 -- what a call of this kind asks
 abbrev pub asked_by : asking.Kind → Asked
@@ -34,13 +34,9 @@ abbrev pub done : Kind → ℕ → ℕ → Done
 done kind word found = record { kind = kind; word = word; found = found }
 
 -- The entry was made, behind some of others: it stands in the one history, which is legal, and what was seen goes on with it.
-pub record Makes (entry : Entry) (before after : Known) : Type 0 where
-  pub numbered : 0 < before.count
-  pub others : History
-  pub not_own : own_entries (numbers_of before) others ≡ []
-  pub seen : after.seen ≡ entry ∷ (others ++ before.seen)
-  pub mine : after.mine ≡ entry ∷ before.mine
-  pub legal : IsLegal before.sizes after.seen
+abbrev pub Makes : Entry → Known → Known → Type 0
+Makes entry before after =
+    makes_part seat_of (IsLegal before.sizes) entry (part_of before) (part_of after)
 
 -- Phases, after a step.
 

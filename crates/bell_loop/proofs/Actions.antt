@@ -2,10 +2,12 @@
 use Rattle.std.proofs.Common.{◌≡◌, ℕ, true, false, List, [], ◌∷◌, ◌++◌, length, take, drop, get_or, ◌-◌, ◌≤◌, arith, refl, sym, ◌∙◌, ap, subst, append_assoc}
 use Rattle.std.proofs.Math.Seq.{take-length}
 use Rattle.std.proofs.lemmas.Bool.{and_from, and_parts}
+use Rattle.table_seats.proofs.Standing.{entries-append}
 use Rattle.aio_model.specs.declared.flags.Flags.{Flags}
 use Rattle.aio_model.specs.declared.loop_scripts.ActKind.{ActKind}
 use Rattle.aio_model.specs.declared.loop_scripts.ActKind.TheVariants.{Cancel as CancelOf, Nest}
 use Rattle.aio_model.specs.LoopHistory.{Asked, Cancel, History}
+use Rattle.aio_model.specs.LoopLists.{seat_of}
 use Rattle.aio_model.specs.LoopSeats.{entries_of}
 use Rattle.aio_model.specs.LoopLegal.{IsLegal}
 use Rattle.aio_model.specs.LoopFrame.{is_of_callback, are_of_callback}
@@ -17,7 +19,6 @@ use Rattle.aio_core.specs.Standing.{Cancels}
 use Rattle.aio_core.specs.Calls.{TableState, SeatState, IsSeatOf}
 use Rattle.aio_bh.specs.Enqueuing.{Stands, enqueue_entries}
 use Rattle.aio_bh.specs.Running.{GivesBack}
-use Rattle.aio_bh.proofs.Entries.{entries_of-append}
 use Rattle.aio_bh.proofs.GivingBack.{GivesBack-canceled}
 use Rattle.aio_bh.proofs.Lent.{GivesBack-enqueued, GivesBack-nothing}
 use Rattle.bell_loop.specs.Actions.{Acts, ActsAll, IsLent}
@@ -68,7 +69,7 @@ GivesBack-then older newer a b c first then =
     let same_first : b.first ≡ a.first = ap (λ (k : Known). k.first) first.rest in
     record {
       between = then.between ++ first.between;
-      just_these = entries_of-append a.first then.between first.between ∙ ap (λ n. entries_of n then.between ++ entries_of a.first first.between) (sym same_first) ∙ ap (λ l. l ++ entries_of a.first first.between) then.just_these ∙ ap (λ l. newer ++ l) first.just_these;
+      just_these = entries-append seat_of a.first then.between first.between ∙ ap (λ n. entries_of n then.between ++ entries_of a.first first.between) (sym same_first) ∙ ap (λ l. l ++ entries_of a.first first.between) then.just_these ∙ ap (λ l. newer ++ l) first.just_these;
       of_callback = are_of_callback-append newer older then.of_callback first.of_callback;
       seen = then.seen ∙ ap (λ l. then.between ++ l) first.seen ∙ sym (append_assoc then.between first.between a.seen);
       mine = then.mine ∙ ap (λ l. newer ++ l) first.mine ∙ sym (append_assoc newer older a.mine);

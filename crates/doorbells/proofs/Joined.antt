@@ -1,17 +1,19 @@
 -- Two seats rang at once, and were joined.
 use Rattle.std.proofs.Common.{◌≡◌, Option, None, Some, MatchOption, ℕ, false, ◌<◌, ◌+◌, ◌-◌, ◌++◌, sym, ap, ◌∙◌, subst, append_assoc, arith}
 use Rattle.std.proofs.lemmas.List.{append_cancel_right}
+use Rattle.table_seats.specs.Dividing.{front_numbers, back_numbers, half_of}
+use Rattle.table_seats.proofs.Entries.{own-append}
 use Rattle.aio_model.specs.declared.flags.Flags.{Flags}
 use Rattle.aio_model.specs.LoopHistory.{ToCall, History}
+use Rattle.aio_model.specs.LoopLists.{seat_of}
 use Rattle.aio_model.specs.LoopSeats.{Numbers, owns, own_entries}
 use Rattle.aio_model.specs.LoopCalls.{dequeue_times, stops}
 use Rattle.aio_model.specs.LoopLaws.{some_entry}
 use Rattle.aio_model.proofs.Awaiting.{dequeue_times-append, some_entry-parts}
 use Rattle.aio_core.specs.Known.{Known, numbers_of}
 use Rattle.aio_core.specs.Calls.{TableState, SeatState, IsSeatOf}
-use Rattle.aio_core.specs.Splitting.{front_numbers, back_numbers, front_known, back_known, half_of}
+use Rattle.aio_core.specs.Splitting.{front_known, back_known}
 use Rattle.aio_core.specs.Joining.{joined_known, told_of, IsJoined}
-use Rattle.aio_core.proofs.Entries.{own-append}
 use Rattle.aio_bh.specs.Enqueuing.{enqueue_entries}
 use Rattle.doorbells.specs.Rings.{Rings, RingsTwice, AwaitsUnless}
 use Rattle.doorbells.specs.Answering.{Counted, Answers, IsAnsweredIfFound, RingsAndAnswers}
@@ -21,7 +23,7 @@ use Rattle.doorbells.proofs.Rang.{awaits_unless}
 own_since : (numbers : Numbers) (since seen joined mine mine_before entries : History) → joined ≡ since ++ seen → own_entries numbers joined ≡ mine → mine ≡ entries ++ mine_before → mine_before ≡ own_entries numbers seen → own_entries numbers since ≡ entries
 own_since numbers since seen joined mine mine_before entries is whole grows was =
     append_cancel_right (own_entries numbers since) entries (own_entries numbers seen)
-    (sym (own-append numbers since seen) ∙ sym (ap (own_entries numbers) is) ∙ whole ∙ grows ∙ ap (λ l. entries ++ l) was)
+    (sym (own-append seat_of numbers since seen) ∙ sym (ap (own_entries numbers) is) ∙ whole ∙ grows ∙ ap (λ l. entries ++ l) was)
 
 numbers_are : (k : Known) (numbers : Numbers) → k.first ≡ numbers.first → k.count ≡ numbers.count → numbers_of k ≡ numbers
 numbers_are k numbers first count =

@@ -1,5 +1,6 @@
 -- What a ring says.
 use Rattle.std.specs.Prelude.{◌≡◌, ℕ, ◌+◌, ◌-◌, true, false, ◌++◌}
+use Rattle.table_seats.specs.Dividing.{front_numbers, back_numbers, half_of}
 use Rattle.aio_model.specs.declared.flags.Flags.{Flags}
 use Rattle.aio_model.specs.LoopHistory.{ToCall, History}
 use Rattle.aio_model.specs.LoopLegal.{IsLegal}
@@ -8,7 +9,6 @@ use Rattle.aio_model.specs.LoopSeats.{own_entries}
 use Rattle.aio_model.specs.LoopCalls.{dequeue_times, stops, AwaitsCall}
 use Rattle.aio_core.specs.Known.{numbers_of}
 use Rattle.aio_core.specs.Calls.{TableState, SeatState}
-use Rattle.aio_core.specs.Splitting.{front_numbers, back_numbers, half_of}
 use Rattle.aio_bh.specs.Enqueuing.{Stands, enqueue_entries}
 use Rattle.aio_bh.specs.Ready.{ComesBack}
 use Rattle.doorbells.specs.Responding.{is_new}

@@ -2,15 +2,12 @@
 use Rattle.std.proofs.Common.{◌≡◌, ℕ, ◌+◌, ◌≤◌, true, not, ltb, List, [], ◌++◌, length, length-append, refl, sym, ap, ◌∙◌, subst, arith}
 use Rattle.std.proofs.lemmas.Bool.{and_parts, and_from, not_from_false, not-true, lt-ltb, le-ltb, ltb-true, ltb-false}
 use Rattle.std.proofs.lemmas.List.{nil_from_length, append_assoc}
-use Rattle.aio_model.specs.LoopHistory.{History}
-use Rattle.aio_model.specs.LoopSeats.{Numbers, owns, own_entries}
-use Rattle.aio_model.specs.CoroutineHistory.{Entry as CoEntry, seat_of}
+use Rattle.table_seats.specs.Seats.{Numbers, owns, own_entries}
+use Rattle.table_seats.proofs.Entries.{own-append}
+use Rattle.table_seats.proofs.Splitting.{own_fewer}
+use Rattle.aio_model.specs.LoopLists.{seat_of}
+use Rattle.aio_model.specs.CoroutineHistory.{seat_of as co_seat_of}
 use Rattle.aio_core.specs.Known.{Known, numbers_of}
-use Rattle.aio_core.proofs.Entries.{own-append}
-use Rattle.aio_core.proofs.Splitting.{own_fewer}
-use Rattle.table_seats.specs.Seats.{Numbers as CoNumbers, owns as co_owns, own_entries as own_of}
-use Rattle.table_seats.proofs.Entries.{own-append as co_own-append}
-use Rattle.table_seats.proofs.Splitting.{own_fewer as co_own_fewer}
 use Rattle.co_schedule.specs.Known.{Known as CoKnown, numbers_of as co_numbers_of}
 use Rattle.loop_threads.specs.declared.shared.LoopShared.{LoopShared}
 use Rattle.loop_threads.specs.declared.seats.Seats.{Seats}
@@ -29,26 +26,15 @@ fewer n m l h k is =
     let out = owned_among n.first n.count m.first (m.first + m.count) k l h parts.0 parts.1 in
     and_from _ _ out.0 out.1
 
-pub co_fewer : (n m : CoNumbers) → m.first ≤ n.first → n.first + n.count ≤ m.first + m.count → (k : ℕ) → co_owns n k ≡ true → co_owns m k ≡ true
-co_fewer n m l h k is =
-    let parts = and_parts _ _ is in
-    let out = owned_among n.first n.count m.first (m.first + m.count) k l h parts.0 parts.1 in
-    and_from _ _ out.0 out.1
-
 no_more : {A : Type 0} (xs ys zs : List A) → xs ++ ys ≡ zs → ys ≡ zs → xs ≡ []
 no_more xs ys zs e f =
     nil_from_length xs (omega (arith, length-append xs ys, ap length e, ap length f))
 
 -- the longer list has nothing more of what is owned by fewer
-pub still_made : (n m : Numbers) (rest seen longer mine whole : History) → longer ≡ rest ++ seen → own_entries m longer ≡ whole → own_entries m seen ≡ whole → ((k : ℕ) → owns n k ≡ true → owns m k ≡ true) → own_entries n seen ≡ mine → own_entries n longer ≡ mine
-still_made n m rest seen longer mine whole e all before sub made =
-    let none : own_entries m rest ≡ [] = no_more (own_entries m rest) (own_entries m seen) whole (sym (own-append m rest seen) ∙ (ap (own_entries m) (sym e) ∙ all)) before in
-    ap (own_entries n) e ∙ (own-append n rest seen ∙ (ap (λ (xs : History). xs ++ own_entries n seen) (own_fewer n m rest sub none) ∙ made))
-
-pub co_still_made : (n m : CoNumbers) (rest seen longer mine whole : List CoEntry) → longer ≡ rest ++ seen → own_of seat_of m longer ≡ whole → own_of seat_of m seen ≡ whole → ((k : ℕ) → co_owns n k ≡ true → co_owns m k ≡ true) → own_of seat_of n seen ≡ mine → own_of seat_of n longer ≡ mine
-co_still_made n m rest seen longer mine whole e all before sub made =
-    let none : own_of seat_of m rest ≡ [] = no_more (own_of seat_of m rest) (own_of seat_of m seen) whole (sym (co_own-append seat_of m rest seen) ∙ (ap (own_of seat_of m) (sym e) ∙ all)) before in
-    ap (own_of seat_of n) e ∙ (co_own-append seat_of n rest seen ∙ (ap (λ (xs : List CoEntry). xs ++ own_of seat_of n seen) (co_own_fewer seat_of n m rest sub none) ∙ made))
+pub still_made : {E : Type 0} (seat_of : E → ℕ) (n m : Numbers) (rest seen longer mine whole : List E) → longer ≡ rest ++ seen → own_entries seat_of m longer ≡ whole → own_entries seat_of m seen ≡ whole → ((k : ℕ) → owns n k ≡ true → owns m k ≡ true) → own_entries seat_of n seen ≡ mine → own_entries seat_of n longer ≡ mine
+still_made {E} seat_of n m rest seen longer mine whole e all before sub made =
+    let none : own_entries seat_of m rest ≡ [] = no_more (own_entries seat_of m rest) (own_entries seat_of m seen) whole (sym (own-append seat_of m rest seen) ∙ (ap (own_entries seat_of m) (sym e) ∙ all)) before in
+    ap (own_entries seat_of n) e ∙ (own-append seat_of n rest seen ∙ (ap (λ (xs : List E). xs ++ own_entries seat_of n seen) (own_fewer seat_of n m rest sub none) ∙ made))
 
 pub part_of_part : {A : Type 0} (xs ys zs : List A) (r q : List A) → ys ≡ r ++ xs → zs ≡ q ++ ys → zs ≡ (q ++ r) ++ xs
 part_of_part xs ys zs r q e f = f ∙ (ap (λ l. q ++ l) e ∙ sym (append_assoc q r xs))
@@ -60,8 +46,8 @@ module _ {C O : Type 0} {shared : LoopShared C O} {before other after : Seats C 
 
   pub united_own : Unites shared before other after → HaveOwn after
   united_own unites = record {
-    own = subst (λ (k : Known). k.mine ≡ own_entries (numbers_of k) k.seen) (sym unites.both) refl;
-    co_own = subst (λ (k : CoKnown). k.mine ≡ own_of seat_of (co_numbers_of k) k.seen) (sym unites.co_both) refl;
+    own = subst (λ (k : Known). k.mine ≡ own_entries seat_of (numbers_of k) k.seen) (sym unites.both) refl;
+    co_own = subst (λ (k : CoKnown). k.mine ≡ own_entries co_seat_of (co_numbers_of k) k.seen) (sym unites.co_both) refl;
   }
 
   -- one that was joined before
@@ -71,9 +57,9 @@ module _ {C O : Type 0} {shared : LoopShared C O} {before other after : Seats C 
       let co_stayed = unites.co_parts.stayed in
       record {
         seen = (stayed.0 ++ within.seen.0, part_of_part part.bottoms.known.seen before.bottoms.known.seen after.bottoms.known.seen within.seen.0 stayed.0 within.seen.1 stayed.1);
-        made = still_made (numbers_of part.bottoms.known) (numbers_of before.bottoms.known) stayed.0 before.bottoms.known.seen after.bottoms.known.seen part.bottoms.known.mine before.bottoms.known.mine stayed.1 unites.parts.made_by_staying (sym own.own)
+        made = still_made seat_of (numbers_of part.bottoms.known) (numbers_of before.bottoms.known) stayed.0 before.bottoms.known.seen after.bottoms.known.seen part.bottoms.known.mine before.bottoms.known.mine stayed.1 unites.parts.made_by_staying (sym own.own)
             (fewer (numbers_of part.bottoms.known) (numbers_of before.bottoms.known) (omega (arith, at.first_is, is.first_is, l)) (omega (arith, at.first_is, at.count_is, is.first_is, is.count_is, h))) within.made;
         co_seen = (co_stayed.0 ++ within.co_seen.0, part_of_part part.coroutines.known.seen before.coroutines.known.seen after.coroutines.known.seen within.co_seen.0 co_stayed.0 within.co_seen.1 co_stayed.1);
-        co_made = co_still_made (co_numbers_of part.coroutines.known) (co_numbers_of before.coroutines.known) co_stayed.0 before.coroutines.known.seen after.coroutines.known.seen part.coroutines.known.mine before.coroutines.known.mine co_stayed.1 unites.co_parts.made_by_staying (sym own.co_own)
-            (co_fewer (co_numbers_of part.coroutines.known) (co_numbers_of before.coroutines.known) (omega (arith, at.co_first_is, is.co_first_is, l)) (omega (arith, at.co_first_is, at.co_count_is, is.co_first_is, is.co_count_is, h))) within.co_made;
+        co_made = still_made co_seat_of (co_numbers_of part.coroutines.known) (co_numbers_of before.coroutines.known) co_stayed.0 before.coroutines.known.seen after.coroutines.known.seen part.coroutines.known.mine before.coroutines.known.mine co_stayed.1 unites.co_parts.made_by_staying (sym own.co_own)
+            (fewer (co_numbers_of part.coroutines.known) (co_numbers_of before.coroutines.known) (omega (arith, at.co_first_is, is.co_first_is, l)) (omega (arith, at.co_first_is, at.co_count_is, is.co_first_is, is.co_count_is, h))) within.co_made;
       }

@@ -1,9 +1,10 @@
 -- What stands within the seat of all other numbers stands in the whole histories of its loop.
 use Rattle.std.proofs.Common.{◌≡◌, ℕ, ◌+◌, ◌≤◌, ◌++◌, sym, ap, ◌∙◌, subst, arith}
+use Rattle.table_seats.specs.Seats.{IsPart, own_entries}
 use Rattle.aio_model.specs.LoopHistory.{History}
-use Rattle.aio_model.specs.LoopSeats.{own_entries}
+use Rattle.aio_model.specs.LoopLists.{seat_of}
+use Rattle.aio_model.specs.CoroutineHistory.{seat_of as co_seat_of}
 use Rattle.aio_core.specs.Known.{Known, numbers_of}
-use Rattle.aio_core.specs.Rule.{IsPart}
 use Rattle.aio_notify.specs.Settling.{EndsQuiet}
 use Rattle.co_schedule.specs.Known.{Known as CoKnown, numbers_of as co_numbers_of}
 use Rattle.co_schedule.specs.Calls.{EndState, Ends}
@@ -11,7 +12,7 @@ use Rattle.loop_threads.specs.declared.shared.LoopShared.{LoopShared}
 use Rattle.loop_threads.specs.declared.seats.Seats.{Seats}
 use Rattle.loop_threads.specs.Rows.{IsAt}
 use Rattle.loop_threads.specs.Within.{IsWithin, StandsIn, HaveOwn}
-use Rattle.loop_threads.proofs.Holding.{still_made, co_still_made, fewer, co_fewer, part_of_part}
+use Rattle.loop_threads.proofs.Holding.{still_made, fewer, part_of_part}
 
 pub ended_keeps : {C O : Type 0} {shared : LoopShared C O} {seats : Seats C O} {home end : Known} {co_home : CoKnown} {co_end : EndState} → EndsQuiet seats.bottoms.known home end → Ends shared.coroutines co_home seats.coroutines.known co_end → IsAt 0 64 shared seats → HaveOwn seats
     → (part : Seats C O) (first count : ℕ) → IsAt first count shared part → first + count ≤ 64 → IsWithin part seats → StandsIn part end.seen co_end.history
@@ -21,10 +22,10 @@ ended_keeps {C} {O} {shared} {seats} {home} {end} {co_home} {co_end} quiet ended
     let e : end.seen ≡ quiet.whole.seen = ap (λ (k : Known). k.seen) quiet.same in
     record {
       seen = subst (λ (xs : History). IsPart part.bottoms.known.seen xs) (sym e) (whole.stayed.0 ++ within.seen.0, part_of_part part.bottoms.known.seen seats.bottoms.known.seen quiet.whole.seen within.seen.0 whole.stayed.0 within.seen.1 whole.stayed.1);
-      made = ap (own_entries (numbers_of part.bottoms.known)) e
-          ∙ still_made (numbers_of part.bottoms.known) (numbers_of seats.bottoms.known) whole.stayed.0 seats.bottoms.known.seen quiet.whole.seen part.bottoms.known.mine seats.bottoms.known.mine whole.stayed.1 whole.made_by_staying (sym own.own)
+      made = ap (own_entries seat_of (numbers_of part.bottoms.known)) e
+          ∙ still_made seat_of (numbers_of part.bottoms.known) (numbers_of seats.bottoms.known) whole.stayed.0 seats.bottoms.known.seen quiet.whole.seen part.bottoms.known.mine seats.bottoms.known.mine whole.stayed.1 whole.made_by_staying (sym own.own)
           (fewer (numbers_of part.bottoms.known) (numbers_of seats.bottoms.known) (omega (arith, is.first_is)) (omega (arith, at.first_is, at.count_is, is.first_is, is.count_is, h))) within.made;
       co_seen = (co_whole.stayed.0 ++ within.co_seen.0, part_of_part part.coroutines.known.seen seats.coroutines.known.seen co_end.history within.co_seen.0 co_whole.stayed.0 within.co_seen.1 co_whole.stayed.1);
-      co_made = co_still_made (co_numbers_of part.coroutines.known) (co_numbers_of seats.coroutines.known) co_whole.stayed.0 seats.coroutines.known.seen co_end.history part.coroutines.known.mine seats.coroutines.known.mine co_whole.stayed.1 co_whole.made_by_staying (sym own.co_own)
-          (co_fewer (co_numbers_of part.coroutines.known) (co_numbers_of seats.coroutines.known) (omega (arith, is.co_first_is)) (omega (arith, at.co_first_is, at.co_count_is, is.co_first_is, is.co_count_is, h))) within.co_made;
+      co_made = still_made co_seat_of (co_numbers_of part.coroutines.known) (co_numbers_of seats.coroutines.known) co_whole.stayed.0 seats.coroutines.known.seen co_end.history part.coroutines.known.mine seats.coroutines.known.mine co_whole.stayed.1 co_whole.made_by_staying (sym own.co_own)
+          (fewer (co_numbers_of part.coroutines.known) (co_numbers_of seats.coroutines.known) (omega (arith, is.co_first_is)) (omega (arith, at.co_first_is, at.co_count_is, is.co_first_is, is.co_count_is, h))) within.co_made;
     }

@@ -1,11 +1,10 @@
 -- What a seat that was joined into another has made, in what the other has seen.
 use Rattle.std.specs.Prelude.{◌≡◌, ℕ, ◌<◌, ◌≤◌, List, slice_index_or}
+use Rattle.table_seats.specs.Seats.{IsPart, own_entries}
 use Rattle.aio_model.specs.LoopHistory.{History}
-use Rattle.aio_model.specs.LoopSeats.{own_entries}
+use Rattle.aio_model.specs.LoopLists.{seat_of}
 use Rattle.aio_core.specs.Known.{numbers_of}
-use Rattle.aio_core.specs.Rule.{IsPart}
-use Rattle.aio_model.specs.CoroutineHistory.{History as CoHistory, seat_of}
-use Rattle.table_seats.specs.Seats.{IsPart as IsCoPart, own_entries as own_of}
+use Rattle.aio_model.specs.CoroutineHistory.{History as CoHistory, seat_of as co_seat_of}
 use Rattle.co_schedule.specs.Known.{numbers_of as co_numbers_of}
 use Rattle.loop_threads.specs.declared.seats.Seats.{Seats}
 use Rattle.loop_threads.specs.declared.parts.Part.{Part}
@@ -14,9 +13,9 @@ use Rattle.loop_threads.specs.declared.parts.Part.{Part}
 -- numbers.
 pub record IsWithin {C O : Type 0} (part whole : Seats C O) : Type 0 where
   pub seen : IsPart part.bottoms.known.seen whole.bottoms.known.seen
-  pub made : own_entries (numbers_of part.bottoms.known) whole.bottoms.known.seen ≡ part.bottoms.known.mine
-  pub co_seen : IsCoPart part.coroutines.known.seen whole.coroutines.known.seen
-  pub co_made : own_of seat_of (co_numbers_of part.coroutines.known) whole.coroutines.known.seen ≡ part.coroutines.known.mine
+  pub made : own_entries seat_of (numbers_of part.bottoms.known) whole.bottoms.known.seen ≡ part.bottoms.known.mine
+  pub co_seen : IsPart part.coroutines.known.seen whole.coroutines.known.seen
+  pub co_made : own_entries co_seat_of (co_numbers_of part.coroutines.known) whole.coroutines.known.seen ≡ part.coroutines.known.mine
 
 -- of so many loops, each seat of the first row is within that of the second
 abbrev pub RowWithin : {C O : Type 0} → ℕ → List (Seats C O) → List (Seats C O) → Type 0
@@ -30,8 +29,8 @@ RowsWithin {C} {W} {O} low high loops parts whole =
 
 -- the seats have made just what they own of what they have seen
 pub record HaveOwn {C O : Type 0} (seats : Seats C O) : Type 0 where
-  pub own : seats.bottoms.known.mine ≡ own_entries (numbers_of seats.bottoms.known) seats.bottoms.known.seen
-  pub co_own : seats.coroutines.known.mine ≡ own_of seat_of (co_numbers_of seats.coroutines.known) seats.coroutines.known.seen
+  pub own : seats.bottoms.known.mine ≡ own_entries seat_of (numbers_of seats.bottoms.known) seats.bottoms.known.seen
+  pub co_own : seats.coroutines.known.mine ≡ own_entries co_seat_of (co_numbers_of seats.coroutines.known) seats.coroutines.known.seen
 
 abbrev pub OwnEach : {C O : Type 0} → ℕ → List (Seats C O) → Type 0
 OwnEach {C} {O} loops seats = (t : ℕ) (s : Seats C O) → t < loops → HaveOwn (slice_index_or seats t s)
@@ -39,6 +38,6 @@ OwnEach {C} {O} loops seats = (t : ℕ) (s : Seats C O) → t < loops → HaveOw
 -- what the seats have seen of both histories is a part of these whole ones, in which just their own entries stand under their numbers
 pub record StandsIn {C O : Type 0} (part : Seats C O) (calls : History) (coroutines : CoHistory) : Type 0 where
   pub seen : IsPart part.bottoms.known.seen calls
-  pub made : own_entries (numbers_of part.bottoms.known) calls ≡ part.bottoms.known.mine
-  pub co_seen : IsCoPart part.coroutines.known.seen coroutines
-  pub co_made : own_of seat_of (co_numbers_of part.coroutines.known) coroutines ≡ part.coroutines.known.mine
+  pub made : own_entries seat_of (numbers_of part.bottoms.known) calls ≡ part.bottoms.known.mine
+  pub co_seen : IsPart part.coroutines.known.seen coroutines
+  pub co_made : own_entries co_seat_of (co_numbers_of part.coroutines.known) coroutines ≡ part.coroutines.known.mine

@@ -1,6 +1,7 @@
 use Rattle.std.proofs.Common.{◌<◌, ◌-◌, sym, ap, ◌∙◌, subst, arith}
-use Rattle.aio_core.specs.Splitting.{half_of}
-use Rattle.aio_core.proofs.Splitting.{split_allowed, half_below, back_first, back_count, front_count}
+use Rattle.table_seats.specs.Dividing.{half_of}
+use Rattle.table_seats.proofs.Splitting.{half_below, back_first, back_count, front_count}
+use Rattle.aio_core.proofs.Splitting.{split_allowed}
 use Rattle.aio_core.proofs.Opened.{same_table, head_within}
 use Rattle.aio_core.proofs.table.LoopTable.cut.Goals as goal
 
