@@ -45,10 +45,11 @@ queue_of (Schedule c cause given seat ∷ older) = queue_of older
 queue_of (Push c seat ∷ older) = queue_of older ++ c ∷ []
 queue_of (Enter c ∷ older) = drop 1 (queue_of older)
 
--- The entry may come next, where there are so many coroutines. A coroutine is scheduled where it stands nowhere, is pushed once and by
+-- The entry may come next, where there are so many coroutines. A coroutine is scheduled where it stands nowhere, by a seat that
+-- isn't the home's, is pushed once and by
 -- the seat that scheduled it, and is entered where it is the first of those that were pushed and not entered.
 abbrev pub MayFollow : ℕ → Entry → History → Type 0
-MayFollow n (Schedule c cause given seat) before = (c < n) × (place_of c before ≡ Free)
+MayFollow n (Schedule c cause given seat) before = (c < n) × (place_of c before ≡ Free) × (seat < 64)
 MayFollow n (Push c seat) before = (given : Bool) × (place_of c before ≡ Scheduled seat given)
 MayFollow n (Enter c) before = head_of (queue_of before) ≡ Some c
 

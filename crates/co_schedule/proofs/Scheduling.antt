@@ -1,5 +1,5 @@
 -- The compare of a mark keeps the rule, whether it schedules the coroutine or finds it scheduled.
-use Rattle.std.proofs.Common.{◌≡◌, ◌≢◌, ℕ, ◌+◌, ◌<◌, Bool, true, false, eqb, List, ◌∷◌, set, slice_index, refl, sym, ap, ◌∙◌, subst, arith, ⊎_elim}
+use Rattle.std.proofs.Common.{◌≡◌, ◌≢◌, ℕ, ◌+◌, ◌<◌, Bool, true, false, eqb, List, ◌∷◌, ◌++◌, set, slice_index, refl, sym, ap, ◌∙◌, subst, arith, ⊎_elim}
 use Rattle.std.proofs.lemmas.Bool.{eqb-true, cases_eq}
 use mathlib.Core.Option.{some, none}
 use lib.ListN.{get_elem?, length-set}
@@ -9,14 +9,15 @@ use Rattle.atomic_table.proofs.Lists.{set_else}
 use Rattle.aio_chain.specs.Chains.{IsChain}
 use Rattle.aio_chain.proofs.Chains.{chain_kept}
 use Rattle.table_seats.proofs.Seats.{each_set, seats_make, makes_of}
-use Rattle.table_seats.proofs.Entries.{owns_first}
+use Rattle.table_seats.specs.Seats.{own_entries}
+use Rattle.table_seats.proofs.Entries.{owns_first, own-append}
 use Rattle.aio_model.specs.declared.causes.Cause.{Cause}
 use Rattle.aio_model.specs.CoroutineHistory.{Schedule, History, seat_of, Place, Free, Scheduled, Pushed, place_of, IsLegal}
 use Rattle.co_schedule.specs.Words.{head_at, mark_at, next_at, mark_of, next_in}
 use Rattle.co_schedule.specs.Known.{MarkCompare, AtRest, Marked, Known, part_of, numbers_of}
 use Rattle.co_schedule.specs.Rule.{Knows, Stands}
 use Rattle.co_schedule.specs.Slots.{Kept}
-use Rattle.co_schedule.specs.Standing.{done, Schedules, Looks}
+use Rattle.co_schedule.specs.Standing.{done, Schedules, Looks, IsMarkOf}
 use Rattle.co_schedule.specs.Plays.{marked}
 use Rattle.co_schedule.proofs.Histories.{place_here, place_else}
 use Rattle.co_schedule.proofs.Reading.{read_here, read_else}
@@ -36,8 +37,8 @@ free_of_mark (Scheduled s g) e = absurd (omega arith)
 free_of_mark (Pushed s g) e = absurd (omega arith)
 
 module _ (n : ℕ) (h : History) (words : List ℕ) (views : List Known) (id : ℕ) (v : Known) (c : ℕ) (cause : Cause) (given : Bool) where
-  pub schedule_stands : Stands n h words views → get_elem? views id ≡ some v → 0 < v.count → v.phase ≡ AtRest → c < n → place_of c h ≡ Free → Stands n (Schedule c cause given v.first ∷ h) (set words (mark_at c) (v.first + 1)) (set views id (after_schedule v h c cause given))
-  schedule_stands stand at numbered rest low free =
+  pub schedule_stands : Stands n h words views → get_elem? views id ≡ some v → 0 < v.count → v.phase ≡ AtRest → c < n → v.first < 64 → place_of c h ≡ Free → Stands n (Schedule c cause given v.first ∷ h) (set words (mark_at c) (v.first + 1)) (set views id (after_schedule v h c cause given))
+  schedule_stands stand at numbered rest low seat free =
       let entry = Schedule c cause given v.first in
       let g = entry ∷ h in
       let w = after_schedule v h c cause given in
@@ -48,7 +49,7 @@ module _ (n : ℕ) (h : History) (words : List ℕ) (views : List Known) (id : �
       let top : slice_index words' head_at ≡ slice_index words head_at = read_else words (mark_at c) head_at (v.first + 1) (λ q. omega arith) in
       record {
         long = length-set words (mark_at c) (v.first + 1) ∙ stand.long;
-        legal = ((low, free), stand.legal);
+        legal = ((low, free, seat), stand.legal);
         seats = seats_make seat_of part_of h views id entry v w stand.seats at (record { numbers_are = refl; told_is = refl }) (owns_first (numbers_of v) numbered) refl refl;
         marks = λ d small. ⊎_elim
             (λ (e : d ≡ c). subst (λ k. slice_index words' (mark_at k) ≡ mark_of (place_of k g)) (sym e) (read_here words (mark_at c) (v.first + 1) (omega arith) ∙ sym (ap mark_of here)))
@@ -71,7 +72,7 @@ module _ (n : ℕ) (h : History) (words : List ℕ) (views : List Known) (id : �
       }
 
 module _ {S : Type 0} (cause_in : S → Cause) (given_in : S → Bool) (IsOf : S → Type 0) where
-  module _ (n slots id c : ℕ) (y : S) (me : Me S Known) (low : c < n) (numbered : 0 < me.0.count) (rest : me.0.phase ≡ AtRest) (s : State S Known) (kept : Kept given_in IsOf n s) (at : get_elem? s.views id ≡ some me.0) where
+  module _ (n slots id c : ℕ) (y : S) (me : Me S Known) (low : c < n) (numbered : 0 < me.0.count) (seat : me.0.first < 64) (rest : me.0.phase ≡ AtRest) (s : State S Known) (kept : Kept given_in IsOf n s) (at : get_elem? s.views id ≡ some me.0) where
     abbrev word_now : ℕ
     word_now = slice_index s.words (mark_at c)
 
@@ -92,7 +93,7 @@ module _ {S : Type 0} (cause_in : S → Cause) (given_in : S → Bool) (IsOf : S
         let free : place_of c h ≡ Free = free_of_mark (place_of c h) (sym (stand.marks c low) ∙ eqb-true word_now 0 is) in
         let vacant = kept.2.vacant c low free in
         let w = after_schedule v h c (cause_in y) given in
-        let now = schedule_stands n h s.words s.views id v c (cause_in y) given stand at numbered rest low free in
+        let now = schedule_stands n h s.words s.views id v c (cause_in y) given stand at numbered rest low seat free in
         let here : place_of c (entry ∷ h) ≡ Scheduled v.first given = place_here entry h in
         let slots_now = slots_change given_in IsOf n h (entry ∷ h) s.homes (set s.homes c none) s.views id v w c kept.2 at refl
         (λ d ne. (place_else d entry h ne, set_else s.homes c d none ne, refl, λ _. refl))
@@ -116,8 +117,16 @@ module _ {S : Type 0} (cause_in : S → Cause) (given_in : S → Bool) (IsOf : S
         let w = after_look v (mark_at c) word_now in
         let was = stand.knows id v at in
         let told : Looks MarkCompare (mark_at c) word_now v w = record { rest = refl } in
-        (w, keeps, tt, (h, load_stands n h s.words s.views id (mark_at c) v w stand at (record { numbers_are = refl; told_is = refl }) refl refl (record { coroutines_are = was.coroutines_are; active = was.active; owes = was.owes; walks = was.walks }), slots_kept given_in IsOf n h s.homes s.views id v w kept.2 at refl refl refl), λ x d said word. rw is (told, refl))
+        let seen = (stand.seats.each id v at).seen_of in
+        let sized : v.coroutines ≡ n = was.coroutines_are numbered in
+        let mark_is : IsMarkOf c word_now v = record {
+          others = seen.rest;
+          own = own-append seat_of (numbers_of v) seen.rest v.seen ∙ ap (λ k. k ++ own_entries seat_of (numbers_of v) v.seen) seen.none_missed ∙ sym seen.mine_is;
+          legal = subst (λ k. IsLegal k (seen.rest ++ v.seen)) (sym sized) (subst (IsLegal n) seen.longer stand.legal);
+          mark_is = stand.marks c low ∙ ap (λ k. mark_of (place_of c k)) seen.longer;
+        } in
+        (w, keeps, tt, (h, load_stands n h s.words s.views id (mark_at c) v w stand at (record { numbers_are = refl; told_is = refl }) refl refl (record { coroutines_are = was.coroutines_are; active = was.active; owes = was.owes; walks = was.walks }), slots_kept given_in IsOf n h s.homes s.views id v w kept.2 at refl refl refl), λ x d said word. rw is (told, subst (λ k. IsMarkOf k word_now v) (let index : c ≡ d = omega arith in index) mark_is, refl))
 
-  pub mark_allowed : (n slots id c : ℕ) (y : S) (me : Me S Known) → c < n → 0 < me.0.count → me.0.phase ≡ AtRest → Allows (Kept given_in IsOf n) slots id me (mark_at c) (λ k. either (eqb k 0) (me.0.first + 1) k) (marked cause_in given_in (step slots (mark_at c) 0 (me.0.first + 1) (some y)) me)
-  mark_allowed n slots id c y me low numbered rest s kept long at fits_word =
-      marked_by n slots id c y me low numbered rest s kept at (eqb (slice_index s.words (mark_at c)) 0) refl
+  pub mark_allowed : (n slots id c : ℕ) (y : S) (me : Me S Known) → c < n → 0 < me.0.count → me.0.first < 64 → me.0.phase ≡ AtRest → Allows (Kept given_in IsOf n) slots id me (mark_at c) (λ k. either (eqb k 0) (me.0.first + 1) k) (marked cause_in given_in (step slots (mark_at c) 0 (me.0.first + 1) (some y)) me)
+  mark_allowed n slots id c y me low numbered seat rest s kept long at fits_word =
+      marked_by n slots id c y me low numbered seat rest s kept at (eqb (slice_index s.words (mark_at c)) 0) refl

@@ -8,7 +8,7 @@ use Rattle.table_seats.specs.Seats.{Told, longer_of}
 use Rattle.table_seats.specs.Calls.{IsJoined}
 use Rattle.co_schedule.specs.Words.{mark_at, mark_of}
 use Rattle.co_schedule.specs.Known.{MarkCompare, MarkLoad, Marked, HeadLoaded, Linked, Known}
-use Rattle.co_schedule.specs.Standing.{Schedules, Looks, HeadIsLoaded, NextIsStored, Pushes, Misses, Takes, Follows, Opens, Enters}
+use Rattle.co_schedule.specs.Standing.{Schedules, Looks, IsMarkOf, HeadIsLoaded, NextIsStored, Pushes, Misses, Takes, Follows, Opens, Enters}
 
 module _ {S : Type 0} where
   abbrev pub head_loaded : Step S → Me S Known → ℕ → Me S Known → Type 0
@@ -46,10 +46,10 @@ module _ {S : Type 0} where
       (after.1 ≡ before.1) × ((c : ℕ) → step.word ≡ mark_at c → Looks MarkLoad (mark_at c) found before.0 after.0 × (found ≡ mark_of (place_of c before.0.seen)))
 
 module _ {S : Type 0} (cause_in : S → Cause) (given_in : S → Bool) where
-  -- a compare that succeeds takes the slot, in which there is no state
+  -- a compare that succeeds takes the slot, in which there is no state; one that fails tells where the coroutine stood
   abbrev pub marked : Step S → Me S Known → ℕ → Me S Known → Type 0
   marked step before found after =
-      (y : S) (c : ℕ) → step.said ≡ some y → step.word ≡ mark_at c → MatchBool (found == 0) (Schedules c (cause_in y) (given_in y) before.0 after.0 × ((x : S) × (given_in x ≡ false) × (after.1 ≡ (c, x) ∷ before.1))) (Looks MarkCompare step.word found before.0 after.0 × (after.1 ≡ before.1))
+      (y : S) (c : ℕ) → step.said ≡ some y → step.word ≡ mark_at c → MatchBool (found == 0) (Schedules c (cause_in y) (given_in y) before.0 after.0 × ((x : S) × (given_in x ≡ false) × (after.1 ≡ (c, x) ∷ before.1))) (Looks MarkCompare step.word found before.0 after.0 × IsMarkOf c found before.0 × (after.1 ≡ before.1))
 
 module _ {S : Type 0} (given_in : S → Bool) (IsOf : S → Type 0) where
   -- the load takes the slot of the first one

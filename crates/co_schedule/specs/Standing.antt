@@ -1,9 +1,9 @@
 -- What one step makes of what a seat knows.
-use Rattle.std.specs.Prelude.{◌≡◌, ◌≢◌, ℕ, ◌≤◌, ◌<◌, Bool, None, Some, List, [], ◌∷◌, ◌++◌, length}
+use Rattle.std.specs.Prelude.{◌≡◌, ◌≢◌, ℕ, ◌≤◌, ◌<◌, Bool, false, ◌==◌, ◌||◌, None, Some, List, [], ◌∷◌, ◌++◌, length}
 use Rattle.table_seats.specs.Seats.{Makes as makes_part, own_entries}
 use Rattle.aio_model.specs.declared.causes.Cause.{Cause}
 use Rattle.aio_model.specs.CoroutineHistory.{Entry, Schedule, Push, Enter, History, seat_of, Pushed, place_of, queue_of, IsLegal}
-use Rattle.co_schedule.specs.Words.{head_at, mark_at, next_at}
+use Rattle.co_schedule.specs.Words.{head_at, mark_at, mark_of, next_at}
 use Rattle.co_schedule.specs.Known.{Kind, MarkCompare, HeadLoad, NextStore, HeadCompare, TakeSwap, NextLoad, MarkLoad, MarkClear, Done, AtRest, Marked, HeadLoaded, Linked, Known, part_of, numbers_of}
 
 abbrev pub done : Kind → ℕ → ℕ → Done
@@ -21,6 +21,21 @@ pub record Schedules (c : ℕ) (cause : Cause) (given : Bool) (before after : Kn
 -- a step that only looked
 pub record Looks (kind : Kind) (word found : ℕ) (before after : Known) : Type 0 where
   pub rest : after ≡ record before { did = done kind word found ∷ before.did }
+
+-- the coroutine was scheduled by one of these entries
+abbrev pub was_scheduled : ℕ → List Entry → Bool
+was_scheduled c [] = false
+was_scheduled c (Schedule d cause given seat ∷ older) = (c == d) || was_scheduled c older
+was_scheduled c (Push d seat ∷ older) = was_scheduled c older
+was_scheduled c (Enter d ∷ older) = was_scheduled c older
+
+-- The mark is the coroutine's in the history of that step, which is what was seen and then some of others: the seat's own entries in it
+-- are just those that it made.
+pub record IsMarkOf (c mark : ℕ) (before : Known) : Type 0 where
+  pub others : History
+  pub own : own_entries seat_of (numbers_of before) (others ++ before.seen) ≡ before.mine
+  pub legal : IsLegal before.coroutines (others ++ before.seen)
+  pub mark_is : mark ≡ mark_of (place_of c (others ++ before.seen))
 
 pub record HeadIsLoaded (c : ℕ) (given : Bool) (found : ℕ) (before after : Known) : Type 0 where
   pub below : c < before.coroutines

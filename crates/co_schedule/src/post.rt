@@ -4,7 +4,7 @@ ghost use Rattle.aio_model.specs.InFlight.{AtRest};
 ghost use Rattle.aio_core.specs.Calls.{IsSeatOf as IsLoopSeatOf};
 ghost use Rattle.co_schedule.specs.Words.{mark_at};
 ghost use Rattle.co_schedule.specs.Known.{MarkCompare};
-ghost use Rattle.co_schedule.specs.Standing.{Looks};
+ghost use Rattle.co_schedule.specs.Standing.{IsMarkOf, Looks};
 ghost use Rattle.co_schedule.specs.Parcels.{IsStateOf, has_some};
 ghost use Rattle.co_schedule.specs.Calls.{IsSeatOf, HasScheduled};
 ghost use Rattle.co_schedule.specs.Posting.{SchedulesHandle};
@@ -43,7 +43,7 @@ impl<C: Origin + Drop> CoTable<C> {
         ensures seat { IsSeatOf self.now seat.new }
         ensures bh_seat { IsLoopSeatOf table.now bh_seat.new }
         ensures bh_rest { bh_seat.new.known.phase ≡ AtRest }
-        ensures posted { MatchResult result (λ _. HasScheduled co cause (has_some state) seat.old.known seat.new.known × SchedulesHandle bh_seat.old.known bh_seat.new.known) (λ already. (already.mark ≢ 0) × (already.state ≡ state) × Looks MarkCompare (mark_at co) already.mark seat.old.known seat.new.known × (bh_seat.new ≡ bh_seat.old)) }
+        ensures posted { MatchResult result (λ _. HasScheduled co cause (has_some state) seat.old.known seat.new.known × SchedulesHandle bh_seat.old.known bh_seat.new.known) (λ already. (already.mark ≢ 0) × (already.state ≡ state) × Looks MarkCompare (mark_at co) already.mark seat.old.known seat.new.known × IsMarkOf co already.mark seat.old.known × (bh_seat.new ≡ bh_seat.old)) }
     {
         self.schedule(rt, seat, co, cause, state)?;
         let _flags = table.schedule(rt, bh_seat, HANDLE);

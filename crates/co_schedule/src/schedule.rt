@@ -3,7 +3,7 @@
 ghost use Rattle.std.specs.Prelude.{◌≡◌, ◌≢◌, ◌<◌, ◌≤◌, ◌+◌, ℕ, ◌==◌, MatchBool, MatchResult, MatchOption, [], ◌∷◌, drop, None, Some, true, false, Option};
 ghost use Rattle.co_schedule.specs.Words.{mark_at};
 ghost use Rattle.co_schedule.specs.Known.{MarkCompare, AtRest, Marked, HeadLoaded, Linked};
-ghost use Rattle.co_schedule.specs.Standing.{Looks, PushesOnce, MissesOnce, PushesAtLast};
+ghost use Rattle.co_schedule.specs.Standing.{IsMarkOf, Looks, PushesOnce, MissesOnce, PushesAtLast};
 ghost use Rattle.co_schedule.specs.Parcels.{given_in, IsOf, IsStateOf, has_some};
 ghost use Rattle.co_schedule.specs.Calls.{IsSeatOf, HasScheduled};
 
@@ -89,12 +89,13 @@ impl<C: Origin + Drop> CoTable<C> {
     ) -> Result<(), Already<C>>
         requires table { inner.old.table_id ≡ self.now.table }
         requires numbers { (0 < inner.old.me.0.known.count) × (own ≡ inner.old.me.0.known.first + 1) }
+        requires seat { inner.old.me.0.known.first < 64 }
         requires below { co < self.now.coroutines }
         requires rest { inner.old.me.0.known.phase ≡ AtRest }
         requires slots { inner.old.me.1 ≡ [] }
         requires state { IsStateOf C.is_of self.now.origin state }
         ensures seat { (inner.new.table_id ≡ inner.old.table_id) × (inner.new.id ≡ inner.old.id) × (inner.new.me.0.origin ≡ inner.old.me.0.origin) × (inner.new.me.1 ≡ []) }
-        ensures scheduled { MatchResult result (λ _. HasScheduled co cause (has_some state) inner.old.me.0.known inner.new.me.0.known) (λ already. (already.mark ≢ 0) × (already.state ≡ state) × Looks MarkCompare (mark_at co) already.mark inner.old.me.0.known inner.new.me.0.known) }
+        ensures scheduled { MatchResult result (λ _. HasScheduled co cause (has_some state) inner.old.me.0.known inner.new.me.0.known) (λ already. (already.mark ≢ 0) × (already.state ≡ state) × Looks MarkCompare (mark_at co) already.mark inner.old.me.0.known inner.new.me.0.known × IsMarkOf co already.mark inner.old.me.0.known) }
     {
         let given = is_given(&state);
         let parcel = Some(Parcel { cause, state });
@@ -125,7 +126,7 @@ impl<C: Origin + Drop> CoTable<C> {
         requires below { co < self.now.coroutines }
         requires state { IsStateOf C.is_of self.now.origin state }
         ensures seat { IsSeatOf self.now seat.new }
-        ensures scheduled { MatchResult result (λ _. HasScheduled co cause (has_some state) seat.old.known seat.new.known) (λ already. (already.mark ≢ 0) × (already.state ≡ state) × Looks MarkCompare (mark_at co) already.mark seat.old.known seat.new.known) }
+        ensures scheduled { MatchResult result (λ _. HasScheduled co cause (has_some state) seat.old.known seat.new.known) (λ already. (already.mark ≢ 0) × (already.state ≡ state) × Looks MarkCompare (mark_at co) already.mark seat.old.known seat.new.known × IsMarkOf co already.mark seat.old.known) }
     {
         let own = u64::from(seat.first) + 1;
         self.schedule_inner(rt, &mut seat.inner, co, own, cause, state)

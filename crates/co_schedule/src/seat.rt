@@ -23,14 +23,14 @@ impl<C: Origin> Model for CoSeat<C> {
 
     ghost view = { λ s. record { table = s.inner.table_id; known = s.inner.me.0.known; origin = s.inner.me.0.origin } };
 
-    ghost invariant = { λ s. (s.inner.me.1 ≡ []) × (s.first ≡ s.inner.me.0.known.first) × (s.count ≡ s.inner.me.0.known.count) × (0 < s.count) × (s.first + s.count ≤ 65) × (s.inner.me.0.known.phase ≡ AtRest) };
+    ghost invariant = { λ s. (s.inner.me.1 ≡ []) × (s.first ≡ s.inner.me.0.known.first) × (s.count ≡ s.inner.me.0.known.count) × (0 < s.count) × (s.first + s.count ≤ 64) × (s.inner.me.0.known.phase ≡ AtRest) };
 }
 
 impl<C: Origin> CoSeat<C> {
     pub(crate) fn of(inner: Inner<C>, first: u32, count: u32) -> CoSeat<C>
         requires slots { inner.me.1 ≡ [] }
         requires numbers { (inner.me.0.known.first ≡ first) × (inner.me.0.known.count ≡ count) }
-        requires some { (0 < count) × (first + count ≤ 65) }
+        requires some { (0 < count) × (first + count ≤ 64) }
         requires rest { inner.me.0.known.phase ≡ AtRest }
         ensures { (result.table ≡ inner.table_id) × (result.known ≡ inner.me.0.known) × (result.origin ≡ inner.me.0.origin) }
     {

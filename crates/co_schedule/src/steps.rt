@@ -2,7 +2,7 @@
 ghost use Rattle.std.specs.Prelude.{◌≡◌, ◌≢◌, ◌<◌, ◌≤◌, ◌+◌, ℕ, ◌==◌, MatchBool, [], ◌∷◌, drop, None, Some, true, false, Option};
 ghost use Rattle.co_schedule.specs.Words.{mark_at};
 ghost use Rattle.co_schedule.specs.Known.{MarkCompare, AtRest, Marked, HeadLoaded, Linked};
-ghost use Rattle.co_schedule.specs.Standing.{Schedules, Looks, HeadIsLoaded, NextIsStored, Pushes, Misses, Takes, Follows, Opens, Enters};
+ghost use Rattle.co_schedule.specs.Standing.{Schedules, Looks, IsMarkOf, HeadIsLoaded, NextIsStored, Pushes, Misses, Takes, Follows, Opens, Enters};
 ghost use Rattle.co_schedule.specs.Parcels.{cause_in, given_in, IsOf, has_some};
 
 use crate::parcel::Parcel;
@@ -24,10 +24,11 @@ impl<C: Origin + Drop> CoTable<C> {
     ) -> u64
         requires table { inner.old.table_id ≡ self.now.table }
         requires numbers { (0 < inner.old.me.0.known.count) × (own ≡ inner.old.me.0.known.first + 1) }
+        requires seat { inner.old.me.0.known.first < 64 }
         requires rest { inner.old.me.0.known.phase ≡ AtRest }
         requires below { co < self.now.coroutines }
         ensures seat { (inner.new.table_id ≡ inner.old.table_id) × (inner.new.id ≡ inner.old.id) × (inner.new.me.0.origin ≡ inner.old.me.0.origin) }
-        ensures told { MatchBool (result == 0) (Schedules co (cause_in said.now) (given_in said.now) inner.old.me.0.known inner.new.me.0.known × ((x : Option (Parcel C)) × (given_in x ≡ false) × (inner.new.me.1 ≡ (co, x) ∷ inner.old.me.1))) (Looks MarkCompare (mark_at co) result inner.old.me.0.known inner.new.me.0.known × (inner.new.me.1 ≡ inner.old.me.1)) }
+        ensures told { MatchBool (result == 0) (Schedules co (cause_in said.now) (given_in said.now) inner.old.me.0.known inner.new.me.0.known × ((x : Option (Parcel C)) × (given_in x ≡ false) × (inner.new.me.1 ≡ (co, x) ∷ inner.old.me.1))) (Looks MarkCompare (mark_at co) result inner.old.me.0.known inner.new.me.0.known × IsMarkOf co result inner.old.me.0.known × (inner.new.me.1 ≡ inner.old.me.1)) }
     {
         self.table
             .shared
