@@ -1,0 +1,5 @@
+pub mod Finding
+pub mod Going
+pub mod Named
+pub mod Serving
+pub mod Whole
