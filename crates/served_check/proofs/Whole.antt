@@ -111,8 +111,7 @@ away_past stream index done (placed ∷ served) below counts =
     let more : done stream ≤ one_more placed.stream done stream = elim (cases_Bool (placed.stream == stream)) [
       | inl h ↦ subst (λ n. done stream ≤ n) (sym (cond-true _ _ _ h)) (omega arith)
       | inr h ↦ subst (λ n. done stream ≤ n) (sym (cond-false _ _ _ h)) (omega arith)
-    ] in
-    (
+    ] in (
       λ e.
           let s : stream ≡ placed.stream = ap (λ (n : ℕ × ℕ). n.0) e in
           let i : index ≡ placed.index = ap (λ (n : ℕ × ℕ). n.1) e in

@@ -5,5 +5,7 @@ mod cursors;
 mod fitting;
 mod judging;
 mod putting;
+#[cfg(test)]
+mod tests;
 
 pub use judging::{check_served, replay};

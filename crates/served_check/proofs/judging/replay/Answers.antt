@@ -29,8 +29,7 @@ returns c =
     let goes : Goes size (asked lines) none_done c.args.opening.now served =
     subst (λ (l : List Step). Goes size (asked l) none_done c.args.opening.now served) c.as_slice-lines.ensures
     (subst (λ (b : List ℕ). Goes size (asked read) none_done b served) opened (c.in_ok-serve_all.ensures.goes.0 c.if-not-branch.false)) in
-    let all : length c.serve_all.new.bytes ≡ c.in-Ok.bytes.len = omega (arith, c.in-Ok.bytes.ok.0, c.serve_all.auto.bytes, ap length c.as_mut_slice.ensures.value) in
-    (
+    let all : length c.serve_all.new.bytes ≡ c.in-Ok.bytes.len = omega (arith, c.in-Ok.bytes.ok.0, c.serve_all.auto.bytes, ap length c.as_mut_slice.ensures.value) in (
       Goes-whole size (asked lines) c.args.opening.now served (c.if-served-count_requests.false ∙ counted ∙ sym (length-asked lines)) goes,
       take_at c.serve_all.new.bytes _ c.in-Ok.bytes.len all
           ∙ c.in_ok-serve_all.ensures.left c.if-not-branch.false
