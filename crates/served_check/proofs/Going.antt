@@ -1,11 +1,10 @@
 -- A serial history goes on by one reply.
-use Rattle.std.proofs.Common.{◌≡◌, ℕ, ◌+◌, ◌==◌, true, false, cond, List, [], ◌∷◌, map, Some, inl, inr, refl, sym, ◌∙◌, ap, subst}
+use Rattle.std.proofs.Common.{◌≡◌, ℕ, ◌+◌, ◌==◌, true, false, List, ◌∷◌, map, Some, inl, inr, refl, sym, ◌∙◌, ap, subst}
 use Rattle.std.proofs.lemmas.Bool.{cases_Bool, eqb-true, eq-eqb, cond-true, cond-false}
 use Rattle.std.proofs.lemmas.Option.{same_Some}
-use Rattle.aio_model.specs.declared.requests.Request.{Request}
 use Rattle.aio_model.specs.declared.replies.Placed.{Placed}
-use Rattle.aio_model.specs.Asked.{Asked, request_named}
-use Rattle.aio_model.specs.Serving.{Fits, bytes_after}
+use Rattle.aio_model.specs.Asked.{Asked}
+use Rattle.aio_model.specs.Serving.{bytes_after}
 use Rattle.aio_model.specs.SerialHistory.{CountsFrom, FitAlong, indices_of}
 use Rattle.served_check.specs.Cursors.{one_more}
 use Rattle.served_check.specs.Judging.{Goes, IsNext, Advances}

@@ -1,8 +1,8 @@
 -- Requests by their names, from a script's lines.
-use Rattle.std.proofs.Common.{◌≡◌, ℕ, ◌+◌, ◌<◌, ◌≤◌, ◌==◌, ◌&&◌, true, false, cond, List, [], ◌∷◌, ◌++◌, length, take, drop, get_or, Some, None, inl, inr, refl, sym, ◌∙◌, ap, subst, arith}
+use Rattle.std.proofs.Common.{◌≡◌, ℕ, ◌+◌, ◌<◌, ◌≤◌, ◌==◌, ◌&&◌, true, cond, List, [], ◌∷◌, ◌++◌, length, take, get_or, Some, None, inl, inr, refl, sym, ◌∙◌, ap, subst, arith}
 use Rattle.std.specs.List.{slice_get, count_by}
 use Rattle.std.proofs.lemmas.Bool.{cases_Bool, eqb-true, eq-eqb, and_from, and_parts, cond-true, cond-false}
-use Rattle.std.proofs.lemmas.List.{append_assoc, take-append-drop, take_more, length-append}
+use Rattle.std.proofs.lemmas.List.{append_assoc, take_more, length-append}
 use Rattle.std.proofs.lemmas.List.Sums.{sum_by-append, sum_by-cons}
 use Rattle.std.proofs.lemmas.Option.{get_or_from_slice_get}
 use Rattle.aio_model.specs.declared.requests.Request.{Request}
@@ -10,7 +10,7 @@ use Rattle.aio_model.specs.declared.scripts.Step.{Step}
 use Rattle.aio_model.specs.declared.scripts.What.{What}
 use Rattle.aio_model.specs.declared.scripts.What.TheVariants.{Ask, Delay, Move}
 use Rattle.aio_model.specs.Asked.{Asked, is_ask, requests_of, asked_by, asked_below, asked, request_named}
-use Rattle.aio_model.proofs.InOrder.{asked_at, asked_rest, asked-split}
+use Rattle.aio_model.proofs.InOrder.{asked_rest, asked-split}
 use Rattle.aio_model.proofs.Names.{request_named-asked, requests_of-push}
 
 -- with the line at k

@@ -1,16 +1,15 @@
 -- The loop that serves all, as far as it has come.
-use Rattle.std.proofs.Common.{◌≡◌, ◌↔◌, ℕ, ◌+◌, ◌<◌, ◌≤◌, false, true, IsTrue, List, [], ◌∷◌, ◌++◌, length, take, drop, get_or, Some, refl, sym, ◌∙◌, ap, subst, arith}
+use Rattle.std.proofs.Common.{◌≡◌, ◌↔◌, ℕ, ◌+◌, ◌<◌, false, IsTrue, List, [], ◌∷◌, ◌++◌, length, take, drop, get_or, refl, sym, ◌∙◌, ap, subst}
 use Rattle.std.proofs.lemmas.Bool.{false≢true}
 use Rattle.std.proofs.lemmas.List.{take_more, drop_more}
 use Rattle.aio_model.specs.declared.replies.Placed.{Placed}
 use Rattle.aio_model.specs.declared.scripts.Step.{Step}
-use Rattle.aio_model.specs.Asked.{asked, requests_of}
+use Rattle.aio_model.specs.Asked.{asked}
 use Rattle.aio_model.specs.Serving.{bytes_after}
 use Rattle.aio_model.specs.SerialHistory.{bytes_left, CountsFrom, indices_of}
 use Rattle.aio_model.proofs.Along.{bytes_left-push}
-use Rattle.served_check.specs.declared.cursors.Cursor.{Cursor}
 use Rattle.served_check.specs.declared.cursors.Cursors.{Cursors}
-use Rattle.served_check.specs.Cursors.{cursor_at, done_at, none_done, IsAt, AreAt}
+use Rattle.served_check.specs.Cursors.{done_at, none_done, AreAt}
 use Rattle.served_check.specs.Judging.{Goes, IsNext, Advances}
 use Rattle.served_check.proofs.Going.{Goes-next, Goes-on, Goes-back}
 
@@ -27,15 +26,13 @@ module _ (size : ℕ) (lines : List Step) (served : List Placed) (first : List �
     in_order = λ s. subst (λ n. CountsFrom n (indices_of s served)) (same s) (goes.in_order s);
   }
 
-  pub SoFar-start : (cursors : Cursors) → ((s : ℕ) → cursor_at cursors s ≡ record { line = 0; done = 0 }) → SoFar 0 cursors first
-  SoFar-start cursors none =
-      let zero_done : (s : ℕ) → done_at cursors s ≡ 0 = λ s. ap (λ (c : Cursor). c.done) (none s) in
-      record {
-        at = λ s. subst (IsAt lines s) (sym (none s)) (record { inside = omega arith; above = refl });
-        on = goes_same first none_done (done_at cursors) (λ s. sym (zero_done s));
-        back = goes_same first (done_at cursors) none_done zero_done;
-        left = refl;
-      }
+  pub SoFar-start : (cursors : Cursors) → AreAt lines cursors → ((s : ℕ) → done_at cursors s ≡ 0) → SoFar 0 cursors first
+  SoFar-start cursors at none = record {
+    at = at;
+    on = goes_same first none_done (done_at cursors) (λ s. sym (none s));
+    back = goes_same first (done_at cursors) none_done none;
+    left = refl;
+  }
 
   module _ (k : ℕ) (placed : Placed) (cursors : Cursors) (bytes : List ℕ) (inside : k < length served) (here : placed ≡ get_or served k placed)
       (so_far : SoFar k cursors bytes) where

@@ -5,7 +5,7 @@ ghost use Rattle.aio_model.specs.SerialHistory.{bytes_left, IsSerialHistory};
 ghost use Rattle.served_check.specs.Cursors.{done_at, none_done, AreAt};
 ghost use Rattle.served_check.specs.Judging.{Advances, Goes, IsNext};
 
-use crate::cursors::{Cursor, Cursors, find};
+use crate::cursors::Cursors;
 use crate::fitting::fits;
 use crate::putting::apply;
 use aio_model::{NoMemory, Placed, Script, Step, What};
@@ -26,18 +26,14 @@ fn serve_one(
         (Advances size (asked lines.now) placed.now (done_at cursors.old) (done_at cursors.new) bytes.old bytes.new)
         (IsNext size (asked lines.now) (done_at cursors.old) bytes.old placed.now → ⊥)) }
 {
-    let Some(found) = find(lines, cursors, placed) else {
+    let Some(found) = cursors.find(lines, placed) else {
         return Ok(false);
     };
     if !fits(size, bytes, found.request, &placed.reply) {
         return Ok(false);
     }
     apply(size, bytes, found.request, &placed.reply);
-    let cursor = Cursor {
-        line: found.line + 1,
-        done: placed.index as usize + 1,
-    };
-    cursors.set(placed.stream, cursor)?;
+    cursors.set(placed.stream, found.behind)?;
     Ok(true)
 }
 
@@ -53,7 +49,7 @@ fn serve_all(
     ensures goes { IfOk result (λ lawful. IsTrue lawful ↔ Goes size (asked lines.now) none_done bytes.old served.now) }
     ensures left { IfOk result (λ lawful. IsTrue lawful → bytes.new ≡ bytes_left (asked lines.now) served.now bytes.old) }
 {
-    let mut cursors = Cursors::none(alloc);
+    let mut cursors = Cursors::begin(alloc, lines)?;
     for placed in served {
         if !serve_one(size, lines, placed, &mut cursors, bytes)? {
             return Ok(false);
@@ -74,7 +70,7 @@ fn count_requests(lines: &[Step]) -> usize
 /// The bytes that the served requests leave, where they are a serial history of the script on the opening bytes; else
 /// none. The opening bytes may be more than the image: those past its end stay.
 ///
-/// Takes memory for the bytes and for a place in each stream that has been served.
+/// Takes memory for the bytes, for a number for each line, and for one for each stream.
 pub fn replay(
     alloc: Global,
     script: &Script,
@@ -107,8 +103,8 @@ pub fn replay(
 /// Any list may be asked about, of any script. The opening bytes are those of the image, or of a whole device whose
 /// first bytes are the image.
 ///
-/// A stream's lines are looked through once. So the time is that of the bytes that the requests speak of, and of at most
-/// the lines times the streams.
+/// The lines are gone through once, and then the list up to the first reply that breaks a law. The time is that of the
+/// bytes that the requests speak of and, for each line and each reply, that of finding a stream among all.
 pub fn check_served(
     alloc: Global,
     script: &Script,

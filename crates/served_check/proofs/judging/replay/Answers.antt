@@ -6,7 +6,7 @@ use Rattle.aio_model.specs.SerialHistory.{bytes_left}
 use Rattle.served_check.specs.Cursors.{none_done}
 use Rattle.served_check.specs.Judging.{Goes}
 use Rattle.served_check.proofs.Named.{length-asked}
-use Rattle.served_check.proofs.Whole.{Goes-whole, whole-Goes, whole-long}
+use Rattle.served_check.proofs.Whole.{Goes-whole, whole-long}
 use Rattle.served_check.proofs.judging.replay.Goals as goal
 
 pub returns-then-served-count_requests : goal.returns-then-served-count_requests
