@@ -1,0 +1,6 @@
+pub mod Finding
+pub mod Going
+pub mod Linking
+pub mod Named
+pub mod Serving
+pub mod Whole
