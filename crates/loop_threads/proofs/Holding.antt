@@ -12,9 +12,9 @@ use Rattle.table_seats.specs.Seats.{Numbers as CoNumbers, owns as co_owns, own_e
 use Rattle.table_seats.proofs.Entries.{own-append as co_own-append}
 use Rattle.table_seats.proofs.Splitting.{own_fewer as co_own_fewer}
 use Rattle.co_schedule.specs.Known.{Known as CoKnown, numbers_of as co_numbers_of}
-use Rattle.loop_threads.specs.declared.shared.LoopShared.{LoopShared}
-use Rattle.loop_threads.specs.declared.seats.Seats.{Seats}
-use Rattle.loop_threads.specs.Rows.{IsAt, Unites}
+use Rattle.loop_rows.specs.declared.shared.LoopShared.{LoopShared}
+use Rattle.loop_rows.specs.declared.seats.Seats.{Seats}
+use Rattle.loop_rows.specs.Rows.{IsAt, Unites}
 use Rattle.loop_threads.specs.Within.{IsWithin, HaveOwn}
 
 owned_among : (first count low high k : ℕ) → low ≤ first → first + count ≤ high → (not (ltb k first)) ≡ true → ltb k (first + count) ≡ true → ((not (ltb k low)) ≡ true) × (ltb k high ≡ true)
