@@ -6,7 +6,7 @@ use Rattle.std.specs.FinMap as map
 use Rattle.co_schedule.specs.Calls.{are_within}
 use Rattle.co_state.specs.Coroutines.{Coroutines}
 use Rattle.co_state.proofs.Held.{get_inserted}
-use Rattle.co_loop.specs.declared.shared.LoopShared.{LoopShared}
+use Rattle.loop_rows.specs.declared.shared.LoopShared.{LoopShared}
 use Rattle.co_loop.specs.declared.leaving.Leaving.{Leaving}
 use Rattle.co_loop.specs.declared.crew.Crew.{Crew}
 use Rattle.co_loop.specs.Rows.{IsRow}

@@ -5,8 +5,10 @@ pub mod Drained
 pub mod Ended
 pub mod Kept
 pub mod Nobody
+pub mod Numbered
 pub mod Posted
 pub mod Rowed
 pub mod Turned
 pub mod Unchanged
 pub mod Woken
+pub mod Stationed

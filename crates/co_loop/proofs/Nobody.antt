@@ -3,7 +3,7 @@ use Rattle.std.proofs.Common.{◌≡◌, ℕ, zero, suc, ◌<◌, List, length, 
 use Rattle.std.proofs.lemmas.List.{length-replicate}
 use Rattle.co_state.specs.Coroutines.{Coroutines}
 use Rattle.co_schedule.specs.Calls.{are_within}
-use Rattle.co_loop.specs.declared.shared.LoopShared.{LoopShared}
+use Rattle.loop_rows.specs.declared.shared.LoopShared.{LoopShared}
 use Rattle.co_loop.specs.declared.crew.Crew.{Crew}
 use Rattle.co_loop.specs.Rows.{IsRow, AreOf}
 use Rattle.co_loop.specs.Crews.{IsCrew}

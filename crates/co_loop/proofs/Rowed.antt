@@ -3,9 +3,10 @@ use Rattle.std.proofs.Common.{◌≡◌, ℕ, ◌<◌, List, length, slice_index
 use Rattle.std.proofs.lemmas.Bool.{cases_eq}
 use Rattle.std.proofs.lemmas.List.{get_or-set_same, get_or-set_other, get_or_default}
 use mathlib.Core.Logic.{⊎_elim}
-use Rattle.co_loop.specs.declared.shared.LoopShared.{LoopShared}
-use Rattle.co_loop.specs.declared.shared.Seats.{Seats}
-use Rattle.co_loop.specs.Rows.{IsSeated, IsRow}
+use Rattle.loop_rows.specs.declared.shared.LoopShared.{LoopShared}
+use Rattle.loop_rows.specs.declared.seats.Seats.{Seats}
+use Rattle.loop_rows.specs.Posts.{IsSeated}
+use Rattle.co_loop.specs.Rows.{IsRow}
 
 -- what holds of each place but one, and of what is put there
 pub at_set : {X : Type 0} (P : ℕ → X → Type 0) (xs : List X) (i : ℕ) (v : X) → i < length xs → P i v → (k : ℕ) (d : X) → ((k ≡ i → ⊥) → P k (slice_index_or xs k d)) → P k (slice_index_or (slice_set xs i v) k d)

@@ -9,14 +9,14 @@ use Rattle.co_state.specs.declared.co.CoStep.{CoStep}
 use Rattle.co_state.specs.declared.store.Entered.{Entered}
 use Rattle.co_state.specs.declared.store.Entered.TheVariants as entered
 use Rattle.co_schedule.specs.Calls.{are_within}
-use Rattle.co_loop.specs.declared.shared.LoopShared.{LoopShared}
-use Rattle.co_loop.specs.declared.shared.Seats.{Seats}
+use Rattle.loop_rows.specs.declared.shared.LoopShared.{LoopShared}
+use Rattle.loop_rows.specs.declared.seats.Seats.{Seats}
 use Rattle.co_loop.specs.declared.naps.Nap.{Nap}
 use Rattle.co_loop.specs.declared.naps.Nap.TheVariants as nap
 use Rattle.co_loop.specs.declared.leaving.Leaving.{Leaving}
 use Rattle.co_loop.specs.declared.crew.Crew.{Crew}
 use Rattle.co_loop.specs.Rows.{IsRow, AreOf, ChangesOne}
-use Rattle.co_loop.specs.Posts.{Posts, FindsMarked}
+use Rattle.loop_rows.specs.Posts.{Posts, FindsMarked}
 use Rattle.co_loop.specs.Wakes.{reach, WakesEach}
 use Rattle.co_loop.specs.Quits.{SetsEnds}
 

@@ -6,8 +6,10 @@ pub mod Crews
 pub mod Drains
 pub mod Loops
 pub mod Napping
+pub mod Numbers
 pub mod Posts
 pub mod Quits
 pub mod Rows
 pub mod Turning
 pub mod Wakes
+pub mod Working

@@ -4,7 +4,7 @@ use Rattle.aio_loop.specs.Entering.{LoopLent, ForBottom, ForReady, ForExpired, L
 use Rattle.co_state.specs.Asked.{Asked}
 use Rattle.co_state.specs.declared.co.CoStep.{CoStep}
 use Rattle.co_schedule.specs.Calls.{SeatState, RunState}
-use Rattle.co_loop.specs.declared.shared.LoopShared.{LoopShared}
+use Rattle.loop_rows.specs.declared.shared.LoopShared.{LoopShared}
 use Rattle.co_loop.specs.declared.crew.Crew.{Crew}
 use Rattle.co_loop.specs.Crews.{Far, far, IsCrew}
 use Rattle.co_loop.specs.Drains.{EntersAndDrains}

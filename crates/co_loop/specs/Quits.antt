@@ -3,13 +3,14 @@ use Rattle.std.specs.Prelude.{◌≡◌, ℕ, ◌<◌, ◌≤◌, List, length, 
 use Rattle.aio_model.specs.LoopHistory.{SetEvent}
 use Rattle.aio_core.specs.Standing.{Makes}
 use Rattle.aio_notify.specs.Setting.{SetsAndNotifies}
-use Rattle.co_loop.specs.declared.shared.Seats.{Seats}
+use Rattle.loop_rows.specs.declared.seats.Seats.{Seats}
 
 module _ {C O : Type 0} where
   -- event 0 of the loop was set, and its home notified
   pub record SetsEnd (before after : Seats C O) : Type 0 where
     pub steps : SetsAndNotifies 0 before.bottoms.known after.bottoms.known
     pub makes : Makes (SetEvent 0 before.bottoms.known.first) before.bottoms.known after.bottoms.known
+    pub rest : after.bottoms.known ≡ record before.bottoms.known { seen = after.bottoms.known.seen; mine = after.bottoms.known.mine; did = after.bottoms.known.did }
     pub same : after.coroutines ≡ before.coroutines
 
   -- that of each loop before this one, and none of the others

@@ -1,17 +1,10 @@
 -- A row: the seats that a loop has of all loops.
-use Rattle.std.specs.Prelude.{◌≡◌, ℕ, ◌<◌, Option, List, length, slice_index_or, slice_set}
-use Rattle.aio_bh.specs.Ready.{IsReady}
-use Rattle.co_schedule.specs.Parcels.{IsStateOf}
-use Rattle.co_schedule.specs.Calls.{IsSeatOf}
-use Rattle.co_loop.specs.declared.shared.LoopShared.{LoopShared}
-use Rattle.co_loop.specs.declared.shared.Seats.{Seats}
+use Rattle.std.specs.Prelude.{◌≡◌, ℕ, ◌<◌, List, length, slice_index_or, slice_set}
+use Rattle.loop_rows.specs.declared.shared.LoopShared.{LoopShared}
+use Rattle.loop_rows.specs.declared.seats.Seats.{Seats}
+use Rattle.loop_rows.specs.Posts.{IsSeated}
 
 module _ {C O : Type 0} where
-  -- the seats are of the loop's tables, and at rest
-  pub record IsSeated (shared : LoopShared C O) (seats : Seats C O) : Type 0 where
-    pub bottoms : IsReady shared.bottoms seats.bottoms
-    pub coroutines : IsSeatOf shared.coroutines seats.coroutines
-
   -- the loop has a handle and an event, and so many coroutines
   pub record IsLoopOf (n : ℕ) (shared : LoopShared C O) : Type 0 where
     pub handles : 0 < shared.bottoms.sizes.handles
@@ -28,11 +21,6 @@ module _ {C O : Type 0} where
   abbrev pub AreOf : O → List (LoopShared C O) → Type 0
   AreOf origin shared =
       (k : ℕ) (t : LoopShared C O) → k < length shared → (slice_index_or shared k t).coroutines.origin ≡ origin
-
-  -- the state, if there is one, is of the origin of this loop's coroutines
-  abbrev pub IsStateAt : (C → O → Type 0) → List (LoopShared C O) → ℕ → Option C → Type 0
-  IsStateAt is_of shared to state =
-      (t : LoopShared C O) → IsStateOf is_of (slice_index_or shared to t).coroutines.origin state
 
   -- this was done to the seats of one loop, and all others are as before
   pub record ChangesOne (to : ℕ) (does : Seats C O → Seats C O → Type 0) (before after : List (Seats C O)) : Type 0 where

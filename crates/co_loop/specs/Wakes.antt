@@ -2,7 +2,7 @@
 use Rattle.std.specs.Prelude.{◌≡◌, ℕ, Bool, ◌&&◌, ◌==◌, nat_lt, MatchBool, if◌then◌else◌, List, [], ◌∷◌, ◌++◌}
 use Rattle.aio_chain.specs.LinkList.{contains}
 use Rattle.co_state.specs.declared.cx.CoId.{CoId}
-use Rattle.co_loop.specs.declared.shared.Seats.{Seats}
+use Rattle.loop_rows.specs.declared.seats.Seats.{Seats}
 use Rattle.co_loop.specs.Rows.{ChangesOne}
 use Rattle.co_loop.specs.Posts.{WakesAt}
 

@@ -7,8 +7,8 @@ ghost use Rattle.co_loop.specs.Again.{is_kept, PostsAgain, PostsEachAgain};
 use crate::crew::Crew;
 use crate::entering::send_on;
 use crate::leaving::Leaving;
-use crate::shared::LoopShared;
 use co_state::Origin;
+use loop_rows::LoopShared;
 use std::sync::Wait;
 
 /// Takes one out that is kept.

@@ -9,10 +9,10 @@ ghost use Rattle.co_schedule.specs.Parcels.{IsStateOf};
 
 use crate::crew::Crew;
 use crate::draining::enter;
-use crate::shared::LoopShared;
 use aio_bh::Call;
 use co_schedule::{CoHome, CoRun, CoTable};
 use co_state::{Co, Origin};
+use loop_rows::LoopShared;
 use std::sync::Wait;
 
 /// Puts a state that came to this loop into its store. Where its number is here already it goes to the ended, and isn't entered.

@@ -5,11 +5,11 @@ ghost use Rattle.co_loop.specs.Building.{IsNewCrew};
 
 use crate::crew::Crew;
 use crate::naps::Nap;
-use crate::shared::Seats;
 use aio_model::NoMemory;
 use aio_timers::Timers;
 use co_state::{CoStore, Origin};
 use co_waits::CoQueue;
+use loop_rows::Seats;
 use std::alloc::{AllocError, Global};
 
 /// So many places with nothing in them.

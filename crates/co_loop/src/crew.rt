@@ -1,9 +1,9 @@
 //! What a loop keeps of coroutines, beside the run of those that it took.
 use crate::leaving::Leaving;
 use crate::naps::Nap;
-use crate::shared::Seats;
 use co_state::{CoStore, Origin};
 use co_waits::CoQueue;
+use loop_rows::Seats;
 
 /// The coroutines of one loop, by their numbers below `coroutines`, and the seats through which it wakes and sends others.
 #[derive(Drop)]

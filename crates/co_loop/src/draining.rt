@@ -6,8 +6,8 @@ ghost use Rattle.co_loop.specs.Drains.{EntersNext, DrainsAll, EntersAndDrains};
 
 use crate::crew::Crew;
 use crate::entering::enter_one;
-use crate::shared::LoopShared;
 use co_state::Co;
+use loop_rows::LoopShared;
 use std::sync::Wait;
 
 /// Enters the one that was woken first. False where nobody was.

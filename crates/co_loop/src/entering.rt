@@ -10,11 +10,11 @@ use crate::leaving::kept;
 use crate::naps::Nap;
 use crate::posting::post_to;
 use crate::quitting::set_ends;
-use crate::shared::LoopShared;
 use crate::waking::wake_each;
 use aio_model::Cause;
 use co_schedule::Already;
 use co_state::{Co, Cx, Entered, Origin};
+use loop_rows::LoopShared;
 use std::sync::Wait;
 
 /// Where a coroutine goes that is to move: one that names a loop that doesn't exist comes back to its own.

@@ -14,13 +14,13 @@ mod naps;
 mod on_loop;
 mod posting;
 mod quitting;
-mod shared;
 mod turning;
 mod waking;
+mod working;
 
 pub use building::build_timers;
 pub use crew::Crew;
 pub use leaving::Leaving;
 pub use naps::Nap;
 pub use on_loop::CoLoop;
-pub use shared::{LoopShared, Seats};
+pub use working::{CoWork, Worked};

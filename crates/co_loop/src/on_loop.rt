@@ -11,12 +11,12 @@ use crate::crew::Crew;
 use crate::draining::enter;
 use crate::napping::is_armed;
 use crate::quitting::END;
-use crate::shared::LoopShared;
 use aio_bh::{Call, Turn};
 use aio_core::{LoopTable, Seat};
 use aio_loop::{LoopRunner, Ready, Side, TimerId};
 use co_schedule::{CoHome, CoRun};
 use co_state::{Co, Origin};
+use loop_rows::LoopShared;
 use std::sync::Wait;
 
 /// The bottom half whose callback takes the list of coroutines.

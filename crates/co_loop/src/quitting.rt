@@ -1,11 +1,12 @@
 //! The quit mark: whoever sets it in a resume asks all loops to end.
 ghost use Rattle.std.specs.Prelude.{◌≡◌, ◌<◌, length};
-ghost use Rattle.co_loop.specs.Rows.{IsSeated, IsRow};
+ghost use Rattle.loop_rows.specs.Posts.{IsSeated};
+ghost use Rattle.co_loop.specs.Rows.{IsRow};
 ghost use Rattle.co_loop.specs.Quits.{SetsEnd, SetsEnds};
 
-use crate::shared::{LoopShared, Seats};
 use aio_notify::LoopEvents;
 use co_state::Origin;
+use loop_rows::{LoopShared, Seats};
 
 /// The event by which a loop learns that its run is to end.
 pub(crate) const END: u32 = 0;

@@ -6,10 +6,10 @@ ghost use Rattle.co_loop.specs.Posts.{WakesAt};
 ghost use Rattle.co_loop.specs.Wakes.{queued, is_somebody, reach, WakesOne, WakesEach};
 
 use crate::posting::post_to;
-use crate::shared::{LoopShared, Seats};
 use aio_model::Cause;
 use co_state::{CoId, Cx, Origin};
 use co_waits::CoQueue;
+use loop_rows::{LoopShared, Seats};
 use std::sync::Wait;
 
 /// Puts a coroutine of this loop behind those that are to be entered. One that stands there already stays where it is.

@@ -6,10 +6,11 @@ use Rattle.aio_bh.specs.OneShots.{ServesHome}
 use Rattle.aio_loop.specs.Homes.{IsHomeFree}
 use Rattle.aio_loop.specs.declared.side.Side.{Side}
 use Rattle.co_schedule.specs.Calls.{SeatState as CoSeatState, RunState}
-use Rattle.co_loop.specs.declared.shared.LoopShared.{LoopShared}
-use Rattle.co_loop.specs.declared.shared.Seats.{Seats}
+use Rattle.loop_rows.specs.declared.shared.LoopShared.{LoopShared}
+use Rattle.loop_rows.specs.declared.seats.Seats.{Seats}
 use Rattle.co_loop.specs.declared.crew.Crew.{Crew}
-use Rattle.co_loop.specs.Rows.{IsLoopOf, IsSeated}
+use Rattle.loop_rows.specs.Posts.{IsSeated}
+use Rattle.co_loop.specs.Rows.{IsLoopOf}
 use Rattle.co_loop.specs.Begins.{IsHomeRun}
 use Rattle.co_loop.specs.Loops.{IsOnLoop}
 

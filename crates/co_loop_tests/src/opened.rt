@@ -1,6 +1,7 @@
 //! Loops that were just built.
 ghost use Rattle.std.specs.Prelude.{◌≡◌, ◌<◌, IfOk, IsFalse};
-ghost use Rattle.co_loop.specs.Rows.{IsLoopOf, IsSeated};
+ghost use Rattle.loop_rows.specs.Posts.{IsSeated};
+ghost use Rattle.co_loop.specs.Rows.{IsLoopOf};
 ghost use Rattle.co_loop_tests.specs.Loops.{IsOpened};
 
 use crate::players::Player;
@@ -8,8 +9,9 @@ use aio_bh::{LotBuilt, LotPass, LotPool};
 use aio_core::{Built, Home, LoopTable};
 use aio_loop::{Handlers, Side};
 use aio_model::Cause;
-use co_loop::{LoopShared, Seats, build_timers};
+use co_loop::build_timers;
 use co_schedule::{CoBuilt, CoHome, CoRun, CoTable};
+use loop_rows::{LoopShared, Seats};
 use std::alloc::Global;
 use std::sync::Wait;
 use std::test::Fail;

@@ -2,6 +2,6 @@
 #![tactic(auto)]
 
 #[cfg(test)]
-mod ring;
-#[cfg(test)]
 mod runs;
+#[cfg(test)]
+mod walkers;

@@ -1,80 +1,109 @@
 //! Runs of one to sixteen loops.
-ghost use Rattle.std.specs.Prelude.{◌≡◌, ◌≤◌, IfOk, IsFalse, vec_len};
-ghost use Rattle.loop_thread_tests.specs.Hands.{AreIdle};
+ghost use Rattle.std.specs.Prelude.{◌≡◌, ◌≤◌, IfOk, length, vec_len};
+ghost use Rattle.loop_rows.specs.Rows.{IsRow, HasNumbers};
+ghost use Rattle.loop_thread_tests.specs.Walkers.{HaveRoom};
 
-use crate::ring::{Heard, Ring};
-use aio_loop::{Handlers, Side, Timers};
+use crate::walkers::{Ring, Walker};
+use aio_model::Cause;
 use aio_words::StepClock;
-use loop_threads::{Hand, LoopRun, Opened, open, prepare};
+use co_loop::CoWork;
+use loop_rows::{LoopShared, Opened, Row, open};
+use loop_threads::{LoopRun, new_hands, prepare, reserve};
 use std::alloc::Global;
 use std::process::Abort;
 use std::sync::Wait;
+use std::sync::atomic::AtomicU64;
 use std::test::Fail;
 use std::thread::Threads;
 
-/// How often each loop schedules on the next.
-const SENDS: u64 = 50;
+/// Numbers of walkers.
+const WALKERS: u32 = 16;
 
-fn hand(alloc: Global) -> Result<Hand<Ring>, Fail>
-    ensures { IfOk result (λ hand. IsFalse hand.side.handlers.walking) }
+/// How often each walker goes to the next loop.
+const MOVES: u32 = 50;
+
+fn clocks(alloc: Global, loops: usize) -> Result<Vec<StepClock>, Fail>
+    ensures { IfOk result (λ clocks. vec_len clocks ≡ loops) }
 {
-    let (Ok(mut handlers), Ok(timers)) = (Handlers::build(alloc, 1), Timers::build(alloc, 0)) else {
-        return Err(Fail::from("no memory"));
-    };
-    let Ok(_) = handlers.add(0, 0) else {
-        return Err(Fail::from("no room"));
-    };
-    Ok(Hand {
-        side: Side { handlers, timers },
-        work: Ring {
-            left: SENDS,
-            heard: Heard {
-                calls: 0,
-                ended: false,
-            },
-            clock: StepClock { now: 0 },
-        },
-    })
+    Ok(vec![in alloc; StepClock { now: 0 }; loops]?)
 }
 
-fn hands(alloc: Global, loops: usize) -> Result<Vec<Hand<Ring>>, Fail>
-    ensures { IfOk result (λ hands. (vec_len hands ≡ loops) × AreIdle loops hands.items) }
+/// Posts a walker to each loop.
+fn post_all<R: Wait>(rt: &R, shared: &[LoopShared<Walker>], row: &mut Row<Walker>) -> usize
+    requires row { IsRow shared.now row.old }
+    requires few { length shared.now ≤ 16 }
+    requires room { HaveRoom shared.now }
+    ensures { IsRow shared.now row.new × HasNumbers row.old.first row.old.count row.new }
 {
-    let mut hands = Vec::with_capacity(alloc, loops)?;
-    for _ in 0..loops {
-        hands.push_reserved(hand(alloc)?);
+    let mut posted: usize = 0;
+    for to in 0..shared.len() {
+        let walker = Walker {
+            at: to as u32,
+            left: MOVES,
+        };
+        let done = row.post(rt, shared, to, to as u32, Cause::Begin, Some(walker));
+        posted = posted.wrapping_add(usize::from(done.is_ok()));
     }
-    Ok(hands)
+    posted
 }
 
-/// Runs so many loops to their ends.
+/// Runs so many loops to their ends, with a walker that begins on each.
 fn run<R: Threads + Wait + Sync>(
     rt: &R,
     alloc: Global,
     loops: usize,
-) -> Result<Vec<LoopRun<u64, Ring>>, Fail>
+) -> Result<Vec<LoopRun<Walker, CoWork<Walker, StepClock>>>, Fail>
     requires { loops ≤ 16 }
     ensures { IfOk result (λ runs. vec_len runs ≡ loops) }
 {
-    let Ok(Opened { shared, homes, row }) = open::<u64, R>(rt, alloc, loops, 1) else {
+    let clocks = clocks(alloc, loops)?;
+    let (Ok(opened), Ok(reserved), Ok(hands)) = (
+        open::<Walker, R>(rt, alloc, loops, WALKERS),
+        reserve(alloc, loops),
+        new_hands::<Walker, StepClock>(alloc, WALKERS, clocks),
+    ) else {
         return Err(Fail::from("no memory"));
     };
-    let hands = hands(alloc, loops)?;
-    let Ok(prepared) = prepare(alloc, &shared, homes, hands, row) else {
-        return Err(Fail::from("no memory"));
+    let Opened {
+        shared,
+        homes,
+        mut row,
+    } = opened;
+    let walkers = post_all(rt, &shared, &mut row) as u64;
+    let prepared = prepare(reserved, &shared, homes, hands, row);
+    let ring = Ring {
+        loops: loops as u32,
+        walkers,
+        arrived: AtomicU64::new(0),
     };
-    let crew = prepared.run(rt, &shared);
+    let crew = prepared.run(rt, &ring, &shared);
     Ok(crew.end(rt, shared))
 }
 
-/// Each loop has ended, and was called at least once, and at most once for each time that it was scheduled.
+/// Where the walker of this number has ended: on its last loop, and nowhere else.
+fn has_ended(run: &LoopRun<Walker, CoWork<Walker, StepClock>>, number: usize) -> Option<Walker> {
+    match run.work.crew.ended.get(number) {
+        Some(Some(walker)) => Some(*walker),
+        _ => None,
+    }
+}
+
+/// Each walker goes round the loops, and ends where so many moves lead. Every loop has found the event that ends it.
 #[test]
-fn one_to_sixteen_loops(rt: HostRuntime) -> Result<(), Fail> {
+fn walkers_go_round_one_to_sixteen_loops(rt: HostRuntime) -> Result<(), Fail> {
     for loops in 1..17usize {
-        for run in run(&rt, rt.alloc(), loops)?.iter() {
-            let ring = &run.work;
-            assert_eq!(rt; (ring.heard.ended, ring.left), (true, 0));
-            assert!(rt; ring.heard.calls >= 1 && ring.heard.calls <= SENDS);
+        let runs = run(&rt, rt.alloc(), loops)?;
+        for (at, run) in runs.iter().enumerate() {
+            assert!(rt; run.work.is_ended);
+            for number in 0..loops {
+                let last = number.wrapping_add(MOVES as usize) % loops;
+                let here = Walker {
+                    at: last as u32,
+                    left: 0,
+                };
+                let wanted = if last == at { Some(here) } else { None };
+                assert_eq!(rt; has_ended(run, number), wanted);
+            }
         }
     }
     Ok(())

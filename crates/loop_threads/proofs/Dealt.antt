@@ -1,10 +1,11 @@
 -- Rows of two numbers, as they are cut and joined.
-use Rattle.std.proofs.Common.{◌≡◌, ℕ, zero, suc, ◌<◌, ◌≤◌, ◌-◌, ◌*◌, Result, Ok, Err, IfOk, List, [], ◌∷◌, ◌++◌, length, slice_index_or, subst, sym, refl, arith}
-use Rattle.loop_threads.specs.declared.shared.LoopShared.{LoopShared}
-use Rattle.loop_threads.specs.declared.rows.Row.{Row}
-use Rattle.loop_threads.specs.Rows.{IsRow, HasNumbers}
-use Rattle.loop_threads.specs.Dealing.{IsDoubled, ArePairs}
-use Rattle.loop_threads.proofs.Places.{at_push, at_last, at_front, longer}
+use Rattle.std.proofs.Common.{◌≡◌, ℕ, zero, suc, ◌<◌, ◌≤◌, ◌-◌, ◌*◌, Vec, vec_len, vec_capacity, List, [], ◌∷◌, ◌++◌, length, slice_index_or, subst, sym, refl, arith}
+use Rattle.loop_rows.specs.declared.shared.LoopShared.{LoopShared}
+use Rattle.loop_rows.specs.declared.seats.Seats.{Seats}
+use Rattle.loop_rows.specs.declared.rows.Row.{Row}
+use Rattle.loop_rows.specs.Rows.{IsRow, HasNumbers}
+use Rattle.loop_threads.specs.Dealing.{IsDoubled, ArePairs, AreSpares}
+use Rattle.loop_rows.proofs.Places.{at_push, at_last, at_front, longer}
 
 -- what is doubled at least once has a half, which is doubled once less
 pub record Halves (times count : ℕ) : Type 0 where
@@ -39,7 +40,7 @@ pairs_popped {C} {O} shared all pairs row e was =
       at_last (λ (j : ℕ) (x : Row C O). IsRow shared x × HasNumbers (2 * j) 2 x) all pairs (length pairs) row e refl (was (length pairs) row (omega (arith, n))),
     )
 
--- the same answer says more
-pub ok_more : {A E : Type 0} {P Q : Type 0} (r : Result A E) → (P → Q) → IfOk r (λ _. P) → IfOk r (λ _. Q)
-ok_more (Ok x) f h = f h
-ok_more (Err e) f h = h
+-- and the last of the spares
+pub spares_popped : {C O Z : Type 0} (loops : ℕ) (all rest : List (Vec (Seats C O) Z)) (v : Vec (Seats C O) Z) → all ≡ rest ++ v ∷ [] → AreSpares loops all → AreSpares loops rest
+spares_popped {C} {O} {Z} loops all rest v e was k x lt =
+    at_front (λ (j : ℕ) (y : Vec (Seats C O) Z). (vec_len y ≡ 0) × (loops ≤ vec_capacity y)) all rest v e k x lt (was k x (omega (arith, lt, longer all rest v e)))

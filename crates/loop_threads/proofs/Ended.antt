@@ -3,7 +3,7 @@ use Rattle.std.proofs.Common.{◌≡◌, ℕ, ◌<◌, ◌+◌, List, [], ◌∷
 use Rattle.std.proofs.lemmas.Bool.{cases_eq}
 use Rattle.std.proofs.lemmas.List.{get_or_at, get_or_append_left}
 use mathlib.Core.Logic.{⊎_elim}
-use Rattle.loop_threads.proofs.Places.{at_last, at_front}
+use Rattle.loop_rows.proofs.Places.{at_last, at_front}
 
 -- a fact of each four of four lists, as each gets one more
 pub four_pushed : {X Y Z V : Type 0} (P : X → Y → Z → V → Type 0) (xs xr : List X) (ys yr : List Y) (zs zr : List Z) (vs vr : List V) (x : X) (y : Y) (z : Z) (v : V) (n : ℕ) → xs ≡ xr ++ x ∷ [] → ys ≡ yr ++ y ∷ [] → zs ≡ zr ++ z ∷ [] → vs ≡ vr ++ v ∷ []

@@ -1,13 +1,13 @@
 -- Lists of parts, as one more waits, is handed back or is done.
 use Rattle.std.proofs.Common.{◌≡◌, ℕ, Bool, List, [], ◌∷◌, ◌++◌, length, slice_index_or, subst, sym, ap, ◌∙◌, refl, arith}
 use Rattle.std.proofs.lemmas.List.{get_or_at, get_or_append_left}
-use Rattle.loop_threads.specs.declared.shared.LoopShared.{LoopShared}
+use Rattle.loop_rows.specs.declared.shared.LoopShared.{LoopShared}
 use Rattle.loop_threads.specs.declared.parts.Part.{Part}
-use Rattle.loop_threads.specs.LoopStates.{LoopState}
+use Rattle.loop_rows.specs.LoopStates.{LoopState}
 use Rattle.loop_threads.specs.Parts.{IsPart, AllParts, IsCarried, AllCarried}
-use Rattle.loop_threads.proofs.Places.{at_push, at_last, at_front, both_pushed, longer}
+use Rattle.loop_rows.proofs.Places.{at_push, at_last, at_front, both_pushed, longer}
 
-module _ {C W O : Type 0} (can_work : W → List (LoopShared C O) → LoopState C O → Type 0) (does : W → LoopState C O → Bool → W → LoopState C O → Type 0) (shared : List (LoopShared C O)) where
+module _ {C W O : Type 0} (can_work : W → List (LoopShared C O) → LoopState C O → Type 0) (does : List (LoopShared C O) → W → LoopState C O → Bool → W → LoopState C O → Type 0) (shared : List (LoopShared C O)) where
   pub parts_popped : (all rest : List (Part C W O)) (v : Part C W O) → all ≡ rest ++ v ∷ [] → AllParts can_work shared all → AllParts can_work shared rest × IsPart can_work shared v
   parts_popped all rest v e parts =
       let n = longer all rest v e in (

@@ -9,9 +9,9 @@ use Rattle.aio_model.specs.LoopLists.{seat_of}
 use Rattle.aio_model.specs.CoroutineHistory.{seat_of as co_seat_of}
 use Rattle.aio_core.specs.Known.{Known, numbers_of}
 use Rattle.co_schedule.specs.Known.{Known as CoKnown, numbers_of as co_numbers_of}
-use Rattle.loop_threads.specs.declared.shared.LoopShared.{LoopShared}
-use Rattle.loop_threads.specs.declared.seats.Seats.{Seats}
-use Rattle.loop_threads.specs.Rows.{IsAt, Unites}
+use Rattle.loop_rows.specs.declared.shared.LoopShared.{LoopShared}
+use Rattle.loop_rows.specs.declared.seats.Seats.{Seats}
+use Rattle.loop_rows.specs.Rows.{IsAt, Unites}
 use Rattle.loop_threads.specs.Within.{IsWithin, HaveOwn}
 
 owned_among : (first count low high k : ℕ) → low ≤ first → first + count ≤ high → (not (ltb k first)) ≡ true → ltb k (first + count) ≡ true → ((not (ltb k low)) ≡ true) × (ltb k high ≡ true)

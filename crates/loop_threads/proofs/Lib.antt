@@ -5,9 +5,7 @@ pub mod Handing
 pub mod Holding
 pub mod Membership
 pub mod Beginning
-pub mod Building
 pub mod Outcomes
-pub mod Places
-pub mod RowSteps
-pub mod Rowing
+pub mod Sending
+pub mod Starting
 pub mod Whole

@@ -1,7 +1,7 @@
 -- Members and the parts that they were.
 use Rattle.std.proofs.Common.{◌≡◌, ℕ, ◌<◌, ◌≤◌, ◌+◌, List, [], ◌∷◌, ◌++◌, length, slice_index_or, subst, sym, ap, ◌∙◌, refl, arith}
 use Rattle.std.proofs.lemmas.List.{get_or_at, get_or_default}
-use Rattle.loop_threads.proofs.Places.{at_push, longer}
+use Rattle.loop_rows.proofs.Places.{at_push, longer}
 
 -- the last of a list, where the list it was taken from stands as it was
 pub taken_last : {X : Type 0} (orig all rest : List X) (v : X) → all ≡ rest ++ v ∷ [] → slice_index_or all (length rest) v ≡ slice_index_or orig (length rest) v → v ≡ slice_index_or orig (length rest) v

@@ -1,17 +1,18 @@
 -- What a run comes to, from what its parts came to.
 use Rattle.std.proofs.Common.{◌≡◌, ℕ, Bool, List, length, slice_index_or, arith}
-use Rattle.loop_threads.specs.declared.shared.LoopShared.{LoopShared}
-use Rattle.loop_threads.specs.declared.rows.Row.{Row}
+use Rattle.co_loop.specs.Working.{}
+use Rattle.loop_rows.specs.declared.shared.LoopShared.{LoopShared}
+use Rattle.loop_rows.specs.declared.rows.Row.{Row}
 use Rattle.loop_threads.specs.Within.{RowsWithin}
 use Rattle.loop_threads.specs.declared.parts.Part.{Part}
 use Rattle.loop_threads.specs.declared.members.Member.{Member}
-use Rattle.loop_threads.specs.LoopStates.{LoopState}
+use Rattle.loop_rows.specs.LoopStates.{LoopState}
 use Rattle.loop_threads.specs.Parts.{AllParts, InReverse, AllCarried}
 use Rattle.loop_threads.specs.Members.{AreOfParts}
 use Rattle.loop_threads.specs.Running.{RunsEach}
 use Rattle.loop_threads.proofs.Coming.{carried_through}
 
-module _ {C W O : Type 0} (can_work : W → List (LoopShared C O) → LoopState C O → Type 0) (does : W → LoopState C O → Bool → W → LoopState C O → Type 0) (shared : List (LoopShared C O)) where
+module _ {C W O : Type 0} (can_work : W → List (LoopShared C O) → LoopState C O → Type 0) (does : List (LoopShared C O) → W → LoopState C O → Bool → W → LoopState C O → Type 0) (shared : List (LoopShared C O)) where
   pub carried_parts : (n : ℕ) (before after : List (Part C W O)) → length after ≡ n → AllCarried can_work does shared n before after → AllParts can_work shared after
   carried_parts n before after long was k p lt = (was k p p (omega (arith, lt, long))).comes.part
 

@@ -8,9 +8,9 @@ use Rattle.aio_core.specs.Known.{Known, numbers_of}
 use Rattle.aio_notify.specs.Settling.{EndsQuiet}
 use Rattle.co_schedule.specs.Known.{Known as CoKnown, numbers_of as co_numbers_of}
 use Rattle.co_schedule.specs.Calls.{EndState, Ends}
-use Rattle.loop_threads.specs.declared.shared.LoopShared.{LoopShared}
-use Rattle.loop_threads.specs.declared.seats.Seats.{Seats}
-use Rattle.loop_threads.specs.Rows.{IsAt}
+use Rattle.loop_rows.specs.declared.shared.LoopShared.{LoopShared}
+use Rattle.loop_rows.specs.declared.seats.Seats.{Seats}
+use Rattle.loop_rows.specs.Rows.{IsAt}
 use Rattle.loop_threads.specs.Within.{IsWithin, StandsIn, HaveOwn}
 use Rattle.loop_threads.proofs.Holding.{still_made, fewer, part_of_part}
 

@@ -6,13 +6,13 @@ use Rattle.aio_core.specs.Calls.{TableState, SeatState, IsSeatOf}
 use Rattle.aio_notify.specs.Commits.{Commits}
 use Rattle.aio_notify.specs.Settling.{is_committed, EndsQuiet}
 use Rattle.co_schedule.specs.Calls.{Ends}
-use Rattle.loop_threads.specs.declared.shared.LoopShared.{LoopShared}
-use Rattle.loop_threads.specs.declared.seats.Seats.{Seats}
+use Rattle.loop_rows.specs.declared.shared.LoopShared.{LoopShared}
+use Rattle.loop_rows.specs.declared.seats.Seats.{Seats}
 use Rattle.loop_threads.specs.declared.members.Member.{Member}
 use Rattle.loop_threads.specs.declared.ending.LoopRun.{LoopRun}
 use Rattle.loop_threads.specs.declared.ending.Rest.{Rest}
 use Rattle.loop_threads.specs.declared.ending.Last.{Last}
-use Rattle.loop_threads.specs.Rows.{IsAt, EachAt}
+use Rattle.loop_rows.specs.Rows.{IsAt, EachAt}
 use Rattle.loop_threads.specs.Within.{IsWithin, StandsIn, HaveOwn, OwnEach}
 use Rattle.loop_threads.specs.Members.{IsMemberOf, MembersEach}
 

@@ -1,9 +1,9 @@
 -- A part of a run: one loop with all that its thread owns.
 use Rattle.std.specs.Prelude.{◌≡◌, ℕ, ◌<◌, ◌+◌, ◌-◌, ◌*◌, Bool, true, List, [], ◌∷◌, length, slice_index_or}
-use Rattle.loop_threads.specs.declared.shared.LoopShared.{LoopShared}
+use Rattle.loop_rows.specs.declared.shared.LoopShared.{LoopShared}
 use Rattle.loop_threads.specs.declared.parts.Part.{Part}
-use Rattle.loop_threads.specs.LoopStates.{LoopState, at_loop, IsStation}
-use Rattle.loop_threads.specs.Rows.{HasNumbers}
+use Rattle.loop_rows.specs.LoopStates.{LoopState, at_loop, IsStation}
+use Rattle.loop_rows.specs.Rows.{HasNumbers}
 
 -- the loop of a part
 abbrev pub loop_of : {C W O : Type 0} → Part C W O → LoopState C O
@@ -33,12 +33,12 @@ module _ {C W O : Type 0} (can_work : W → List (LoopShared C O) → LoopState 
       (k : ℕ) (p : Part C W O) → k < length parts → IsPart shared (slice_index_or parts k p)
 
 -- `does`: what a turn does, and whether the run has ended by it
-module _ {C W O : Type 0} (can_work : W → List (LoopShared C O) → LoopState C O → Type 0) (does : W → LoopState C O → Bool → W → LoopState C O → Type 0) where
+module _ {C W O : Type 0} (can_work : W → List (LoopShared C O) → LoopState C O → Type 0) (does : List (LoopShared C O) → W → LoopState C O → Bool → W → LoopState C O → Type 0) where
   -- one turn was given to it
   pub record TakesTurn (shared : List (LoopShared C O)) (before after : Part C W O) : Type 0 where
     pub part : IsPart can_work shared after
     pub number_is : after.number ≡ before.number
-    pub did : does before.work (loop_of before) after.carried after.work (loop_of after)
+    pub did : does shared before.work (loop_of before) after.carried after.work (loop_of after)
 
   -- so many turns were, one after another; the list has the part between two of them, newest first
   abbrev pub TakesTurns : List (LoopShared C O) → List (Part C W O) → Part C W O → Part C W O → Type 0

@@ -1,15 +1,15 @@
 -- A run of loops.
 use Rattle.std.specs.Prelude.{◌≡◌, ℕ, ◌<◌, ◌≤◌, ◌+◌, ◌-◌, ◌*◌, IsFalse, Bool, List, length, slice_index_or, vec_len, vec_capacity}
-use Rattle.loop_threads.specs.declared.shared.LoopShared.{LoopShared}
-use Rattle.loop_threads.specs.declared.rows.Row.{Row}
+use Rattle.loop_rows.specs.declared.shared.LoopShared.{LoopShared}
+use Rattle.loop_rows.specs.declared.rows.Row.{Row}
 use Rattle.loop_threads.specs.Within.{RowWithin}
-use Rattle.loop_threads.specs.declared.opening.Homes.{Homes}
+use Rattle.loop_rows.specs.declared.opening.Homes.{Homes}
 use Rattle.loop_threads.specs.declared.parts.Part.{Part}
 use Rattle.loop_threads.specs.declared.members.Member.{Member}
-use Rattle.loop_threads.specs.declared.preparing.Hand.{Hand}
+use Rattle.loop_threads.specs.declared.hands.Hand.{Hand}
 use Rattle.loop_threads.specs.declared.preparing.Prepared.{Prepared}
-use Rattle.loop_threads.specs.LoopStates.{LoopState, IsStation}
-use Rattle.loop_threads.specs.Rows.{IsRow, HasNumbers}
+use Rattle.loop_rows.specs.LoopStates.{LoopState, IsStation}
+use Rattle.loop_rows.specs.Rows.{IsRow, HasNumbers}
 use Rattle.loop_threads.specs.Parts.{AllParts, InReverse, IsCarried}
 use Rattle.loop_threads.specs.Members.{IsOfPart}
 
@@ -37,14 +37,14 @@ pub record HasRoom {C W O : Type 0} (n : ℕ) (prepared : Prepared C W O) : Type
   pub ends : (vec_len prepared.ends ≡ 0) × (n ≤ vec_capacity prepared.ends)
 
 module _ {C W O : Type 0} (can_work : W → List (LoopShared C O) → LoopState C O → Type 0) where
-  -- whatever the row, the work can begin on the loop of this number
-  pub record CanBegin (shared : List (LoopShared C O)) (k : ℕ) (hand : Hand W) : Type 0 where
+  -- whatever the row, the work can begin on the loop of this number, with these homes
+  pub record CanBegin (shared : List (LoopShared C O)) (k : ℕ) (homes : Homes C O) (hand : Hand W) : Type 0 where
     pub walking : IsFalse hand.side.handlers.walking
-    pub ready : (loop : LoopState C O) → loop.number ≡ k → loop.side ≡ hand.side → IsStation shared loop → can_work hand.work shared loop
+    pub ready : (loop : LoopState C O) → loop.number ≡ k → loop.home ≡ homes.home.seat → loop.side ≡ hand.side → loop.lots ≡ homes.lot_pass → loop.coroutines ≡ homes.coroutines → IsStation shared loop → can_work hand.work shared loop
 
-  abbrev pub CanBeginEach : List (LoopShared C O) → List (Hand W) → Type 0
-  CanBeginEach shared hands =
-      (k : ℕ) (d : Hand W) → k < length shared → CanBegin shared k (slice_index_or hands k d)
+  abbrev pub CanBeginEach : List (LoopShared C O) → List (Homes C O) → List (Hand W) → Type 0
+  CanBeginEach shared homes hands =
+      (k : ℕ) (h : Homes C O) (d : Hand W) → k < length shared → CanBegin shared k (slice_index_or homes k h) (slice_index_or hands k d)
 
   -- all that a run needs of what was prepared
   pub record IsPrepared (shared : List (LoopShared C O)) (prepared : Prepared C W O) : Type 0 where
@@ -55,7 +55,7 @@ module _ {C W O : Type 0} (can_work : W → List (LoopShared C O) → LoopState 
     pub mine : IsRow shared prepared.mine × HasNumbers 0 (64 - 2 * length shared) prepared.mine
     pub room : HasRoom (length shared) prepared
 
-module _ {C W O : Type 0} (can_work : W → List (LoopShared C O) → LoopState C O → Type 0) (does : W → LoopState C O → Bool → W → LoopState C O → Type 0) where
+module _ {C W O : Type 0} (can_work : W → List (LoopShared C O) → LoopState C O → Type 0) (does : List (LoopShared C O) → W → LoopState C O → Bool → W → LoopState C O → Type 0) where
   -- The loop was carried from this part to its end. What its thread had seen and made on each table then stands in what the row of all
   -- numbers has seen.
   pub record Runs (shared : List (LoopShared C O)) (row : Row C O) (part : Part C W O) (member : Member C W O) : Type 0 where

@@ -6,7 +6,7 @@ use Rattle.aio_model.specs.LoopLists.{seat_of}
 use Rattle.aio_core.specs.Known.{numbers_of}
 use Rattle.aio_model.specs.CoroutineHistory.{History as CoHistory, seat_of as co_seat_of}
 use Rattle.co_schedule.specs.Known.{numbers_of as co_numbers_of}
-use Rattle.loop_threads.specs.declared.seats.Seats.{Seats}
+use Rattle.loop_rows.specs.declared.seats.Seats.{Seats}
 use Rattle.loop_threads.specs.declared.parts.Part.{Part}
 
 -- What the first have seen of both histories is a part of what the second have seen, in which just their own entries stand under their

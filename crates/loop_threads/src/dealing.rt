@@ -1,39 +1,42 @@
 //! Each loop gets a row of seats for its thread, and the caller keeps the others.
-ghost use Rattle.std.specs.Prelude.{◌≡◌, ◌<◌, ◌≤◌, ◌+◌, ◌-◌, ◌*◌, IfOk, length, vec_len, vec_capacity};
-ghost use Rattle.loop_threads.specs.Rows.{IsRow, HasNumbers};
-ghost use Rattle.loop_threads.specs.Dealing.{IsDoubled, ArePairs};
+ghost use Rattle.std.specs.Prelude.{◌≡◌, ◌<◌, ◌≤◌, ◌+◌, ◌-◌, ◌*◌, length, vec_len, vec_capacity};
+ghost use Rattle.loop_rows.specs.Rows.{IsRow, HasNumbers};
+ghost use Rattle.loop_threads.specs.Dealing.{IsDoubled, ArePairs, AreSpares};
 
-use crate::rows::Row;
-use crate::shared::LoopShared;
-use aio_model::NoMemory;
 use co_state::Origin;
-use std::alloc::Global;
+use loop_rows::{LoopShared, Row, Seats};
 
-/// Cuts a row into rows of two numbers, in order, behind those that are there. It is cut in halves so many times.
+/// Cuts a row into rows of two numbers, in order, behind those that are there. It is cut in halves so many times, and each cut takes one
+/// of the spares.
 pub(crate) fn cut_in_pairs<C: Origin + Drop>(
-    alloc: Global,
     shared: &[LoopShared<C>],
     row: Row<C>,
     times: u32,
+    spares: &mut Vec<Vec<Seats<C>>>,
     pairs: &mut Vec<Row<C>>,
-) -> Result<(), NoMemory>
+)
     requires row { IsRow shared.now row }
     requires count { IsDoubled times row.count }
     requires even { row.first ≡ 2 * vec_len pairs.old }
     requires pairs { ArePairs shared.now pairs.old.items }
     requires room { 2 * vec_len pairs.old + row.count ≤ 2 * vec_capacity pairs.old }
-    ensures pairs { IfOk result (λ _. ArePairs shared.now pairs.new.items × (2 * vec_len pairs.new ≡ 2 * vec_len pairs.old + row.count)) }
+    requires spares { AreSpares (length shared.now) spares.old.items × (row.count ≤ 2 * vec_len spares.old + 2) }
+    ensures pairs { ArePairs shared.now pairs.new.items × (2 * vec_len pairs.new ≡ 2 * vec_len pairs.old + row.count) }
     ensures room { vec_capacity pairs.new ≡ vec_capacity pairs.old }
+    ensures spares { AreSpares (length shared.now) spares.new.items × (2 * vec_len spares.new + row.count ≡ 2 * vec_len spares.old + 2) }
 {
     if times == 0 {
         pairs.push_reserved(row);
-        return Ok(());
+        return;
     }
     let mut row = row;
     let half = row.count / 2;
-    let other = row.split(alloc, shared, half)?;
-    cut_in_pairs(alloc, shared, row, times - 1, pairs)?;
-    cut_in_pairs(alloc, shared, other, times - 1, pairs)
+    let Some(spare) = spares.pop() else {
+        unreachable!()
+    };
+    let other = row.split(shared, half, spare);
+    cut_in_pairs(shared, row, times - 1, spares, pairs);
+    cut_in_pairs(shared, other, times - 1, spares, pairs);
 }
 
 /// Joins rows of two numbers, the last one first.

@@ -6,14 +6,12 @@ ghost use Rattle.aio_notify.specs.Settling.{is_committed, EndsQuiet};
 ghost use Rattle.aio_core.specs.Calls.{IsSeatOf};
 ghost use Rattle.aio_loop.specs.Homes.{IsHomeFree};
 ghost use Rattle.co_schedule.specs.Calls.{IsSeatOf as IsCoSeatOf, Ends};
-ghost use Rattle.loop_threads.specs.Rows.{IsAt, IsRow, HasNumbers};
+ghost use Rattle.loop_rows.specs.Rows.{IsAt, IsRow, HasNumbers};
 ghost use Rattle.loop_threads.specs.Within.{HaveOwn, OwnEach};
 ghost use Rattle.loop_threads.specs.Members.{MembersEach};
 ghost use Rattle.loop_threads.specs.Ending.{IsRest, IsLast, EndsLoop, EndsEach, FallsAsleep};
 
-use crate::members::{Crew, Member};
-use crate::seats::Seats;
-use crate::shared::LoopShared;
+use crate::members::{Joined, Member};
 use aio_bh::LotPass;
 use aio_core::{Home, LoopTable, Seat};
 use aio_loop::Side;
@@ -21,6 +19,7 @@ use aio_model::Commit;
 use aio_notify::{LoopEnd, Settled, Sleeping, settle};
 use co_schedule::{CoClosed, CoEnd, CoHome, CoSeat, CoTable};
 use co_state::Origin;
+use loop_rows::{LoopShared, Seats};
 use std::sync::Wait;
 
 /// A loop whose run is over: its whole history and that of its coroutines, and what was home's alone.
@@ -176,7 +175,7 @@ fn end_rest<C: Origin + Drop, W: Drop, R: Wait>(
     ends.push_reserved(end_loop(rt, last.shared, last.member, last.seats));
 }
 
-impl<C: Origin + Drop, W: Drop> Crew<C, W> {
+impl<C: Origin + Drop, W: Drop> Joined<C, W> {
     /// Ends all loops, once their threads are joined. It waits for ever where a loop isn't quiet: where a bottom half is pending, an event
     /// is set, or a coroutine was scheduled and not entered. After a run each loop has had its turns until nothing was found to
     /// do. It takes no memory.
@@ -187,7 +186,7 @@ impl<C: Origin + Drop, W: Drop> Crew<C, W> {
         requires room { (vec_len self.ends ≡ 0) × (vec_len shared ≤ vec_capacity self.ends) }
         ensures { (vec_len result ≡ vec_len shared) × EndsEach (vec_len shared) shared.items self.members.items self.row.seats.items result.items }
     {
-        let Crew {
+        let Joined {
             members,
             row,
             mut ends,

@@ -1,15 +1,17 @@
 //! A part of a run: one loop with all that its thread owns.
 ghost use Rattle.std.specs.Prelude.{◌≡◌, false};
+ghost use Rattle.co_loop.specs.Rows.{AreOf};
+ghost use Rattle.co_loop.specs.Working.{CanWork, Works};
 ghost use Rattle.loop_threads.specs.Parts.{IsPart, TakesTurn};
 
-use crate::rows::Row;
-use crate::shared::LoopShared;
-use crate::stations::{LoopWork, Station};
 use aio_bh::LotPass;
 use aio_core::Home;
 use aio_loop::{AioLoop, Side};
+use aio_words::Clock;
+use co_loop::{CoWork, Worked};
 use co_schedule::CoHome;
-use co_state::Origin;
+use co_state::{Co, Origin};
+use loop_rows::{LoopShared, Row, Station};
 use std::sync::Wait;
 
 /// One loop with all that the thread that carries it owns.
@@ -26,11 +28,20 @@ pub struct Part<C: Origin, W> {
     pub carried: bool,
 }
 
-impl<C: Origin + Drop, W: LoopWork<C> + Drop> Part<C, W> {
+impl<C: Origin + Drop, K: Clock + Drop> Part<C, CoWork<C, K>> {
     /// One turn.
-    pub(crate) fn turned<R: Wait>(self, rt: &R, shared: &[LoopShared<C>], block: bool) -> Part<C, W>
-        requires part { IsPart W.can_work shared.now self }
-        ensures { TakesTurn W.can_work W.does shared.now self result }
+    pub(crate) fn turned<E, R: Wait>(
+        self,
+        rt: &R,
+        env: &E,
+        shared: &[LoopShared<C>],
+        block: bool,
+    ) -> Part<C, CoWork<C, K>>
+    where
+        C: Co<E>,
+        requires lent { AreOf (C.source_of env.now) shared.now }
+        requires part { IsPart (CanWork C.is_of) shared.now self }
+        ensures { TakesTurn (CanWork C.is_of) (Works E R C.is_of C.resumes K.time) shared.now self result }
     {
         let Part {
             number,
@@ -39,10 +50,10 @@ impl<C: Origin + Drop, W: LoopWork<C> + Drop> Part<C, W> {
             lot_pass,
             coroutines,
             row,
-            mut work,
+            work,
             carried: _,
         } = self;
-        let mut station = Station {
+        let station = Station {
             number,
             turning: AioLoop {
                 table: &shared[number].bottoms,
@@ -54,7 +65,11 @@ impl<C: Origin + Drop, W: LoopWork<C> + Drop> Part<C, W> {
             coroutines,
             row,
         };
-        let carried = work.turn(rt, shared, &mut station, block);
+        let Worked {
+            work,
+            station,
+            ended,
+        } = work.turn(rt, env, shared, station, block);
         let Station {
             number,
             turning: AioLoop {
@@ -75,7 +90,7 @@ impl<C: Origin + Drop, W: LoopWork<C> + Drop> Part<C, W> {
             coroutines,
             row,
             work,
-            carried,
+            carried: ended,
         }
     }
 }

@@ -1,5 +1,5 @@
 use Rattle.std.proofs.Common.{◌<◌, subst, sym}
-use Rattle.co_loop.specs.declared.shared.Seats.{Seats}
+use Rattle.loop_rows.specs.declared.seats.Seats.{Seats}
 use Rattle.co_loop.specs.Quits.{SetsEnd}
 use Rattle.co_loop.proofs.Rowed.{row_set}
 use Rattle.co_loop.proofs.Ended.{sets_one_more}

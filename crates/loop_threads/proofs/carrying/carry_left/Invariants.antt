@@ -1,4 +1,5 @@
 use Rattle.std.proofs.Common.{◌≡◌, vec_len, vec_capacity}
+use Rattle.co_loop.specs.Working.{CanWork, Works}
 use Rattle.loop_threads.specs.Parts.{AllComeFrom}
 use Rattle.loop_threads.proofs.carrying.carry_left.Given as goal
 
@@ -8,4 +9,4 @@ invariant-loop g l =
     × (vec_capacity l.left ≡ vec_capacity l.fn.left)
     × (vec_len l.other ≡ 0)
     × (vec_capacity l.other ≡ vec_capacity l.fn.other)
-    × AllComeFrom g.W.LoopWork.can_work g.W.LoopWork.does l.shared (vec_len l.fn.left) l.fn.left.items l.left.items
+    × AllComeFrom (CanWork g.C.Origin.is_of) (Works g.row.E.Denot g.row.R.Denot g.C.Origin.is_of g.C.Co.resumes g.K.Clock.time) l.shared (vec_len l.fn.left) l.fn.left.items l.left.items

@@ -1,4 +1,5 @@
 use Rattle.std.proofs.Common.{◌≡◌, ◌∙◌, subst, arith, vec_len, ℕ, List}
+use Rattle.co_loop.specs.Working.{CanWork, Works}
 use Rattle.loop_threads.specs.declared.parts.Part.{Part}
 use Rattle.loop_threads.specs.Parts.{HaveEnded, AllComeReversed}
 use Rattle.loop_threads.proofs.Coming.{all_ended, all_parts, all_through, reversed_parts, reversed_twice}
@@ -7,12 +8,12 @@ use Rattle.loop_threads.proofs.carrying.quieten.Goals as goal
 pub step_each-requires-clause-parts : goal.step_each-requires-clause-parts
 step_each-requires-clause-parts g c =
     let was = c.loop.invariant in
-    all_parts g.W.LoopWork.can_work g.W.LoopWork.does c.args.shared.now (vec_len c.args.parts.now) c.args.parts.now.items c.loop.parts.items (omega (arith, was.0, c.loop.parts.ok.0)) was.3
+    all_parts (CanWork g.C.Origin.is_of) (Works g.row.E.Denot g.row.R.Denot g.C.Origin.is_of g.C.Co.resumes g.K.Clock.time) c.args.shared.now (vec_len c.args.parts.now) c.args.parts.now.items c.loop.parts.items (omega (arith, was.0, c.loop.parts.ok.0)) was.3
 
 pub step_each-requires-in-loop-clause-parts : goal.step_each-requires-in-loop-clause-parts
 step_each-requires-in-loop-clause-parts g c =
     let made = c.step_each.ensures in
-    reversed_parts g.W.LoopWork.can_work g.W.LoopWork.does c.args.shared.now (vec_len c.loop.parts) c.loop.parts.items c.step_each.new.to.items (omega (arith, made.len, c.step_each.new.to.ok.0)) made.steps
+    reversed_parts (CanWork g.C.Origin.is_of) (Works g.row.E.Denot g.row.R.Denot g.C.Origin.is_of g.C.Co.resumes g.K.Clock.time) c.args.shared.now (vec_len c.loop.parts) c.loop.parts.items c.step_each.new.to.items (omega (arith, made.len, c.step_each.new.to.ok.0)) made.steps
 
 pub returns-then-are_carried-clause-carried : goal.returns-then-are_carried-clause-carried
 returns-then-are_carried-clause-carried g c =
@@ -20,11 +21,11 @@ returns-then-are_carried-clause-carried g c =
     let there = c.step_each.ensures in
     let back = c.step_each-in-loop.ensures in
     let n : vec_len c.step_each.new.to ≡ vec_len c.args.parts.now = there.len ∙ was.0 in
-    all_ended g.W.LoopWork.can_work g.W.LoopWork.does c.args.shared.now (vec_len c.args.parts.now) c.args.parts.now.items c.step_each-in-loop.new.to.items (omega (arith, back.len, n, c.step_each-in-loop.new.to.ok.0))
-    (all_through g.W.LoopWork.can_work g.W.LoopWork.does c.args.shared.now (vec_len c.args.parts.now) c.args.parts.now.items c.loop.parts.items c.step_each-in-loop.new.to.items was.3
-    (reversed_twice g.W.LoopWork.can_work g.W.LoopWork.does c.args.shared.now (vec_len c.args.parts.now) c.loop.parts.items c.step_each.new.to.items c.step_each-in-loop.new.to.items
-    (subst (λ (m : ℕ). AllComeReversed g.W.LoopWork.can_work g.W.LoopWork.does c.args.shared.now m c.loop.parts.items c.step_each.new.to.items) was.0 there.steps)
-    (subst (λ (m : ℕ). AllComeReversed g.W.LoopWork.can_work g.W.LoopWork.does c.args.shared.now m c.step_each.new.to.items c.step_each-in-loop.new.to.items) n back.steps)))
+    all_ended (CanWork g.C.Origin.is_of) (Works g.row.E.Denot g.row.R.Denot g.C.Origin.is_of g.C.Co.resumes g.K.Clock.time) c.args.shared.now (vec_len c.args.parts.now) c.args.parts.now.items c.step_each-in-loop.new.to.items (omega (arith, back.len, n, c.step_each-in-loop.new.to.ok.0))
+    (all_through (CanWork g.C.Origin.is_of) (Works g.row.E.Denot g.row.R.Denot g.C.Origin.is_of g.C.Co.resumes g.K.Clock.time) c.args.shared.now (vec_len c.args.parts.now) c.args.parts.now.items c.loop.parts.items c.step_each-in-loop.new.to.items was.3
+    (reversed_twice (CanWork g.C.Origin.is_of) (Works g.row.E.Denot g.row.R.Denot g.C.Origin.is_of g.C.Co.resumes g.K.Clock.time) c.args.shared.now (vec_len c.args.parts.now) c.loop.parts.items c.step_each.new.to.items c.step_each-in-loop.new.to.items
+    (subst (λ (m : ℕ). AllComeReversed (CanWork g.C.Origin.is_of) (Works g.row.E.Denot g.row.R.Denot g.C.Origin.is_of g.C.Co.resumes g.K.Clock.time) c.args.shared.now m c.loop.parts.items c.step_each.new.to.items) was.0 there.steps)
+    (subst (λ (m : ℕ). AllComeReversed (CanWork g.C.Origin.is_of) (Works g.row.E.Denot g.row.R.Denot g.C.Origin.is_of g.C.Co.resumes g.K.Clock.time) c.args.shared.now m c.step_each.new.to.items c.step_each-in-loop.new.to.items) n back.steps)))
     (subst (λ (xs : List (Part _ _ _)). HaveEnded xs) c.deref.ensures.value (c.are_carried.ensures c.if-are_carried.true))
 
 pub loop-preserved : goal.loop-preserved
@@ -36,8 +37,8 @@ loop-preserved g c =
       (back.len ∙ n),
       back.empty,
       (back.room.0 ∙ (there.room.1 ∙ was.2)),
-      all_through g.W.LoopWork.can_work g.W.LoopWork.does c.args.shared.now (vec_len c.args.parts.now) c.args.parts.now.items c.loop.parts.items c.step_each-in-loop.new.to.items was.3
-          (reversed_twice g.W.LoopWork.can_work g.W.LoopWork.does c.args.shared.now (vec_len c.args.parts.now) c.loop.parts.items c.step_each.new.to.items c.step_each-in-loop.new.to.items
-          (subst (λ (m : ℕ). AllComeReversed g.W.LoopWork.can_work g.W.LoopWork.does c.args.shared.now m c.loop.parts.items c.step_each.new.to.items) was.0 there.steps)
-          (subst (λ (m : ℕ). AllComeReversed g.W.LoopWork.can_work g.W.LoopWork.does c.args.shared.now m c.step_each.new.to.items c.step_each-in-loop.new.to.items) n back.steps)),
+      all_through (CanWork g.C.Origin.is_of) (Works g.row.E.Denot g.row.R.Denot g.C.Origin.is_of g.C.Co.resumes g.K.Clock.time) c.args.shared.now (vec_len c.args.parts.now) c.args.parts.now.items c.loop.parts.items c.step_each-in-loop.new.to.items was.3
+          (reversed_twice (CanWork g.C.Origin.is_of) (Works g.row.E.Denot g.row.R.Denot g.C.Origin.is_of g.C.Co.resumes g.K.Clock.time) c.args.shared.now (vec_len c.args.parts.now) c.loop.parts.items c.step_each.new.to.items c.step_each-in-loop.new.to.items
+          (subst (λ (m : ℕ). AllComeReversed (CanWork g.C.Origin.is_of) (Works g.row.E.Denot g.row.R.Denot g.C.Origin.is_of g.C.Co.resumes g.K.Clock.time) c.args.shared.now m c.loop.parts.items c.step_each.new.to.items) was.0 there.steps)
+          (subst (λ (m : ℕ). AllComeReversed (CanWork g.C.Origin.is_of) (Works g.row.E.Denot g.row.R.Denot g.C.Origin.is_of g.C.Co.resumes g.K.Clock.time) c.args.shared.now m c.step_each.new.to.items c.step_each-in-loop.new.to.items) n back.steps)),
     )

@@ -1,5 +1,5 @@
 use Rattle.std.proofs.Common.{◌≡◌, ◌<◌, ◌+◌, ◌*◌, vec_len}
-use Rattle.loop_threads.specs.Rows.{IsRow}
+use Rattle.loop_rows.specs.Rows.{IsRow}
 use Rattle.loop_threads.specs.Dealing.{ArePairs}
 use Rattle.loop_threads.proofs.dealing.join_pairs.Given as goal
 

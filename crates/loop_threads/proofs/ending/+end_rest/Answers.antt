@@ -1,10 +1,10 @@
 use Rattle.std.proofs.Common.{arith, vec_len}
-use Rattle.loop_threads.specs.declared.shared.LoopShared.{LoopShared}
-use Rattle.loop_threads.specs.declared.seats.Seats.{Seats}
+use Rattle.loop_rows.specs.declared.shared.LoopShared.{LoopShared}
+use Rattle.loop_rows.specs.declared.seats.Seats.{Seats}
 use Rattle.loop_threads.specs.declared.members.Member.{Member}
 use Rattle.loop_threads.specs.declared.ending.LoopRun.{LoopRun}
 use Rattle.loop_threads.specs.Ending.{EndsLoop}
-use Rattle.loop_threads.proofs.Places.{longer}
+use Rattle.loop_rows.proofs.Places.{longer}
 use Rattle.loop_threads.proofs.Ended.{four_pushed}
 use Rattle.loop_threads.proofs.ending.+end_rest.Goals as goal
 

@@ -5,11 +5,12 @@ use Rattle.std.proofs.lemmas.List.{get_or_append_left, get_or_default}
 use Rattle.aio_bh.specs.OneShots.{ServesHome}
 use Rattle.aio_loop.specs.Homes.{IsHomeFree}
 use Rattle.co_schedule.specs.Calls.{IsSeatOf as IsCoSeatOf}
+use Rattle.co_loop.specs.Working.{CanWork}
 use Rattle.loop_threads.specs.declared.parts.Part.{Part}
 use Rattle.loop_threads.specs.declared.members.Member.{Member}
 use Rattle.loop_threads.specs.Parts.{IsPart}
 use Rattle.loop_threads.specs.Members.{IsOfPart, IsMemberOf}
-use Rattle.loop_threads.proofs.Places.{at_push, longer, some_of}
+use Rattle.loop_rows.proofs.Places.{at_push, longer, some_of}
 use Rattle.loop_threads.specs.Within.{IsWithin}
 use Rattle.loop_threads.proofs.Holding.{just_joined, united_own, within_still}
 use Rattle.loop_threads.proofs.Membership.{taken_last, member_more}
@@ -24,7 +25,7 @@ join-requires-clause-other g c =
     let e = c.in-Some.ensures.items in
     let n = longer all.items rest.items v e in
     let at = taken_last c.args.parts.items all.items rest.items v e (was.2 (length rest.items) v (omega (arith, n, all.ok.0))) in
-    let is = subst (IsPart g.W.LoopWork.can_work c.args.shared.now) (sym at) (c.requires.parts.0 (length rest.items) v (omega (arith, n, all.ok.0, was.0, c.requires.parts.2, c.args.parts.ok.0))) in
+    let is = subst (IsPart (CanWork g.C.Origin.is_of) c.args.shared.now) (sym at) (c.requires.parts.0 (length rest.items) v (omega (arith, n, all.ok.0, was.0, c.requires.parts.2, c.args.parts.ok.0))) in
     is.station.row
 
 pub join-requires-clause-next : goal.join-requires-clause-next
@@ -36,7 +37,7 @@ join-requires-clause-next g c =
     let e = c.in-Some.ensures.items in
     let n = longer all.items rest.items v e in
     let at = taken_last c.args.parts.items all.items rest.items v e (was.2 (length rest.items) v (omega (arith, n, all.ok.0))) in
-    let is = subst (IsPart g.W.LoopWork.can_work c.args.shared.now) (sym at) (c.requires.parts.0 (length rest.items) v (omega (arith, n, all.ok.0, was.0, c.requires.parts.2, c.args.parts.ok.0))) in
+    let is = subst (IsPart (CanWork g.C.Origin.is_of) c.args.shared.now) (sym at) (c.requires.parts.0 (length rest.items) v (omega (arith, n, all.ok.0, was.0, c.requires.parts.2, c.args.parts.ok.0))) in
     let number = subst (λ (x : Part _ _ _). x.number + length rest.items + 1 ≡ length c.args.parts.items) (sym at) (c.requires.parts.1 (length rest.items) v (omega (arith, n, all.ok.0, was.0, c.requires.parts.2, c.args.parts.ok.0))) in
     (omega (arith, is.numbers.first_is, number, was.0, n, all.ok.0, c.requires.parts.2, c.args.parts.ok.0, was.4.first_is, was.4.count_is), omega (arith, is.numbers.count_is))
 
@@ -52,7 +53,7 @@ loop-part-preserved g c =
     let orig = c.args.parts in
     let same = was.2 (length rest.items) v (omega (arith, n, all.ok.0)) in
     let at = taken_last orig.items all.items rest.items v e same in
-    let is = subst (IsPart g.W.LoopWork.can_work c.args.shared.now) (sym at) (c.requires.parts.0 (length rest.items) v (omega (arith, n, all.ok.0, was.0, c.requires.parts.2, orig.ok.0))) in
+    let is = subst (IsPart (CanWork g.C.Origin.is_of) c.args.shared.now) (sym at) (c.requires.parts.0 (length rest.items) v (omega (arith, n, all.ok.0, was.0, c.requires.parts.2, orig.ok.0))) in
     let done = c.loop-part.members in
     let pushed = c.push_reserved.ensures in
     let number = subst (λ (x : Part _ _ _). x.number + length rest.items + 1 ≡ length orig.items) (sym at) (c.requires.parts.1 (length rest.items) v (omega (arith, n, all.ok.0, was.0, c.requires.parts.2, orig.ok.0))) in

@@ -1,7 +1,7 @@
 use Rattle.std.proofs.Common.{◌≡◌, ℕ, ◌+◌, ◌-◌, ◌*◌, ◌<◌, length, vec_len, vec_capacity, slice_index_or}
 use Rattle.loop_threads.specs.declared.parts.Part.{Part}
 use Rattle.loop_threads.specs.declared.members.Member.{Member}
-use Rattle.loop_threads.specs.Rows.{IsRow, HasNumbers}
+use Rattle.loop_rows.specs.Rows.{IsRow, HasNumbers}
 use Rattle.loop_threads.specs.Members.{IsOfPart, MembersEach}
 use Rattle.loop_threads.specs.Within.{OwnEach, RowsWithin}
 use Rattle.loop_threads.proofs.members.join_all.Given as goal

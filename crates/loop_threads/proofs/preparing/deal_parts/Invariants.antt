@@ -1,6 +1,7 @@
 use Rattle.std.proofs.Common.{◌≡◌, ◌<◌, ◌+◌, ℕ, length, vec_len, vec_capacity, slice_index_or}
-use Rattle.loop_threads.specs.declared.opening.Homes.{Homes}
-use Rattle.loop_threads.specs.declared.preparing.Hand.{Hand}
+use Rattle.co_loop.specs.Working.{CanWork}
+use Rattle.loop_rows.specs.declared.opening.Homes.{Homes}
+use Rattle.loop_threads.specs.declared.hands.Hand.{Hand}
 use Rattle.loop_threads.specs.declared.parts.Part.{Part}
 use Rattle.loop_threads.specs.Dealing.{ArePairs}
 use Rattle.loop_threads.specs.Parts.{IsPart}
@@ -17,7 +18,7 @@ invariant-loop-one g l =
     × ArePairs l.shared l.pairs.items
     × ((k : ℕ) (h : Homes _ _) → k < vec_len l.homes → slice_index_or l.homes.items k h ≡ slice_index_or l.fn.homes.items k h)
     × ((k : ℕ) (d : Hand _) → k < vec_len l.hands → slice_index_or l.hands.items k d ≡ slice_index_or l.fn.hands.items k d)
-    × ((j : ℕ) (p : Part _ _ _) → j < vec_len l.parts → IsPart g.W.LoopWork.can_work l.shared (slice_index_or l.parts.items j p) × ((slice_index_or l.parts.items j p).number + j + 1 ≡ n))
+    × ((j : ℕ) (p : Part _ _ _) → j < vec_len l.parts → IsPart (CanWork g.C.Origin.is_of) l.shared (slice_index_or l.parts.items j p) × ((slice_index_or l.parts.items j p).number + j + 1 ≡ n))
     × ((k j : ℕ) (h : Homes _ _) (d : Hand _) (p : Part _ _ _) → k + j + 1 ≡ n → j < vec_len l.parts → Begins (slice_index_or l.fn.homes.items k h) (slice_index_or l.fn.hands.items k d) (slice_index_or l.parts.items j p))
 
 abbrev pub decreases-loop-one : goal.decreases-loop-one

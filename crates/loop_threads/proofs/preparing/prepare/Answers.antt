@@ -7,21 +7,22 @@ cut_in_pairs-requires-clause-count g c =
 
 pub returns-clause-prepared : goal.returns-clause-prepared
 returns-clause-prepared g c =
-    let dealt = c.deal_parts-parts.ensures in
+    let dealt = c.deal_parts.ensures in
     let mine = c.join_pairs.ensures in
+    let room = c.requires.reserved in
     record {
       few = c.requires.few;
-      count = omega (arith, dealt.parts.0, c.deal_parts-parts.result.ok.0);
+      count = omega (arith, dealt.parts.0, c.deal_parts.result.ok.0);
       parts = dealt.parts.1;
       reversed = dealt.parts.2;
       mine = (mine.0, record { first_is = mine.1.first_is; count_is = omega (arith, mine.1.count_is, dealt.pairs.0, c.requires.few) });
       room = record {
-        flags = omega (arith, c.in_ok-flags.ensures);
-        left = c.in_ok-room.ensures;
-        other = c.in_ok-room-2.ensures;
-        late = c.in_ok-room-3.ensures;
-        done = c.in_ok-room-4.ensures;
-        members = c.in_ok-room-5.ensures;
-        ends = c.in_ok-room-6.ensures;
+        flags = room.flags;
+        left = room.left;
+        other = room.other;
+        late = room.late;
+        done = room.done;
+        members = room.members;
+        ends = room.ends;
       };
     }

@@ -1,10 +1,10 @@
 use Rattle.std.proofs.Common.{◌≡◌, ℕ, arith, length, vec_len}
-use Rattle.loop_threads.specs.declared.shared.LoopShared.{LoopShared}
-use Rattle.loop_threads.specs.declared.seats.Seats.{Seats}
+use Rattle.loop_rows.specs.declared.shared.LoopShared.{LoopShared}
+use Rattle.loop_rows.specs.declared.seats.Seats.{Seats}
 use Rattle.loop_threads.specs.declared.members.Member.{Member}
-use Rattle.loop_threads.specs.Rows.{IsAt}
+use Rattle.loop_rows.specs.Rows.{IsAt}
 use Rattle.loop_threads.specs.Members.{IsMemberOf}
-use Rattle.loop_threads.proofs.Places.{at_front, at_last, longer}
+use Rattle.loop_rows.proofs.Places.{at_front, at_last, longer}
 use Rattle.loop_threads.specs.Within.{HaveOwn}
 use Rattle.loop_threads.proofs.Ended.{two_popped}
 use Rattle.loop_threads.proofs.ending.Rest.take_last.Goals as goal

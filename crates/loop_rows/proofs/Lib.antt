@@ -1,0 +1,4 @@
+pub mod Building
+pub mod Places
+pub mod RowSteps
+pub mod Rowing

@@ -1,4 +1,0 @@
-use Rattle.loop_threads.proofs.opening.open_loop.Given as goal
-
-abbrev pub ghost-build : goal.ghost-build
-ghost-build g a = g.origin
