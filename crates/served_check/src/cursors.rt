@@ -1,6 +1,6 @@
 //! Which request of a script each stream is to have next.
-ghost use Rattle.std.specs.Prelude.{◌≡◌, ◌+◌, ◌<◌, ◌≤◌, ◌==◌, ◌&&◌, ℕ, [], false, true, length, set, take, slice_get, slice_index, replicate, Some, IfOk, MatchOption, if◌then◌else◌};
-ghost use Rattle.aio_model.specs.Asked.{asked, is_ask, request_named, requests_of};
+ghost use Rattle.std.specs.Prelude.{◌≡◌, ◌+◌, ◌<◌, ◌==◌, ◌&&◌, ℕ, false, length, set, Some, IfOk, MatchOption, if◌then◌else◌};
+ghost use Rattle.aio_model.specs.Asked.{asked, is_ask, request_named};
 ghost use Rattle.aio_model.specs.declared.scripts.What.TheVariants.{Ask};
 ghost use Rattle.served_check.specs.Cursors.{cursor_at, done_at, AreAt, IsAsked, IsAt, Notes};
 
