@@ -41,6 +41,11 @@ EachIndex-set P xs k n at_k others i below =
       | inr ne ↦ others i (omega (arith, below, length-set xs k n)) ne
     ]
 
+-- there are at most as many entries as requests
+pub IsCounted-few : {D : Type 0} → (requests replied : List ℕ) (capacity : ℕ) (entries : List (Entry D)) → IsCounted requests replied capacity entries
+    → length entries ≤ sum requests
+IsCounted-few requests replied capacity entries counted = omega (arith, sum-le replied requests counted.streams counted.within, counted.whole)
+
 -- the counts, with one request more of the stream
 abbrev pub one_more : List ℕ → ℕ → List ℕ
 one_more replied stream = set replied stream (slice_index replied stream + 1)
