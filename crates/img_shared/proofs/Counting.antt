@@ -31,6 +31,11 @@ sum-le (x ∷ xs) (y ∷ ys) same each =
     let rest : sum xs ≤ sum ys = sum-le xs ys (omega arith) (λ i below. each (suc i) (omega arith)) in
     omega (arith, sum_by-cons (λ n. n) x xs, sum_by-cons (λ n. n) y ys, first, rest)
 
+-- the journal has no more entries than there are requests
+pub IsCounted-placed : {D : Type 0} {requests replied : List ℕ} {capacity : ℕ} {entries : List (Entry D)} → IsCounted requests replied capacity entries
+    → length entries ≤ sum requests
+IsCounted-placed {D} {requests} {replied} counted = omega (arith, sum-le replied requests counted.streams counted.within, counted.whole)
+
 -- what holds of each index of a list, after one number of it has changed
 EachIndex-set : (P : ℕ → Type 0) (xs : List ℕ) (k n : ℕ) → P k
     → ((i : ℕ) → i < length xs → i ≢ k → P i)
@@ -40,11 +45,6 @@ EachIndex-set P xs k n at_k others i below =
       | inl e ↦ subst P (sym e) at_k
       | inr ne ↦ others i (omega (arith, below, length-set xs k n)) ne
     ]
-
--- there are at most as many entries as requests
-pub IsCounted-few : {D : Type 0} → (requests replied : List ℕ) (capacity : ℕ) (entries : List (Entry D)) → IsCounted requests replied capacity entries
-    → length entries ≤ sum requests
-IsCounted-few requests replied capacity entries counted = omega (arith, sum-le replied requests counted.streams counted.within, counted.whole)
 
 -- the counts, with one request more of the stream
 abbrev pub one_more : List ℕ → ℕ → List ℕ

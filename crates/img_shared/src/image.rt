@@ -240,7 +240,6 @@ impl<D: Device> Image<D> {
     /// The entries of the requests that have their replies, in the order of their places.
     pub fn journal(&self) -> &[Entry<D>]
         ensures entries { result.now ≡ self.now.journal }
-        ensures few { length self.now.journal ≤ sum self.now.requests }
         ensures whole { IsWhole D.bytes D.extent D.faults D.size_faults D.calls self.now }
     {
         self.ledger.entries()
@@ -251,6 +250,7 @@ impl<D: Device> Image<D> {
         ensures device { result ≡ self.device }
         ensures whole { IsWhole D.bytes D.extent D.faults D.size_faults D.calls self }
     {
+        let _ = self.journal();
         let Image {
             device,
             size: _,
