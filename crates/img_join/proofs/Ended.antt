@@ -1,21 +1,24 @@
 -- All streams have retired: what they served is a serial history of the script.
-use Rattle.std.proofs.Common.{◌≡◌, ℕ, zero, suc, ◌+◌, ◌<◌, ◌≤◌, ◌==◌, inl, inr, List, [], ◌∷◌, ◌++◌, length, map, slice_index, get_or, count_by, Option, option_map, refl, sym, ap, subst, ◌∙◌, arith, length-append, append_assoc}
+use Rattle.std.proofs.Common.{◌≡◌, ℕ, zero, suc, ◌+◌, ◌<◌, ◌≤◌, ◌==◌, inl, inr, cond, List, [], ◌∷◌, ◌++◌, length, map, slice_index, get_or, count_by, Option, option_map, refl, sym, ap, subst, ◌∙◌, arith, length-append, append_assoc}
 use Rattle.std.specs.List.{AllByRecursion}
 use Rattle.std.proofs.lemmas.Bool.{cases_Bool, cases_lt, cond-true, cond-false}
 use Rattle.std.proofs.lemmas.List.{get_or_at, length-map}
+use Rattle.std.proofs.lemmas.List.Sums.{sum_by-cons}
 use Rattle.aio_model.specs.declared.replies.Reply.{Reply}
 use Rattle.aio_model.specs.declared.replies.Reply.TheVariants.{Einval}
 use Rattle.aio_model.specs.declared.replies.Placed.{Placed}
 use Rattle.aio_model.specs.declared.scripts.Step.{Step}
 use Rattle.aio_model.specs.Asked.{Asked, asked, requests_of}
 use Rattle.aio_model.specs.SerialHistory.{CountsFrom, bytes_left, IsSerialHistory, eios_of}
+use Rattle.aio_words.specs.declared.called.DeviceCall.{DeviceCall}
+use Rattle.aio_words.specs.Called.{sizes_asked, failures_in}
 use Rattle.aio_words.specs.Faults.{HasRisenBy}
 use Rattle.img_requests.specs.Journal.{reply_of}
 use Rattle.img_requests.specs.Progress.{Replied}
 use Rattle.img_shared.specs.Calls.{IsWhole}
 use Rattle.img_shared.specs.Journals.{entries_of, noted, Noted, of_stream, eios_in}
 use Rattle.img_join.specs.Answers.{IsAnswered, placed_of}
-use Rattle.img_join.specs.Ended.{AreApart, AreOurs, HasRetired, IsServedWhole, replies_to}
+use Rattle.img_join.specs.Ended.{AreApart, AreOurs, HasRetired, IsChargedFor, IsServedWhole, replies_to}
 use Rattle.img_join.specs.Placing.{row_at, placed_from, HaveAll}
 use Rattle.img_join.proofs.Accounts.{length_from}
 use Rattle.img_join.proofs.ByEntry.{placed_same, eios_placed}
@@ -76,7 +79,7 @@ known_noted : {D : Type 0} → (bytes : D → Option (List ℕ)) (id : ℕ → �
 known_noted bytes id reply n m [] same known = tt
 known_noted bytes id reply n m (one ∷ journal) same known = (omega (arith, known.0, same), known_noted bytes id reply n m journal same known.1)
 
-module _ {D : Type 0} (bytes : D → Option (List ℕ)) (extent faults size_faults : D → ℕ) (lines : List Step) (ids : List ℕ) (image : ImageState D)
+module _ {D : Type 0} (bytes : D → Option (List ℕ)) (extent faults size_faults : D → ℕ) (calls : D → List DeviceCall) (lines : List Step) (ids : List ℕ) (image : ImageState D)
     (rows : List (List (List ℕ))) where
   -- a stream's replies, by their indices
   abbrev pub reply : ℕ → ℕ → Reply
@@ -85,7 +88,7 @@ module _ {D : Type 0} (bytes : D → Option (List ℕ)) (extent faults size_faul
   abbrev pub served : List Placed
   served = map (placed_of (slice_index ids) reply) (map (noted bytes) image.journal)
 
-  module _ (many : length image.requests ≡ length ids) (whole : IsWhole bytes extent faults size_faults image) where
+  module _ (many : length image.requests ≡ length ids) (whole : IsWhole bytes extent faults size_faults calls image) where
     all_in : (k : ℕ) → HasRetired bytes lines ids image k (row_at rows k) → length (entries_from 0 k image.journal) ≡ requests_of (slice_index ids k) lines
     all_in k retired =
         let due : entries_of k image.journal ≡ slice_index image.requests k =
@@ -121,24 +124,51 @@ less_risen : (n m before now : ℕ) → HasRisenBy (n + m) before now → HasRis
 less_risen n m before now risen = omega (arith, risen)
 
 -- the replies that were put together are those
-pub served_whole : {D : Type 0} → (bytes : D → Option (List ℕ)) (extent faults size_faults : D → ℕ) (ids : List ℕ) (image : ImageState D)
+pub served_whole : {D : Type 0} → (bytes : D → Option (List ℕ)) (extent faults size_faults : D → ℕ) (calls : D → List DeviceCall) (ids : List ℕ) (image : ImageState D)
     (rows : List (List (List ℕ))) (placed : List Placed)
-    → length image.requests ≡ length ids → IsWhole bytes extent faults size_faults image
+    → length image.requests ≡ length ids → IsWhole bytes extent faults size_faults calls image
     → HaveAll ids image.journal rows → placed ≡ placed_from ids image.journal rows
     → (lines : List Step) → AreApart ids → AreOurs ids lines
     → ((k : ℕ) → k < length ids → HasRetired bytes lines ids image k (row_at rows k))
     → IsServedWhole bytes faults lines image placed
-served_whole bytes extent faults size_faults ids image rows placed many whole have put lines apart ours retired =
-    let said = reply bytes extent faults size_faults lines ids image rows in
-    let same : placed ≡ served bytes extent faults size_faults lines ids image rows =
+served_whole bytes extent faults size_faults calls ids image rows placed many whole have put lines apart ours retired =
+    let said = reply bytes extent faults size_faults calls lines ids image rows in
+    let same : placed ≡ served bytes extent faults size_faults calls lines ids image rows =
     put ∙ placed_same bytes ids said (λ k. 0) 0 image.journal rows have (λ k j. ap (said k) (let z : 0 + j ≡ j = omega arith in z)) (λ k. whole.ordered k) in
-    let both = finished bytes extent faults size_faults lines ids image rows many whole apart ours retired in
+    let both = finished bytes extent faults size_faults calls lines ids image rows many whole apart ours retired in
     let eios : eios_of placed ≡ eios_in image.journal = ap eios_of put ∙ eios_placed ids image.journal rows in
     record {
       history = subst (IsSerialHistory image.size (asked lines) (bytes image.opening)) (sym same) both.0;
       left = both.1 ∙ ap (λ (l : List Placed). option_map (bytes_left (asked lines) l) (bytes image.opening)) (sym same);
       counted = subst (λ (n : ℕ). HasRisenBy n (faults image.opening) (faults image.device)) (sym eios)
           (less_risen (eios_in image.journal) (count_by has_failed image.phases) (faults image.opening) (faults image.device) whole.counted);
+    }
+
+none_failed : (phases : List Phase) → ((k : ℕ) → k < length phases → phase_at phases k ≡ Retired) → count_by has_failed phases ≡ 0
+none_failed [] retired = refl
+none_failed (p ∷ phases) retired =
+    let here : cond {A = ℕ} (has_failed p) 1 0 ≡ 0 = ap (λ (q : Phase). cond {A = ℕ} (has_failed q) 1 0) (retired 0 (omega arith)) in
+    omega (arith, sum_by-cons (λ (q : Phase). cond {A = ℕ} (has_failed q) 1 0) p phases, here, none_failed phases (λ k below. retired (suc k) (omega arith)))
+
+-- what the run came to at the device
+pub charged_for : {D : Type 0} → (bytes : D → Option (List ℕ)) (extent faults size_faults : D → ℕ) (calls : D → List DeviceCall) (ids : List ℕ) (image : ImageState D)
+    (rows : List (List (List ℕ))) (placed : List Placed)
+    → length image.requests ≡ length ids → IsWhole bytes extent faults size_faults calls image
+    → placed ≡ placed_from ids image.journal rows
+    → ((k : ℕ) → k < length ids → phase_at image.phases k ≡ Retired)
+    → IsChargedFor extent faults size_faults calls image.size image.opening image.device placed
+charged_for bytes extent faults size_faults calls ids image rows placed many whole put retired =
+    let eios : eios_of placed ≡ eios_in image.journal = ap eios_of put ∙ eios_placed ids image.journal rows in
+    let well : count_by has_failed image.phases ≡ 0 = none_failed image.phases (λ k below. retired k (omega (arith, below, many, whole.streams))) in
+    record {
+      fits = whole.fits;
+      long = whole.long;
+      sizes = whole.sizes;
+      later = whole.later;
+      counted = subst (λ (n : ℕ). HasRisenBy n (faults image.opening) (faults image.device)) (sym eios)
+          (less_risen (eios_in image.journal) (count_by has_failed image.phases) (faults image.opening) (faults image.device) whole.counted);
+      asked = whole.asked;
+      failures = omega (arith, whole.failures, eios, well);
     }
 
 pub known_ids : {D : Type 0} → (n m : ℕ) (journal : List (Entry D)) → m ≡ n → AllByRecursion (λ (entry : Entry D). entry.stream < m) journal

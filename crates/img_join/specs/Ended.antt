@@ -1,11 +1,13 @@
 -- All streams have retired.
-use Rattle.std.specs.Prelude.{◌≡◌, ℕ, ◌<◌, List, [], ◌∷◌, length, slice_index, Option, option_map}
+use Rattle.std.specs.Prelude.{◌≡◌, ℕ, ◌+◌, ◌<◌, ◌≤◌, List, [], ◌∷◌, length, slice_index, Option, option_map}
 use Rattle.std.specs.List.{AllByRecursion}
 use Rattle.aio_model.specs.declared.replies.Placed.{Placed}
 use Rattle.aio_model.specs.declared.replies.Reply.{Reply}
 use Rattle.aio_model.specs.declared.scripts.Step.{Step}
 use Rattle.aio_model.specs.Asked.{asked, requests_of}
 use Rattle.aio_model.specs.SerialHistory.{IsSerialHistory, bytes_left, eios_of}
+use Rattle.aio_words.specs.declared.called.DeviceCall.{DeviceCall}
+use Rattle.aio_words.specs.Called.{sizes_asked, failures_in}
 use Rattle.aio_words.specs.Faults.{HasRisenBy}
 use Rattle.img_requests.specs.Journal.{reply_of}
 use Rattle.img_shared.specs.declared.phases.Phase.TheVariants.{Retired}
@@ -40,3 +42,14 @@ pub record IsServedWhole {D : Type 0} (bytes : D → Option (List ℕ)) (faults 
   pub history : IsSerialHistory image.size (asked lines) (bytes image.opening) served
   pub left : bytes image.device ≡ option_map (bytes_left (asked lines) served) (bytes image.opening)
   pub counted : HasRisenBy (eios_of served) (faults image.opening) (faults image.device)
+
+-- What a run came to at its device. It holds the image, and has as many bytes as at first. None of the calls asked for the size; one failed
+-- for each reply at which the device failed, and its count of faults has risen for each of them.
+pub record IsChargedFor {D : Type 0} (extent faults size_faults : D → ℕ) (calls : D → List DeviceCall) (size : ℕ) (opening device : D) (served : List Placed) : Type 0 where
+  pub fits : size ≤ extent device
+  pub long : extent device ≡ extent opening
+  pub sizes : size_faults device ≡ size_faults opening
+  pub later : faults opening ≤ faults device
+  pub counted : HasRisenBy (eios_of served) (faults opening) (faults device)
+  pub asked : sizes_asked (calls device) ≡ sizes_asked (calls opening)
+  pub failures : failures_in (calls device) ≡ failures_in (calls opening) + eios_of served

@@ -1,8 +1,10 @@
 ghost use Rattle.std.specs.Prelude.{◌≡◌, ◌<◌, ◌≤◌, ℕ, List, [], length, vec_capacity};
 ghost use Rattle.aio_model.specs.declared.scripts.Step.{Step};
-ghost use Rattle.img_join.specs.Ended.{AreApart, AreOurs, HasRetired, IsServedWhole};
+ghost use Rattle.img_join.specs.Ended.{AreApart, AreOurs, HasRetired, IsChargedFor, IsServedWhole};
 ghost use Rattle.img_join.specs.Placing.{placed_from, row_at};
+ghost use Rattle.img_shared.specs.declared.phases.Phase.TheVariants.{Retired};
 ghost use Rattle.img_shared.specs.Journals.{entries_of};
+ghost use Rattle.img_shared.specs.Phases.{phase_at};
 
 use crate::buffers::Buffers;
 use crate::placing::place_all;
@@ -26,6 +28,10 @@ pub fn finish<D: Device>(
     requires room { length image.journal ≤ vec_capacity served.old }
     ensures device { result ≡ image.device }
     ensures placed { served.new.items ≡ placed_from ids.now image.journal buffers }
+
+    // Where all streams have retired.
+    ensures charged { ((k : ℕ) → k < length ids.now → phase_at image.phases k ≡ Retired)
+        → IsChargedFor D.extent D.faults D.size_faults D.calls image.size image.opening image.device served.new.items }
 
     // For each script whose lines are these streams' own and whose requests the accounts are of.
     ensures whole { (lines : List Step) → AreApart ids.now → AreOurs ids.now lines

@@ -1,7 +1,8 @@
 -- What an image's invariant shows.
-use Rattle.std.proofs.Common.{◌≡◌, ℕ, set, List, [], ◌∷◌, ◌++◌, length, Option, refl}
+use Rattle.std.proofs.Common.{◌≡◌, ◌≤◌, ℕ, set, sum, List, [], ◌∷◌, ◌++◌, length, Option, refl}
 use Rattle.aio_model.proofs.Granted.{writer_alone}
 use Rattle.aio_model.specs.RwTable.{unlocked}
+use Rattle.aio_words.specs.declared.called.DeviceCall.{DeviceCall}
 use Rattle.img_requests.specs.declared.present.Present.{Present}
 use Rattle.img_requests.specs.Journal.{mark_at}
 use Rattle.img_shared.specs.declared.journal.Entry.{Entry}
@@ -12,10 +13,13 @@ use Rattle.img_shared.specs.Journals.{entry_next}
 use Rattle.img_shared.specs.Phases.{phase_at}
 use Rattle.img_shared.specs.Soundness.{IsKept}
 
-pub whole_of : {D : Type 0} → (bytes : D → Option (List ℕ)) (extent faults size_faults : D → ℕ) (image : ImageState D)
-    → IsKept bytes extent faults size_faults image → IsWhole bytes extent faults size_faults image
-whole_of bytes extent faults size_faults image kept = record {
+pub whole_of : {D : Type 0} → (bytes : D → Option (List ℕ)) (extent faults size_faults : D → ℕ) (calls : D → List DeviceCall) (image : ImageState D)
+    → IsKept bytes extent faults size_faults calls image → sum image.requests ≤ 4096 → length image.journal ≤ sum image.requests
+    → IsWhole bytes extent faults size_faults calls image
+whole_of bytes extent faults size_faults calls image kept few placed = record {
   streams = kept.sound.streams;
+  few = few;
+  placed = placed;
   linked = kept.sound.linked;
   apart = writer_alone image.access;
   due = kept.sound.due;
@@ -23,9 +27,13 @@ whole_of bytes extent faults size_faults image kept = record {
   chain = kept.sound.chain;
   ordered = kept.sound.ordered;
   clean = kept.sound.clean;
+  fits = kept.charged.fits;
   long = kept.charged.long;
   sizes = kept.charged.sizes;
   counted = kept.charged.counted;
+  later = kept.charged.later;
+  asked = kept.charged.asked;
+  failures = kept.charged.failures;
 }
 
 -- what leaving did

@@ -1,5 +1,5 @@
 -- What an image's calls do.
-use Rattle.std.specs.Prelude.{◌≡◌, ℕ, ◌+◌, ◌<◌, ◌≤◌, set, count_by, List, [], ◌∷◌, ◌++◌, length, map, slice_index, Option}
+use Rattle.std.specs.Prelude.{◌≡◌, ℕ, ◌+◌, ◌<◌, ◌≤◌, set, sum, count_by, List, [], ◌∷◌, ◌++◌, length, map, slice_index, Option}
 use Rattle.std.specs.List.{AllByRecursion}
 use Rattle.aio_model.specs.declared.holds.RwAnswer.TheVariants as hold
 use Rattle.aio_model.specs.declared.requests.Request.{Request}
@@ -8,6 +8,8 @@ use Rattle.aio_model.specs.Readers.{hold_of}
 use Rattle.aio_model.specs.RwTable.{unlocked}
 use Rattle.aio_model.specs.SerialHistory.{CountsFrom}
 use Rattle.aio_model.specs.Serving.{length_of, end_of}
+use Rattle.aio_words.specs.declared.called.DeviceCall.{DeviceCall}
+use Rattle.aio_words.specs.Called.{sizes_asked, failures_in}
 use Rattle.aio_words.specs.Faults.{HasRisenBy}
 use Rattle.img_requests.specs.declared.answers.Enter.{Enter}
 use Rattle.img_requests.specs.declared.answers.Enter.TheVariants.{Begun, Queued, Refused}
@@ -87,8 +89,11 @@ pub record IsGranted {D : Type 0} (image : ImageState D) (stream : ℕ) : Type 0
   pub holds : Has (hold_of image.access stream)
 
 -- What an image that is looked at shows of its whole run.
-pub record IsWhole {D : Type 0} (bytes : D → Option (List ℕ)) (extent faults size_faults : D → ℕ) (image : ImageState D) : Type 0 where
+pub record IsWhole {D : Type 0} (bytes : D → Option (List ℕ)) (extent faults size_faults : D → ℕ) (calls : D → List DeviceCall) (image : ImageState D) : Type 0 where
   pub streams : length image.phases ≡ length image.requests
+  -- at most 4,096 requests are for all streams, and the journal has no more entries
+  pub few : sum image.requests ≤ 4096
+  pub placed : length image.journal ≤ sum image.requests
   -- begun, whole and failed requests hold what they need, and who writes is alone
   pub linked : (k : ℕ) → Linked (phase_at image.phases k) (hold_of image.access k)
   pub apart : AreApart (hold_of image.access)
@@ -100,7 +105,12 @@ pub record IsWhole {D : Type 0} (bytes : D → Option (List ℕ)) (extent faults
   pub ordered : (k : ℕ) → CountsFrom 0 (indices_noted k (map (noted bytes) image.journal))
   -- where nobody writes, the device has the bytes that the journal leaves
   pub clean : ((k : ℕ) → Writing (phase_at image.phases k) → ⊥) → bytes image.device ≡ bytes image.left
-  -- the device has as many bytes as at first, and its count of faults has risen for each request that failed
+  -- The device has as many bytes as at first, and its count of faults has risen for each request that failed. None of
+  -- its calls asked for the size, and one failed for each of these.
+  pub fits : image.size ≤ extent image.device
   pub long : extent image.device ≡ extent image.opening
   pub sizes : size_faults image.device ≡ size_faults image.opening
   pub counted : HasRisenBy (eios_in image.journal + count_by has_failed image.phases) (faults image.opening) (faults image.device)
+  pub later : faults image.opening ≤ faults image.device
+  pub asked : sizes_asked (calls image.device) ≡ sizes_asked (calls image.opening)
+  pub failures : failures_in (calls image.device) ≡ failures_in (calls image.opening) + (eios_in image.journal + count_by has_failed image.phases)

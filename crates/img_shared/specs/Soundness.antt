@@ -3,6 +3,8 @@ use Rattle.std.specs.Prelude.{◌≡◌, ℕ, ◌+◌, ◌<◌, ◌≤◌, count
 use Rattle.std.specs.List.{AllByRecursion}
 use Rattle.aio_model.specs.Readers.{hold_of}
 use Rattle.aio_model.specs.SerialHistory.{CountsFrom}
+use Rattle.aio_words.specs.declared.called.DeviceCall.{DeviceCall}
+use Rattle.aio_words.specs.Called.{sizes_asked, failures_in}
 use Rattle.aio_words.specs.Faults.{HasRisenBy}
 use Rattle.img_requests.specs.declared.present.Present.{Present}
 use Rattle.img_requests.specs.declared.present.Stage.TheVariants as stage
@@ -52,13 +54,17 @@ pub record IsSound {D : Type 0} (bytes : D → Option (List ℕ)) (image : Image
   pub clean : ((k : ℕ) → Writing (phase_at image.phases k) → ⊥) → bytes image.device ≡ bytes image.left
 
 -- of the device's counts
-pub record IsCharged {D : Type 0} (extent faults size_faults : D → ℕ) (image : ImageState D) : Type 0 where
+pub record IsCharged {D : Type 0} (extent faults size_faults : D → ℕ) (calls : D → List DeviceCall) (image : ImageState D) : Type 0 where
   pub fits : image.size ≤ extent image.device
   pub long : extent image.device ≡ extent image.opening
   pub sizes : size_faults image.device ≡ size_faults image.opening
   -- a fault for each entry and each present request at which the device failed
   pub counted : HasRisenBy (eios_in image.journal + count_by has_failed image.phases) (faults image.opening) (faults image.device)
+  pub later : faults image.opening ≤ faults image.device
+  -- no call asked for the size, and one failed for each of these
+  pub asked : sizes_asked (calls image.device) ≡ sizes_asked (calls image.opening)
+  pub failures : failures_in (calls image.device) ≡ failures_in (calls image.opening) + (eios_in image.journal + count_by has_failed image.phases)
 
-pub record IsKept {D : Type 0} (bytes : D → Option (List ℕ)) (extent faults size_faults : D → ℕ) (image : ImageState D) : Type 0 where
+pub record IsKept {D : Type 0} (bytes : D → Option (List ℕ)) (extent faults size_faults : D → ℕ) (calls : D → List DeviceCall) (image : ImageState D) : Type 0 where
   pub sound : IsSound bytes image
-  pub charged : IsCharged extent faults size_faults image
+  pub charged : IsCharged extent faults size_faults calls image

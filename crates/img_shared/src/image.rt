@@ -42,7 +42,7 @@ impl<D: Device> Model for Image<D> {
 
     ghost view = { λ i. record { device = i.device; size = i.size; opening = i.opening.value; left = i.left.value; requests = i.ledger.requests; journal = i.ledger.entries; phases = i.phases.items; access = i.access; homes = i.homes.items } };
 
-    ghost invariant = { λ i. IsKept D.bytes D.extent D.faults D.size_faults (record { device = i.device; size = i.size; opening = i.opening.value; left = i.left.value; requests = i.ledger.requests; journal = i.ledger.entries; phases = i.phases.items; access = i.access; homes = i.homes.items }) };
+    ghost invariant = { λ i. IsKept D.bytes D.extent D.faults D.size_faults D.calls (record { device = i.device; size = i.size; opening = i.opening.value; left = i.left.value; requests = i.ledger.requests; journal = i.ledger.entries; phases = i.phases.items; access = i.access; homes = i.homes.items }) };
 }
 
 impl<D: Device> Image<D> {
@@ -240,7 +240,7 @@ impl<D: Device> Image<D> {
     /// The entries of the requests that have their replies, in the order of their places.
     pub fn journal(&self) -> &[Entry<D>]
         ensures entries { result.now ≡ self.now.journal }
-        ensures whole { IsWhole D.bytes D.extent D.faults D.size_faults self.now }
+        ensures whole { IsWhole D.bytes D.extent D.faults D.size_faults D.calls self.now }
     {
         self.ledger.entries()
     }
@@ -248,8 +248,9 @@ impl<D: Device> Image<D> {
     /// The device, and what the image's whole run came to.
     pub fn into_device(self) -> D
         ensures device { result ≡ self.device }
-        ensures whole { IsWhole D.bytes D.extent D.faults D.size_faults self }
+        ensures whole { IsWhole D.bytes D.extent D.faults D.size_faults D.calls self }
     {
+        let _ = self.journal();
         let Image {
             device,
             size: _,

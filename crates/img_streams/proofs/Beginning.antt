@@ -54,6 +54,7 @@ module _ {P D : Type 0} (bytes : D → Option (List ℕ)) (old : Stream P (Image
     inside = inside;
     index = is.index;
     stands = there;
+    named = is.named;
     short = is.short;
     few = is.few;
     many = is.many;

@@ -74,6 +74,7 @@ module _ {P D : Type 0} (bytes : D → Option (List ℕ)) (old : Stream P (Image
           inside = is.inside;
           index = is.index ∙ sym n;
           stands = stands;
+          named = is.named;
           short = is.short;
           few = is.few;
           many = is.many;
@@ -105,6 +106,7 @@ module _ {P D : Type 0} (bytes : D → Option (List ℕ)) (old : Stream P (Image
           inside = omega (arith, line.inside);
           index = omega (arith, is.index, more);
           stands = (idle, refl);
+          named = is.named;
           short = is.short;
           few = is.few;
           many = is.many;

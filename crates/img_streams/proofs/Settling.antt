@@ -2,12 +2,12 @@
 use Rattle.std.proofs.Common.{◌≡◌, ℕ, ◌<◌, false, Option, List, [], ◌∷◌, length, map, slice_index, refl, sym, ap, ◌∙◌, subst, arith}
 use Rattle.aio_model.specs.declared.scripts.Step.{Step}
 use Rattle.aio_model.specs.Asked.{Asked, asked, requests_of}
-use Rattle.aio_model.specs.LockHistory.{LockEntry, value_of}
+use Rattle.aio_model.specs.LockHistory.{LockEntry, value_of, made_by, maker_of, AreBelow}
 use Rattle.co_mutex.specs.declared.lock.CoMutex.{CoMutex}
 use Rattle.co_mutex.specs.declared.lock.Pass.{Pass}
-use Rattle.co_mutex.specs.Closing.{In, Gathers}
-use Rattle.co_mutex.specs.Passes.{built_of, known}
-use Rattle.co_mutex.proofs.Histories.{note_kept}
+use Rattle.co_mutex.specs.Closing.{In, AreAll, Gathers}
+use Rattle.co_mutex.specs.Passes.{built_of, passes_of, known}
+use Rattle.co_mutex.proofs.Histories.{note_kept, made_more}
 use Rattle.img_shared.specs.Images.{ImageState}
 use Rattle.img_shared.specs.Journals.{entries_of}
 use Rattle.img_shared.specs.Notes.{Note, Placement, note}
@@ -16,7 +16,7 @@ use Rattle.img_join.specs.Ended.{HasRetired}
 use Rattle.img_join.specs.Placing.{row_at}
 use Rattle.img_join.proofs.Accounts.{length_from}
 use Rattle.img_streams.specs.Own.{own_note}
-use Rattle.img_streams.specs.Retired.{IsRetired, ArePartsOf, HaveRetired, ShowsRetired}
+use Rattle.img_streams.specs.Retired.{IsRetired, ArePartsOf, AreUnused, HaveRetired, ShowsRetired}
 use Rattle.img_shared.specs.declared.phases.Phase.TheVariants.{Retired}
 use Rattle.aio_model.specs.declared.scripts.Script.{Script}
 use Rattle.img_streams.specs.declared.progress.At.{At}
@@ -45,7 +45,6 @@ module _ {P D : Type 0} (bytes : D → Option (List ℕ)) (lock : CoMutex P (Ima
   module _ (lines : List Step) (size : ℕ) (ids : List ℕ) (rows : List (List (List ℕ))) (retired : HaveRetired bytes lock lines size ids rows passes) where
     module _ (k : ℕ) (below : k < length ids) where
       one : (pass : Pass P (ImageState D) (Note D)) × In pass passes × IsRetired bytes lock lines size (slice_index ids k) k (row_at rows k) pass
-          × ((own_note bytes lock pass).streams ≡ length (built_of lock).requests)
       one = retired.each k below
 
       same : note bytes image k ≡ own_note bytes lock (retired.each k below).0
@@ -74,7 +73,7 @@ module _ {P D : Type 0} (bytes : D → Option (List ℕ)) (lock : CoMutex P (Ima
     shows_retired = record {
       opening = λ some. let o = retired.each 0 some in ap (λ (n : Note D). n.opening) (same 0 some) ∙ o.2.opened;
       sized = λ some. size_shown 0 some;
-      streams = λ some. let o = retired.each 0 some in ap (λ (n : Note D). n.streams) (same 0 some) ∙ o.3 ∙ retired.all;
+      streams = λ some. let o = retired.each 0 some in ap (λ (n : Note D). n.streams) (same 0 some) ∙ o.2.streams ∙ retired.all;
       each = one_shown;
       buffered = one_buffered;
     }
@@ -99,8 +98,31 @@ module _ {P D : Type 0} (bytes : D → Option (List ℕ)) (co : Stream P (ImageS
         is = record {
           number = is.pass.number;
           opened = is.pass.opened;
+          streams = is.pass.streams;
           retired = both.0;
           buffer = co.buffer.items;
           account = is.account;
         };
       }
+
+-- ---- a lock that was never taken
+
+no_entry : {A : Type 0} → (x : A) (xs : List A) → x ∷ xs ≡ [] → ⊥
+no_entry x xs same = cc same
+
+module _ {T : Type 0} where
+  -- a history that none of its passes made an entry of is empty
+  none_made : (n : ℕ) (history : List (LockEntry T)) → AreBelow n history → ((k : ℕ) → k < n → made_by k history ≡ []) → history ≡ []
+  none_made n [] below none = refl
+  none_made n (entry ∷ older) below none =
+      let own : made_by (maker_of entry) (entry ∷ older) ≡ entry ∷ made_by (maker_of entry) older = made_more (maker_of entry) entry older refl in
+      absurd (no_entry entry (made_by (maker_of entry) older) (sym own ∙ none (maker_of entry) below.0))
+
+module _ {P T N : Type 0} (note_of : T → ℕ → N) (lock : CoMutex P T N) (passes : List (Pass P T N)) (history : List (LockEntry T)) where
+  -- its value is the built one
+  pub unused_value : AreAll lock passes → Gathers note_of lock passes history → AreUnused passes → value_of (built_of lock) history ≡ built_of lock
+  unused_value all gathers unused =
+      let none : history ≡ [] = none_made (passes_of lock) history gathers.below (λ k below.
+      let one = all.all k below in
+      ap (λ (n : ℕ). made_by n history) (sym one.2) ∙ gathers.mine one.0 one.1 ∙ unused one.0 one.1) in
+      ap (value_of (built_of lock)) none

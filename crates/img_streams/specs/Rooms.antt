@@ -61,6 +61,7 @@ pub record CanStart {P D : Type 0} (lock : CoMutex P (ImageState D) (Note D)) (s
         homes = homes;
       }
   pub known : co.co < length requests
+  pub named : slice_index (map (λ stream. stream.id) script.streams) co.co ≡ id
   pub count : slice_index requests co.co ≡ requests_of id script.lines
   pub short : AreShort script.lines
   pub few : requests_of id script.lines ≤ 4096

@@ -1,5 +1,5 @@
 -- The coroutine of a stream: of which lock and script it is, and what one resume does.
-use Rattle.std.specs.Prelude.{◌≡◌, ℕ, zero, suc, ◌^◌, ◌+◌, ◌<◌, ◌≤◌, ◌⊎◌, ◌==◌, Bool, true, false, Option, List, [], ◌∷◌, ◌++◌, length, map, take, vec_capacity}
+use Rattle.std.specs.Prelude.{◌≡◌, ℕ, zero, suc, ◌^◌, ◌+◌, ◌<◌, ◌≤◌, ◌⊎◌, ◌==◌, Bool, true, false, Option, List, [], ◌∷◌, ◌++◌, length, map, slice_index, take, vec_capacity}
 use Rattle.aio_model.specs.declared.requests.Request.{Request}
 use Rattle.aio_model.specs.declared.scripts.Script.{Script}
 use Rattle.aio_model.specs.declared.scripts.Step.{Step}
@@ -87,6 +87,8 @@ module _ {P D : Type 0} (bytes : D → Option (List ℕ)) where
   pub record IsStreamOf (co : Stream P (ImageState D) (Note D)) (of : CoMutex P (ImageState D) (Note D) × Script) : Type 0 where
     -- its pass is that lock's
     pub pass : IsOf bytes of.0 co.pass co.co.co co.queued
+    -- its id is that of its stream line, which has its number
+    pub named : slice_index (map (λ stream. stream.id) of.1.streams) co.co.co ≡ co.id
     -- Its note has as many requests as that script has of the stream. Its entries are the image's calls for the stream's
     -- lines above its place, with those made so far for the line at it, and its buffers hold what these calls filled.
     pub account : Account bytes (asked of.1.lines) co.id co.co.co of.1.image (requests_of co.id of.1.lines) (own_note bytes of.0 co.pass)

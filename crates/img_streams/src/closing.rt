@@ -5,7 +5,7 @@ ghost use Rattle.aio_model.specs.declared.scripts.Step.{Step};
 ghost use Rattle.co_mutex.specs.declared.lock.CoMutex.{CoMutex};
 ghost use Rattle.co_mutex.specs.Closing.{AreAll};
 ghost use Rattle.co_mutex.specs.Passes.{built_of, passes_of};
-ghost use Rattle.img_streams.specs.Retired.{ArePartsOf, HaveRetired, ShowsRetired};
+ghost use Rattle.img_streams.specs.Retired.{ArePartsOf, AreUnused, HaveRetired, ShowsRetired};
 ghost use Rattle.img_streams.specs.Streams.{HasGone, IsStreamOf, source};
 
 use crate::rule::ImageRule;
@@ -20,6 +20,7 @@ pub fn settle<D: Device>(lock: CoMutex<ImageRule<D>>, passes: Vec<Pass<ImageRule
     ensures shows { (lines : List Step) (size : ℕ) (ids : List ℕ) (rows : List (List (List ℕ)))
         → HaveRetired D.bytes lock lines size ids rows passes.items
         → ShowsRetired D.bytes lines size ids rows (built_of lock) result }
+    ensures untouched { AreUnused passes.items → result ≡ built_of lock }
 {
     lock.close(passes)
 }

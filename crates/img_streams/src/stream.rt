@@ -57,6 +57,8 @@ impl<D: Device> Stream<ImageRule<D>> {
     /// The coroutine of a stream that has made no call yet: of its pass and its number with its home, its id in the script,
     /// and its memory.
     pub fn of(pass: Pass<ImageRule<D>>, co: CoId, id: u32, room: Room) -> Stream<ImageRule<D>>
+        ensures is { (result.pass ≡ pass) × (result.co ≡ co) × (result.id ≡ id) }
+        ensures first { (result.at ≡ At.Between) × (result.line ≡ 0) × (result.index ≡ 0) }
         ensures of { (lock : CoMutex _ _ _) (script : Script) → CanStart lock script pass co id room → IsStreamOf D.bytes result (source lock script) }
     {
         Stream {
@@ -75,6 +77,13 @@ impl<D: Device> Stream<ImageRule<D>> {
 }
 
 impl<P: LockRule> Stream<P> {
+    /// The stream's number, which is the place of its stream line.
+    pub fn number(&self) -> u32
+        ensures { result ≡ self.now.co.co }
+    {
+        self.co.co
+    }
+
     pub(crate) fn apart(self) -> (Pass<P>, Vec<Vec<u8>>)
         ensures pass { result.0 ≡ self.pass }
         ensures filled { result.1 ≡ self.filled }

@@ -19,7 +19,7 @@ invariant_of-self g c =
     rw c.note.ensures.entries (record {
       sound = sound_refused g.D.Device.bytes _ c.self.invariant.sound c.args.stream known Einval c.of-before.result c.of-after.result free
           (ap (λ s. s.value) c.of-before.ensures) (ap (λ s. s.value) c.of-after.ensures);
-      charged = charged_refused g.D.Device.extent g.D.Device.faults g.D.Device.size_faults _ c.self.invariant.charged c.args.stream
+      charged = charged_refused g.D.Device.extent g.D.Device.faults g.D.Device.size_faults g.D.Device.calls _ c.self.invariant.charged c.args.stream
           (omega (arith, known, c.self.invariant.sound.streams)) Einval c.of-before.result c.of-after.result refl;
     })
 
@@ -51,7 +51,7 @@ invariant_of-self-in-Got g c =
           (within_begun c.self.inside.size c.args.stream c.args.request.now c.begin-present.result c.begin-present.ensures
           (not_past c.reaches_past.result _ _ c.reaches_past.ensures c.if-reaches_past.false))
           (rw (← c.self.view_is) at c.requires.due);
-      charged = charged_phase g.D.Device.extent g.D.Device.faults g.D.Device.size_faults _ c.self.invariant.charged c.args.stream
+      charged = charged_phase g.D.Device.extent g.D.Device.faults g.D.Device.size_faults g.D.Device.calls _ c.self.invariant.charged c.args.stream
           (omega (arith, known, c.self.invariant.sound.streams)) (Active c.begin-present.result) c.ask.new.access (ap has_failed free)
           (ap (λ (p : Present). is_failed p.stage) c.begin-present.ensures);
     }
@@ -68,7 +68,7 @@ invariant_of-self-in-Queued g c =
             ap (λ (p : Present). p.stage) c.begin-present.ensures,
           )
           (rw (← c.self.view_is) at c.requires.due);
-      charged = charged_phase g.D.Device.extent g.D.Device.faults g.D.Device.size_faults _ c.self.invariant.charged c.args.stream
+      charged = charged_phase g.D.Device.extent g.D.Device.faults g.D.Device.size_faults g.D.Device.calls _ c.self.invariant.charged c.args.stream
           (omega (arith, known, c.self.invariant.sound.streams)) (Waiting c.begin-present.result) c.ask.new.access (ap has_failed free) refl;
     }
 

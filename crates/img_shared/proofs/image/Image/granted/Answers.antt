@@ -21,7 +21,7 @@ invariant_of-self g c =
     record {
       sound = sound_granted g.D.Device.bytes _ sound c.args.stream known c.in-Waiting.present c.woken.new.self waits has c.woken.ensures.room
           (λ j. woken_granted c.woken.result j (hold_of c.self.inside.access j) (hold_of c.woken.new.self j) (c.woken.ensures.all j));
-      charged = charged_phase g.D.Device.extent g.D.Device.faults g.D.Device.size_faults _ c.self.invariant.charged c.args.stream below (Active c.in-Waiting.present) c.woken.new.self
+      charged = charged_phase g.D.Device.extent g.D.Device.faults g.D.Device.size_faults g.D.Device.calls _ c.self.invariant.charged c.args.stream below (Active c.in-Waiting.present) c.woken.new.self
           (ap has_failed waits)
           (ap is_failed (subst (IsInside c.self.inside.size c.args.stream) waits (sound.inside c.args.stream)).1);
     }

@@ -24,7 +24,7 @@ invariant_of-self g c =
       sound = sound_left g.D.Device.bytes _ sound c.args.stream known _ c.of-before.result c.of-after.result c.of.result.value c.unlock-woken.new.self
           c.unlock-woken.ensures.room (ap (λ s. s.value) c.of-before.ensures) c.of.ensures (ap (λ s. s.value) c.of-after.ensures) c.unlock-woken.ensures.own
           (λ j ne. woken_granted c.unlock-woken.result j (hold_of c.self.inside.access j) (hold_of c.unlock-woken.new.self j) (c.unlock-woken.ensures.others j ne));
-      charged = charged_left g.D.Device.extent g.D.Device.faults g.D.Device.size_faults _ c.self.invariant.charged c.args.stream below
+      charged = charged_left g.D.Device.extent g.D.Device.faults g.D.Device.size_faults g.D.Device.calls _ c.self.invariant.charged c.args.stream below
           c.in-Active.present c.of-before.result c.of-after.result c.of.result.value c.unlock-woken.new.self active ended;
     })
 

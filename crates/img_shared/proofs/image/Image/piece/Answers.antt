@@ -1,5 +1,7 @@
-use Rattle.std.proofs.Common.{◌≡◌, ◌<◌, ◌∙◌, sym, ap, subst, length, arith}
+use Rattle.std.proofs.Common.{◌≡◌, ◌+◌, ◌<◌, ◌∙◌, sym, ap, subst, length, arith}
 use Rattle.std.proofs.lemmas.List.{get_or_default}
+use Rattle.aio_words.specs.Called.{failures_in}
+use Rattle.img_requests.proofs.CallCounts.{MakesCall-sizes, MakesCall-failures}
 use Rattle.img_requests.specs.declared.present.Present.{Present}
 use Rattle.img_requests.specs.Pieces.{done_after, stage_after}
 use Rattle.img_requests.specs.Presents.{present_of}
@@ -7,7 +9,7 @@ use Rattle.img_requests.specs.declared.present.Stage.TheVariants.{Begun}
 use Rattle.img_shared.specs.declared.phases.Phase.TheVariants.{Idle}
 use Rattle.img_shared.specs.Phases.{phase_at, held_by, done_in}
 use Rattle.img_shared.specs.Soundness.{IsInside}
-use Rattle.img_shared.proofs.Charged.{charged_piece, cause_of}
+use Rattle.img_shared.proofs.Charged.{charged_piece, cause_of, failed_as}
 use Rattle.img_shared.proofs.Others.{others_piece}
 use Rattle.img_shared.proofs.Sounds.{sound_piece}
 use Rattle.img_shared.proofs.Steps.{kept_reading, same_present, within_piece}
@@ -34,11 +36,14 @@ invariant_of-self g c =
           (c.after-answer.ensures.present
           ∙ ap (λ answer. record c.in-Active.present { done = done_after answer c.in-Active.present.done c.min-n.result; stage = stage_after answer }) c.after-answer.ensures.answer))
           (λ reads. kept_reading c.args.request.now _ _ c.serve_piece.result _ _ c.serve_piece.ensures.put c.serve_piece.ensures.kept (ap (λ (p : Present). held_by p.kind) (sym present) ∙ reads));
-      charged = charged_piece g.D.Device.extent g.D.Device.faults g.D.Device.size_faults _ c.self.invariant.charged c.args.stream below
+      charged = charged_piece g.D.Device.extent g.D.Device.faults g.D.Device.size_faults g.D.Device.calls _ c.self.invariant.charged c.args.stream below
           c.in-Active.present c.after-answer.result.1 c.after-answer.result.0 c.serve_piece.new.device active stage
           (ap (λ (p : Present). p.stage) c.after-answer.ensures.present)
           c.serve_piece.ensures.extent c.serve_piece.ensures.sizes c.serve_piece.ensures.counted
-          (cause_of c.serve_piece.result c.is_ok-served.result _ _ _ c.after-answer.result.0 c.is_ok-served.ensures.value c.after-answer.ensures.answer c.serve_piece.ensures.cause);
+          (cause_of c.serve_piece.result c.is_ok-served.result _ _ _ c.after-answer.result.0 c.is_ok-served.ensures.value c.after-answer.ensures.answer c.serve_piece.ensures.cause)
+          (MakesCall-sizes _ _ _ _ _ _ c.serve_piece.ensures.calls)
+          (MakesCall-failures _ _ _ _ _ _ c.serve_piece.ensures.calls
+          ∙ ap (λ n. failures_in (g.D.Device.calls c.self.inside.device) + n) (failed_as c.serve_piece.result c.is_ok-served.result _ _ c.after-answer.result.0 c.is_ok-served.ensures.value c.after-answer.ensures.answer));
     }
 
 pub returns-clause-others : goal.returns-clause-others

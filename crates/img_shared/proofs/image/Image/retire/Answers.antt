@@ -13,5 +13,5 @@ invariant_of-self g c =
     let below : c.args.stream < length c.self.inside.phases.items = omega (arith, known, c.self.invariant.sound.streams) in
     record {
       sound = sound_retired g.D.Device.bytes _ c.self.invariant.sound c.args.stream known free all;
-      charged = charged_phase g.D.Device.extent g.D.Device.faults g.D.Device.size_faults _ c.self.invariant.charged c.args.stream below Retired _ (ap has_failed free) refl;
+      charged = charged_phase g.D.Device.extent g.D.Device.faults g.D.Device.size_faults g.D.Device.calls _ c.self.invariant.charged c.args.stream below Retired _ (ap has_failed free) refl;
     }

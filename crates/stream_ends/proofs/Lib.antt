@@ -1,0 +1,5 @@
+pub mod Carrying
+pub mod Places
+pub mod Scripts
+pub mod Starting
+pub mod Stopping
