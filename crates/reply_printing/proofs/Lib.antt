@@ -1,0 +1,5 @@
+mod FoundReplies
+mod LinkedPlaces
+mod NextLines
+mod StreamCounts
+pub mod ReadScripts
