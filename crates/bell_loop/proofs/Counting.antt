@@ -123,6 +123,7 @@ module _ (sizes : Sizes) (tag : ℕ) (a b : Known) (lot : ℕ) (flags : Flags) (
       calm = λ alone calm.
           let begun = NoneAnnounced-entry (New lot home tag) a.seen (λ k. refl) calm.announced in
           subst Calm (sym (seen_alone alone)) record {
+            none_out = calm.none_out;
             announced = NoneAnnounced-enqueue sizes lot ToCallOnce flags false (New lot home tag ∷ a.seen) first (legal_alone alone) begun;
             lots = Lots-placed lot tag flags a.seen calm.lots;
           };

@@ -3,7 +3,7 @@ use Rattle.std.proofs.Common.{◌≡◌, ℕ, Bool, true, false, cond, eqb, List
 use Rattle.aio_model.specs.declared.flags.Flags.{Flags}
 use Rattle.aio_model.specs.LoopHistory.{Sizes, Asked, Entry, Enqueue, Put, Cancel, SetEvent, ClearEvent, History}
 use Rattle.aio_model.specs.LoopFlags.{flags_of, enqueues}
-use Rattle.aio_model.specs.LoopLists.{is_set}
+use Rattle.aio_model.specs.LoopLists.{is_set, out_of}
 use Rattle.aio_model.specs.LoopLegal.{IsLegal}
 use Rattle.aio_model.specs.LoopLog.{history_of, flags_before, enqueued_log, canceled_log, set_log, is_set_in, cleared_log}
 use Rattle.aio_model.specs.LoopSeats.{home, entries_of}
@@ -16,7 +16,7 @@ use Rattle.aio_core.specs.Calls.{TableState, SeatState, IsSeatOf}
 use Rattle.aio_bh.specs.Enqueuing.{Stands, enqueue_entries}
 use Rattle.aio_bh.proofs.Entries.{none_of_own}
 use Rattle.bell_loop.specs.Running.{IsAlone, Calm, Lots, Idles, GoesTo, SameButSeen}
-use Rattle.bell_loop.proofs.Held.{NoneAnnounced-entry, NoneAnnounced-enqueue, Lots-enqueue}
+use Rattle.bell_loop.proofs.Held.{NoneAnnounced-entry, NoneAnnounced-enqueue, Lots-enqueue, out-enqueue}
 use Rattle.bell_loop.proofs.Alone.{alone_parts, none_else}
 use Rattle.bell_loop.proofs.Logs.{history_of-made, enqueued-made}
 
@@ -65,6 +65,7 @@ Goes-enqueued i asked flags a b number stands =
           let just : s.rest ≡ enqueue_made i asked flags = sym parts.0 ∙ ap (λ n. entries_of n s.rest) (sym number) ∙ s.just_these ∙ ap (λ n. enqueue_entries i asked n flags) number in
           let seen_is : b.seen ≡ enqueue_made i asked flags ++ a.seen = s.longer ∙ ap (λ l. l ++ a.seen) just in
           subst Calm (sym seen_is) record {
+            none_out = out-enqueue i asked flags flags.pending a.seen ∙ calm.none_out;
             announced = NoneAnnounced-enqueue a.sizes i asked flags flags.pending a.seen refl (subst (IsLegal a.sizes) seen_is s.legal) calm.announced;
             lots = Lots-enqueue (λ _. ⊥) i asked flags flags.pending a.seen calm.lots;
           };
@@ -76,9 +77,9 @@ Idles-enqueued entries table a b idles of still stands =
     (Idles-after table a b idles of same stands.stands.stands.legal, same)
 
 -- one entry more, which is no enqueue
-calm_more : (e : Entry) (h : History) → ((i : ℕ) → enqueues i e ≡ false) → Lots (λ _. ⊥) (e ∷ h) → Calm h → Calm (e ∷ h)
-calm_more e h quiet lots calm =
-    record { announced = NoneAnnounced-entry e h quiet calm.announced; lots = lots }
+calm_more : (e : Entry) (h : History) → ((i : ℕ) → enqueues i e ≡ false) → out_of (e ∷ h) ≡ out_of h → Lots (λ _. ⊥) (e ∷ h) → Calm h → Calm (e ∷ h)
+calm_more e h quiet out lots calm =
+    record { announced = NoneAnnounced-entry e h quiet calm.announced; none_out = out ∙ calm.none_out; lots = lots }
 
 -- one entry was made
 made_alone : (e : Entry) (a b : Known) → a.first ≡ 64 → a.count ≡ 1 → Makes e a b → IsAlone b.seen → b.seen ≡ e ∷ a.seen
@@ -96,7 +97,7 @@ Goes-canceled i flags a b number one cancels = record {
       let legal : IsLegal a.sizes (Cancel i home flags ∷ a.seen) = subst (IsLegal a.sizes) seen_is cancels.makes.legal in
       let told : flags ≡ flags_before i log = legal.0.1 ∙ ap (flags_of i) (sym is) in
       (ap (λ f. Cancel i home f ∷ history_of log) (sym told) ∙ ap (λ h. Cancel i home flags ∷ h) is ∙ sym seen_is, told);
-  calm = λ alone calm. subst Calm (sym (made_alone (Cancel i a.first flags) a b number one cancels.makes alone)) (calm_more (Cancel i a.first flags) a.seen (λ k. refl) calm.lots calm);
+  calm = λ alone calm. subst Calm (sym (made_alone (Cancel i a.first flags) a b number one cancels.makes alone)) (calm_more (Cancel i a.first flags) a.seen (λ k. refl) refl calm.lots calm);
 }
 
 pub Goes-set : (e : ℕ) (a b : Known) → a.first ≡ 64 → a.count ≡ 1 → Makes (SetEvent e a.first) a b → GoesTo (set_log e home) (λ _. Unit {0}) a.seen b.seen
@@ -106,7 +107,7 @@ Goes-set e a b number one makes = record {
   at = λ alone log is.
       let seen_is : b.seen ≡ SetEvent e home ∷ a.seen = made_alone (SetEvent e a.first) a b number one makes alone ∙ ap (λ n. SetEvent e n ∷ a.seen) number in
       (ap (λ h. SetEvent e home ∷ h) is ∙ sym seen_is, tt);
-  calm = λ alone calm. subst Calm (sym (made_alone (SetEvent e a.first) a b number one makes alone)) (calm_more (SetEvent e a.first) a.seen (λ k. refl) calm.lots calm);
+  calm = λ alone calm. subst Calm (sym (made_alone (SetEvent e a.first) a b number one makes alone)) (calm_more (SetEvent e a.first) a.seen (λ k. refl) refl calm.lots calm);
 }
 
 pub Goes-cleared : (e found : ℕ) (was : Bool) (a b : Known) → a.first ≡ 64 → a.count ≡ 1 → was ≡ eqb found 1 → ClearsEvent e found a b → GoesTo (cleared_log e) (λ log. was ≡ is_set_in e log) a.seen b.seen
@@ -118,5 +119,5 @@ Goes-cleared e found was a b number one is_was clears = record {
       let legal : IsLegal a.sizes (ClearEvent e was ∷ a.seen) = subst (IsLegal a.sizes) seen_is clears.makes.legal in
       let told : was ≡ is_set_in e log = legal.0 ∙ ap (is_set e) (sym is) in
       (ap (λ w. ClearEvent e w ∷ history_of log) (sym told) ∙ ap (λ h. ClearEvent e was ∷ h) is ∙ sym seen_is, told);
-  calm = λ alone calm. subst Calm (sym (made_alone (ClearEvent e (eqb found 1)) a b number one clears.makes alone)) (calm_more (ClearEvent e (eqb found 1)) a.seen (λ k. refl) calm.lots calm);
+  calm = λ alone calm. subst Calm (sym (made_alone (ClearEvent e (eqb found 1)) a b number one clears.makes alone)) (calm_more (ClearEvent e (eqb found 1)) a.seen (λ k. refl) refl calm.lots calm);
 }

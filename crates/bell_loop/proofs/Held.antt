@@ -6,7 +6,7 @@ use Rattle.aio_model.specs.declared.loop_scripts.ActKind.{ActKind}
 use Rattle.aio_model.specs.declared.loop_scripts.ActKind.TheVariants.{Schedule, Idle, Delete, Cancel as CancelOf, Nest}
 use Rattle.aio_model.specs.LoopHistory.{Sizes, Asked, ToCall, ToCallIdle, ToDelete, Entry, Enqueue, Put, Cancel, History}
 use Rattle.aio_model.specs.LoopFlags.{is_pending, ends_round, enqueues, puts}
-use Rattle.aio_model.specs.LoopLists.{was_put}
+use Rattle.aio_model.specs.LoopLists.{was_put, is_set, out_of}
 use Rattle.aio_model.specs.LoopLegal.{IsLegal, MayAsk}
 use Rattle.aio_model.specs.LoopSeats.{home}
 use Rattle.aio_model.specs.LoopActs.{Add, made_by}
@@ -117,3 +117,27 @@ StackBelow-acts sizes (what ∷ todo) made h adds legal before =
     let here : made ++ h ≡ adds.1 ++ (made_by what adds.0 ++ h) = ap (λ m. m ++ h) adds.2 ∙ append_assoc adds.1 (made_by what adds.0) h in
     let legal_here : IsLegal sizes (adds.1 ++ (made_by what adds.0 ++ h)) = subst (IsLegal sizes) here legal in
     subst (StackBelow sizes) (sym here) (StackBelow-acts sizes todo adds.1 (made_by what adds.0 ++ h) adds.3 legal_here (StackBelow-act sizes what adds.0 h (legal_cut sizes adds.1 (made_by what adds.0 ++ h) legal_here) before))
+
+-- What is out, and which events are set.
+
+pub out-enqueue : (k : ℕ) (asked : Asked) (flags : Flags) (b : Bool) (h : History) → out_of (cond b (Enqueue k asked home flags ∷ []) (Put k home ∷ (Enqueue k asked home flags ∷ [])) ++ h) ≡ out_of h
+out-enqueue k asked flags true h = refl
+out-enqueue k asked flags false h = refl
+
+set-enqueue : (e k : ℕ) (asked : Asked) (flags : Flags) (b : Bool) (h : History) → is_set e (cond b (Enqueue k asked home flags ∷ []) (Put k home ∷ (Enqueue k asked home flags ∷ [])) ++ h) ≡ is_set e h
+set-enqueue e k asked flags true h = refl
+set-enqueue e k asked flags false h = refl
+
+set-act : (e : ℕ) (what : ActKind) (was : Flags) (h : History) → is_set e (made_by what was ++ h) ≡ is_set e h
+set-act e (Schedule k) was h = set-enqueue e k ToCall was was.pending h
+set-act e (Idle k) was h = set-enqueue e k ToCallIdle was was.pending h
+set-act e (Delete k) was h = set-enqueue e k ToDelete was was.pending h
+set-act e (CancelOf k) was h = refl
+set-act e Nest was h = refl
+
+-- an action leaves the events
+pub set-acts : (e : ℕ) (todo : List ActKind) (made h : History) → Add todo made → is_set e (made ++ h) ≡ is_set e h
+set-acts e [] made h none = ap (λ m. is_set e (m ++ h)) none
+set-acts e (what ∷ todo) made h adds =
+    let here : made ++ h ≡ adds.1 ++ (made_by what adds.0 ++ h) = ap (λ m. m ++ h) adds.2 ∙ append_assoc adds.1 (made_by what adds.0) h in
+    ap (is_set e) here ∙ set-acts e todo adds.1 (made_by what adds.0 ++ h) adds.3 ∙ set-act e what adds.0 h

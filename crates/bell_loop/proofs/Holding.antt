@@ -5,7 +5,7 @@ use Rattle.std.proofs.lemmas.List.{append_cancel_right}
 use Rattle.aio_model.specs.declared.loop_scripts.ActKind.{ActKind}
 use Rattle.aio_model.specs.LoopHistory.{Sizes, Entry, New, Enqueue, Put, Cancel, Take, Dequeue, Free, SetEvent, ClearEvent, History}
 use Rattle.aio_model.specs.LoopFlags.{is_lot, lives, is_pending, enqueues}
-use Rattle.aio_model.specs.LoopLists.{is_announced, stack_of, out_of}
+use Rattle.aio_model.specs.LoopLists.{is_announced, stack_of, out_of, is_set}
 use Rattle.aio_model.specs.FlagsWord.{bit}
 use Rattle.aio_model.specs.LoopLaws.{times_of}
 use Rattle.aio_model.proofs.AnnouncedOnce.{announced_once}
@@ -18,7 +18,7 @@ use Rattle.aio_model.proofs.Rounds.{legal_cut}
 use Rattle.bell_loop.specs.Running.{IsAlone, NoneAnnounced, Lots, StackBelow}
 use Rattle.bell_loop.proofs.Alone.{alone_parts, none_else}
 use Rattle.bell_loop.proofs.Depths.{Runs-split}
-use Rattle.bell_loop.proofs.Held.{NoneAnnounced-entry, NoneAnnounced-acts, Lots-acts, StackBelow-acts}
+use Rattle.bell_loop.proofs.Held.{NoneAnnounced-entry, NoneAnnounced-acts, Lots-acts, StackBelow-acts, set-acts}
 
 lot_above : (sizes : Sizes) (i : ℕ) → is_lot sizes i ≡ true → sizes.handles ≤ i
 lot_above sizes i lot = ltb-false i sizes.handles (no_handle (ltb i sizes.handles) (ltb i (sizes.handles + sizes.lots)) lot)
@@ -88,7 +88,7 @@ module _ (acts : ℕ → List ActKind) (sizes : Sizes) where
     pub longer : b.log ≡ more ++ a.log
     pub seen : b.seen ≡ added ++ a.seen
     pub runs : IsAlone b.seen → IsLegal sizes b.seen → (w w' : Waiting) → Runs (DoesActs acts) w more w'
-        → (NoneAnnounced a.seen → NoneAnnounced b.seen) × (Lots X a.seen → Lots Y b.seen) × (StackBelow sizes a.seen → StackBelow sizes b.seen)
+        → (NoneAnnounced a.seen → NoneAnnounced b.seen) × (Lots X a.seen → Lots Y b.seen) × (StackBelow sizes a.seen → StackBelow sizes b.seen) × ((e : ℕ) → is_set e b.seen ≡ is_set e a.seen)
 
   Holds-same : (X : ℕ → Type 0) (a b : Place) → b ≡ a → Holds X X a b
   Holds-same X a b same = record {
@@ -98,7 +98,7 @@ module _ (acts : ℕ → List ActKind) (sizes : Sizes) where
     seen = ap (λ (p : Place). p.seen) same;
     runs = λ alone legal w w' runs.
         let is : b.seen ≡ a.seen = ap (λ (p : Place). p.seen) same in
-        (subst NoneAnnounced (sym is), subst (Lots X) (sym is), subst (StackBelow sizes) (sym is));
+        (subst NoneAnnounced (sym is), subst (Lots X) (sym is), subst (StackBelow sizes) (sym is), λ e. ap (is_set e) is);
   }
 
   Holds-then : (X Y Z : ℕ → Type 0) (a b c : Place) → Holds X Y a b → Holds Y Z b c → Holds X Z a c
@@ -113,7 +113,7 @@ module _ (acts : ℕ → List ActKind) (sizes : Sizes) where
         let legal_mid : IsLegal sizes b.seen = legal_cut sizes then.added b.seen (subst (IsLegal sizes) then.seen legal) in
         let one = first.runs alone_mid legal_mid w parts.0 parts.1 in
         let two = then.runs alone legal parts.0 w' parts.2 in
-        (λ h. two.0 (one.0 h), λ h. two.1 (one.1 h), λ h. two.2 (one.2 h));
+        (λ h. two.0 (one.0 h), λ h. two.1 (one.1 h), λ h. two.2 (one.2 h), λ e. two.3 e ∙ one.3 e);
   }
 
   -- home made one entry
@@ -122,15 +122,15 @@ module _ (acts : ℕ → List ActKind) (sizes : Sizes) where
       let parts = alone_parts (e ∷ []) (others ++ a.seen) (subst IsAlone seen alone) in
       seen ∙ ap (λ l. e ∷ (l ++ a.seen)) (none_else others (alone_parts others a.seen parts.1).0 none)
 
-  Holds-entry : (X Y : ℕ → Type 0) (e : Entry) (others : History) (a b : Place) → ((i : ℕ) → enqueues i e ≡ false) → ((h : History) → Lots X h → Lots Y (e ∷ h)) → ((h : History) → StackBelow sizes h → StackBelow sizes (e ∷ h)) → entries_of home others ≡ [] → b.seen ≡ e ∷ (others ++ a.seen) → b.log ≡ a.log → Holds X Y a b
-  Holds-entry X Y e others a b quiet lots stack none seen log = record {
+  Holds-entry : (X Y : ℕ → Type 0) (e : Entry) (others : History) (a b : Place) → ((i : ℕ) → enqueues i e ≡ false) → ((h : History) → Lots X h → Lots Y (e ∷ h)) → ((h : History) → StackBelow sizes h → StackBelow sizes (e ∷ h)) → ((k : ℕ) (h : History) → is_set k (e ∷ h) ≡ is_set k h) → entries_of home others ≡ [] → b.seen ≡ e ∷ (others ++ a.seen) → b.log ≡ a.log → Holds X Y a b
+  Holds-entry X Y e others a b quiet lots stack events none seen log = record {
     more = [];
     added = e ∷ others;
     longer = log;
     seen = seen;
     runs = λ alone legal w w' runs.
         let is : b.seen ≡ e ∷ a.seen = one_entry e others a b none seen alone in
-        (λ h. subst NoneAnnounced (sym is) (NoneAnnounced-entry e a.seen quiet h), λ h. subst (Lots Y) (sym is) (lots a.seen h), λ h. subst (StackBelow sizes) (sym is) (stack a.seen h));
+        (λ h. subst NoneAnnounced (sym is) (NoneAnnounced-entry e a.seen quiet h), λ h. subst (Lots Y) (sym is) (lots a.seen h), λ h. subst (StackBelow sizes) (sym is) (stack a.seen h), λ k. ap (is_set k) is ∙ events k a.seen);
   }
 
   Holds-enters : (X : ℕ → Type 0) (lent : Lent) (answer : Answer) (a b : Place) → Enters lent answer a b → Holds X X a b
@@ -145,7 +145,7 @@ module _ (acts : ℕ → List ActKind) (sizes : Sizes) where
         let is : b.seen ≡ enters.made ++ a.seen = enters.seen ∙ ap (λ l. l ++ a.seen) just in
         let legal_here : IsLegal sizes (enters.made ++ a.seen) = subst (IsLegal sizes) is legal in
         let adds = runs.2.adds in
-        (λ h. subst NoneAnnounced (sym is) (NoneAnnounced-acts sizes _ enters.made a.seen adds legal_here h), λ h. subst (Lots X) (sym is) (Lots-acts X _ enters.made a.seen adds h), λ h. subst (StackBelow sizes) (sym is) (StackBelow-acts sizes _ enters.made a.seen adds legal_here h));
+        (λ h. subst NoneAnnounced (sym is) (NoneAnnounced-acts sizes _ enters.made a.seen adds legal_here h), λ h. subst (Lots X) (sym is) (Lots-acts X _ enters.made a.seen adds h), λ h. subst (StackBelow sizes) (sym is) (StackBelow-acts sizes _ enters.made a.seen adds legal_here h), λ e. ap (is_set e) is ∙ set-acts e _ enters.made a.seen adds);
   }
 
   module _ (frame : Place → Place → Type 0) (frames : (X : ℕ → Type 0) (a b : Place) → frame a b → Holds X X a b) where
@@ -165,7 +165,7 @@ module _ (acts : ℕ → List ActKind) (sizes : Sizes) where
 
     Holds-free : (X : ℕ → Type 0) (i : ℕ) (lot : Bool) (a b : Place) → is_lot sizes i ≡ lot → MatchBool lot (Makes (Free i) a b) (b ≡ a) → Holds (λ k. X k ⊎ (k ≡ i)) X a b
     Holds-free X i true a b is free =
-        Holds-entry (λ k. X k ⊎ (k ≡ i)) X (Free i) free.others a b (λ k. refl) (Lots-freed X i) (λ h s. s) free.not_home free.seen free.log
+        Holds-entry (λ k. X k ⊎ (k ≡ i)) X (Free i) free.others a b (λ k. refl) (Lots-freed X i) (λ h s. s) (λ k h. refl) free.not_home free.seen free.log
     Holds-free X i false a b is same = record {
       more = [];
       added = [];
@@ -173,7 +173,7 @@ module _ (acts : ℕ → List ActKind) (sizes : Sizes) where
       seen = ap (λ (p : Place). p.seen) same;
       runs = λ alone legal w w' runs.
           let here : b.seen ≡ a.seen = ap (λ (p : Place). p.seen) same in
-          (subst NoneAnnounced (sym here), λ h. subst (Lots X) (sym here) (Lots-handle sizes X i a.seen (subst (IsLegal sizes) here legal) is h), subst (StackBelow sizes) (sym here));
+          (subst NoneAnnounced (sym here), λ h. subst (Lots X) (sym here) (Lots-handle sizes X i a.seen (subst (IsLegal sizes) here legal) is h), subst (StackBelow sizes) (sym here), λ e. ap (is_set e) here);
     }
 
     Holds-turn : (X : ℕ → Type 0) (nests : ℕ) (a b : Place) → Turn sizes frame nests a b → Holds X X a b
@@ -181,7 +181,7 @@ module _ (acts : ℕ → List ActKind) (sizes : Sizes) where
         let d = turn.dequeue in
         let i = turn.index in
         let Y : ℕ → Type 0 = λ k. X k ⊎ (k ≡ i) in
-        Holds-then X Y X a turn.dequeued b (Holds-entry X Y (Dequeue i turn.ran) d.others a turn.dequeued (λ k. refl) (Lots-dequeued X i turn.ran) (λ h s. s) d.not_home d.seen d.log)
+        Holds-then X Y X a turn.dequeued b (Holds-entry X Y (Dequeue i turn.ran) d.others a turn.dequeued (λ k. refl) (Lots-dequeued X i turn.ran) (λ h s. s) (λ k h. refl) d.not_home d.seen d.log)
         (Holds-then Y Y X turn.dequeued turn.ended b (Holds-calls Y i _ turn.ran nests turn.dequeued turn.ended turn.body) (Holds-free X i (is_lot sizes i) turn.ended b refl turn.free))
 
     Holds-turns : (X : ℕ → Type 0) (nests count : ℕ) (a b : Place) → Turns sizes frame nests count a b → Holds X X a b
@@ -191,7 +191,7 @@ module _ (acts : ℕ → List ActKind) (sizes : Sizes) where
 
   Holds-take : (X : ℕ → Type 0) (a b : Place) → Makes Take a b → Holds X X a b
   Holds-take X a b take =
-      Holds-entry X X Take take.others a b (λ k. refl) (λ h l. l) (λ h s i above. refl) take.not_home take.seen take.log
+      Holds-entry X X Take take.others a b (λ k. refl) (λ h l. l) (λ h s i above. refl) (λ k h. refl) take.not_home take.seen take.log
 
   pub Holds-frame : (depths : ℕ) (X : ℕ → Type 0) (a b : Place) → Frame sizes depths a b → Holds X X a b
   unfolding Frame

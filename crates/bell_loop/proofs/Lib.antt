@@ -11,3 +11,6 @@ pub mod Holding
 pub mod Counting
 pub mod Commanding
 pub mod Listing
+pub mod Dues
+pub mod Scanning
+pub mod Committing

@@ -20,7 +20,7 @@ use Rattle.aio_core.specs.Known.{is_running}
 use Rattle.aio_core.specs.Calls.{TableState, SeatState, IsSeatOf}
 use Rattle.bell_loop.specs.Running.{IsAlone, any_rings, Answers, Calm, Idles, StackBelow}
 use Rattle.aio_model.specs.LoopFlags.{lives}
-use Rattle.aio_model.specs.LoopLists.{out_of}
+use Rattle.aio_model.specs.LoopLists.{out_of, is_set}
 use Rattle.bell_loop.proofs.Holding.{Holds-frame, Below-frame, none_lives}
 use Rattle.bell_loop.proofs.Alone.{alone_parts, Grown-frame}
 use Rattle.bell_loop.proofs.Depths.{Keeps, Keeps-frame}
@@ -125,16 +125,24 @@ module _ (acts : ℕ → List ActKind) (n n' : Noted) (polled : Polled) (a b : K
       ∙ ap (λ r. is_rung log || r) (sym (grown.rings (subst IsAlone seen alone)) ∙ ap some_rings added_is) ∙ sym (rung_made between log)
 
   -- nothing is announced, and each lot that lives is pending; none does
-  pub calm_after : IsAlone b.seen → Calm a.seen → Calm b.seen
-  calm_after alone calm =
+  pub calm_after : IsAlone b.seen → out_of b.seen ≡ [] → Calm a.seen → Calm b.seen
+  calm_after alone none calm =
       let held = Holds-frame acts a.sizes 8 (λ _. ⊥) (start_of a.seen) end frame in
       let log_is : end.log ≡ held.more = held.longer ∙ append-nil held.more in
       let kept = held.runs (subst IsAlone seen alone) (subst (IsLegal a.sizes) seen legal) [] [] (subst (λ l. Runs (DoesActs acts) [] l []) log_is acted) in
-      subst Calm (sym seen) record { announced = kept.0 calm.announced; lots = kept.1 calm.lots }
+      subst Calm (sym seen) record { announced = kept.0 calm.announced; none_out = ap out_of (sym seen) ∙ none; lots = kept.1 calm.lots }
+
+  -- no event is set or cleared
+  pub events_after : IsAlone b.seen → (e : ℕ) → is_set e b.seen ≡ is_set e a.seen
+  events_after alone e =
+      let held = Holds-frame acts a.sizes 8 (λ _. ⊥) (start_of a.seen) end frame in
+      let log_is : end.log ≡ held.more = held.longer ∙ append-nil held.more in
+      let kept = held.runs (subst IsAlone seen alone) (subst (IsLegal a.sizes) seen legal) [] [] (subst (λ l. Runs (DoesActs acts) [] l []) log_is acted) in
+      ap (is_set e) seen ∙ kept.3 e
 
   pub none_lives_after : IsAlone b.seen → Calm a.seen → out_of b.seen ≡ [] → (i : ℕ) → lives i b.seen ≡ false
   none_lives_after alone calm none =
-      let after = calm_after alone calm in
+      let after = calm_after alone none calm in
       let below = Below-frame acts a.sizes 7 (start_of a.seen) end frame [] [] end.log (sym (append-nil end.log)) acted (subst IsAlone seen alone) (subst (IsLegal a.sizes) seen legal) in
       none_lives a.sizes b.seen legal after.announced after.lots (subst (StackBelow a.sizes) (sym seen) below) none
 
@@ -187,6 +195,10 @@ module _ {R L : Type 0} (lists_in : R → L) (acts_in : L → ℕ → List ActKi
   none_lives_then alone calm =
       none_lives_after (acts_in (lists_in r)) (noted_in r) (noted_in r') polled a b polls.end polls.goes_on.between polls.frame polls.seen the_runs.1 polls.progress polls.cut_nests polls.goes_on.seen polls.goes_on.legal none alone calm polls.none_out
 
+  pub events_then : IsAlone b.seen → (e : ℕ) → is_set e b.seen ≡ is_set e a.seen
+  events_then alone e =
+      events_after (acts_in (lists_in r)) (noted_in r) (noted_in r') polled a b polls.end polls.goes_on.between polls.frame polls.seen the_runs.1 polls.progress polls.cut_nests polls.goes_on.seen polls.goes_on.legal none alone e
+
   pub Answers-polled : (sizes : Sizes) → a.sizes ≡ sizes → Names (noted_in r).ran (noted_in r).more [] → Answers sizes (acts_in (lists_in r)) Poll (Ran (noted_in r').ran (noted_in r').more polled.progress polled.cut_nests) (noted_in r).rang (noted_in r').rang a.seen b.seen
   Answers-polled sizes same names = record {
     between = polls.goes_on.between;
@@ -198,7 +210,7 @@ module _ {R L : Type 0} (lists_in : R → L) (acts_in : L → ℕ → List ActKi
       stands = record {
         history = history_of-made polls.goes_on.between log ∙ ap (λ h. polls.goes_on.between ++ h) stands.history ∙ sym polls.goes_on.seen;
         rung = rung_after (acts_in (lists_in r)) (noted_in r) (noted_in r') polled a b polls.end polls.goes_on.between polls.frame polls.seen the_runs.1 polls.progress polls.cut_nests polls.goes_on.seen polls.goes_on.legal none alone log stands.rung;
-        calm = calm_after (acts_in (lists_in r)) (noted_in r) (noted_in r') polled a b polls.end polls.goes_on.between polls.frame polls.seen the_runs.1 polls.progress polls.cut_nests polls.goes_on.seen polls.goes_on.legal none alone stands.calm;
+        calm = calm_after (acts_in (lists_in r)) (noted_in r) (noted_in r') polled a b polls.end polls.goes_on.between polls.frame polls.seen the_runs.1 polls.progress polls.cut_nests polls.goes_on.seen polls.goes_on.legal none alone polls.none_out stands.calm;
       };
     };
   }

@@ -1,5 +1,5 @@
 -- A machine for loop scripts, and what its calls answer.
-use Rattle.std.specs.Prelude.{◌≡◌, ℕ, Bool, List, [], ◌++◌, map}
+use Rattle.std.specs.Prelude.{◌≡◌, ℕ, Bool, false, List, [], ◌++◌, length, map, slice_index_or}
 use Rattle.aio_model.specs.declared.kinds.Kind as asking
 use Rattle.aio_model.specs.declared.kinds.Kind.TheVariants.{Sched, Idle as IdleKind, Del}
 use Rattle.aio_model.specs.declared.loop_scripts.ActKind.{ActKind}
@@ -10,6 +10,7 @@ use Rattle.aio_model.specs.declared.loop_replies.LoopReply.{LoopReply}
 use Rattle.aio_model.specs.declared.ran_lists.Called.{Called}
 use Rattle.aio_model.specs.LoopHistory.{Sizes, History}
 use Rattle.aio_model.specs.LoopLog.{Log, history_of, is_rung}
+use Rattle.aio_model.specs.LoopLists.{is_set}
 use Rattle.aio_model.specs.LoopActs.{Waiting}
 use Rattle.aio_model.specs.LoopReplies.{Does}
 use Rattle.aio_core.specs.Calls.{TableState, SeatState}
@@ -25,14 +26,17 @@ pub record MachineState : Type 0 where
   pub seen : History
   pub rang : Bool
   pub living : ℕ
+  -- which events are set
+  pub marks : List Bool
 
 -- between two commands home idles, the pool and its passes are the loop's, and no callback waits
-pub record IsReady (table : TableState) (home : SeatState) (pool : PoolState) (giving placing : PassState) (lists : List (List ActKind)) (waiting : Waiting) : Type 0 where
+pub record IsReady (table : TableState) (home : SeatState) (pool : PoolState) (giving placing : PassState) (lists : List (List ActKind)) (waiting : Waiting) (marks : List Bool) : Type 0 where
   pub idles : Idles table home
   pub serves : ServesHome table.sizes pool giving
   pub places : IsPassOf pool placing
   pub can : CanRun table.sizes.handles lists waiting
   pub none : waiting ≡ []
+  pub marks_are : length marks ≡ table.sizes.events
 
 -- the log has the history that was seen, and the machine keeps what it tells
 pub record Stands (machine : MachineState) (log : Log) : Type 0 where
@@ -40,6 +44,7 @@ pub record Stands (machine : MachineState) (log : Log) : Type 0 where
   pub rung : machine.rang ≡ is_rung log
   pub living : machine.living ≡ living_in machine.sizes machine.seen
   pub calm : Calm machine.seen
+  pub events : (e : ℕ) → slice_index_or machine.marks e false ≡ is_set e machine.seen
 
 -- from the log on the command does what the definition says
 pub record Answered (script : LoopScript) (command : Command) (reply : LoopReply) (machine : MachineState) (log : Log) : Type 0 where
@@ -68,12 +73,12 @@ enqueue_command Del i = Delete i
 -- what a machine stands for
 abbrev pub state_of : {R : Type 0} → Machine R → MachineState
 state_of machine =
-    record { sizes = machine.table.sizes; lists = map (λ l. l.items) machine.callbacks.lists.now; seen = machine.home.seat.known.seen; rang = machine.callbacks.rang; living = machine.living }
+    record { sizes = machine.table.sizes; lists = map (λ l. l.items) machine.callbacks.lists.now; seen = machine.home.seat.known.seen; rang = machine.callbacks.rang; living = machine.living; marks = machine.marks }
 
 -- it may do a command
 abbrev pub Ready : {R : Type 0} → Machine R → Type 0
 Ready machine =
-    IsReady machine.table machine.home.seat machine.pool machine.giving machine.placing (map (λ l. l.items) machine.callbacks.lists.now) machine.callbacks.waiting
+    IsReady machine.table machine.home.seat machine.pool machine.giving machine.placing (map (λ l. l.items) machine.callbacks.lists.now) machine.callbacks.waiting machine.marks
 
 -- who was called in the last poll, and how many besides
 abbrev pub ran_in : {R : Type 0} → Machine R → List Called

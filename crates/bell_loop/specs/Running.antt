@@ -1,5 +1,5 @@
 -- A loop script's run on a shared loop, as far as home alone makes its history.
-use Rattle.std.specs.Prelude.{◌≡◌, ◌⊎◌, ◌≤◌, ◌+◌, ℕ, zero, suc, Bool, true, false, ◌||◌, List, [], ◌∷◌, ◌++◌}
+use Rattle.std.specs.Prelude.{◌≡◌, ◌⊎◌, ◌≤◌, ◌+◌, ℕ, zero, suc, Bool, true, false, ◌||◌, Option, None, is_some, List, [], ◌∷◌, ◌++◌, find}
 use Rattle.aio_model.specs.declared.loop_scripts.ActKind.{ActKind}
 use Rattle.aio_model.specs.declared.loop_scripts.Command.{Command}
 use Rattle.aio_model.specs.declared.loop_scripts.LoopScript.{LoopScript}
@@ -8,13 +8,13 @@ use Rattle.aio_model.specs.LoopHistory.{Sizes, History}
 use Rattle.aio_model.specs.LoopActs.{acts_of}
 use Rattle.aio_model.specs.LoopReplies.{Does, sizes_of}
 use Rattle.aio_model.specs.LoopSeats.{home, entries_of}
-use Rattle.aio_model.specs.LoopLists.{is_announced, stack_of}
-use Rattle.aio_model.specs.LoopFlags.{is_lot, is_pending, lives}
+use Rattle.aio_model.specs.LoopLists.{is_announced, stack_of, out_of}
+use Rattle.aio_model.specs.LoopFlags.{is_lot, is_pending, is_due, is_urgent, lives}
 use Rattle.aio_model.specs.FlagsWord.{bit}
 use Rattle.aio_model.specs.LoopLaws.{times_of}
 use Rattle.aio_model.specs.LoopFrame.{Entered}
 use Rattle.aio_model.specs.LoopLegal.{IsLegal}
-use Rattle.aio_model.specs.LoopLog.{Log, history_of, is_rung, begun_log}
+use Rattle.aio_model.specs.LoopLog.{Log, history_of, is_rung, begun_log, first_from}
 use Rattle.aio_model.specs.InFlight.{AtRest}
 use Rattle.aio_core.specs.Known.{Known, empty_stage, is_running}
 use Rattle.aio_core.specs.Calls.{TableState, SeatState, IsSeatOf}
@@ -53,9 +53,10 @@ abbrev pub StackBelow : Sizes → History → Type 0
 StackBelow sizes history =
     (i : ℕ) → sizes.handles ≤ i → times_of i (stack_of history) ≡ 0
 
--- between two commands nothing is announced, and each lot that lives is pending
+-- between two commands nothing is announced or out, and each lot that lives is pending
 pub record Calm (history : History) : Type 0 where
   pub announced : NoneAnnounced history
+  pub none_out : out_of history ≡ []
   pub lots : Lots (λ _. ⊥) history
 
 -- What was seen went on. Where home alone made it, what the log of before leads to is its log, and this was told of that log.
@@ -64,6 +65,17 @@ pub record GoesTo (moves : Log → Log) (Told : Log → Type 0) (seen seen_after
   pub longer : seen_after ≡ between ++ seen
   pub at : IsAlone seen_after → (log : Log) → history_of log ≡ seen → (history_of (moves log) ≡ seen_after) × Told log
   pub calm : IsAlone seen_after → Calm seen → Calm seen_after
+
+-- what was seen went on with what others made
+pub record OnlyOthers (seen seen_after : History) : Type 0 where
+  pub between : History
+  pub longer : seen_after ≡ between ++ seen
+  pub not_home : entries_of home between ≡ []
+
+-- What a scan found: the newest urgent one of the stack, and where there is none, whether an index is due.
+pub record Finds (sizes : Sizes) (urgent : Option ℕ) (idle : Bool) (seen : History) : Type 0 where
+  pub newest : urgent ≡ find (λ i. is_urgent i seen) (stack_of seen)
+  pub due : urgent ≡ None → idle ≡ is_some (first_from (λ i. is_due i seen) 0 (sizes.handles + sizes.lots))
 
 -- of what home knows nothing changed but what was seen and made, and which steps were done
 abbrev pub SameButSeen : Known → Known → Type 0

@@ -5,9 +5,11 @@ mod acting;
 mod callbacks;
 mod listed;
 mod machine;
+mod marks;
 mod stack;
 mod steps;
 mod tag;
+mod verdict;
 
 pub use listed::lists_of;
 pub use machine::Machine;

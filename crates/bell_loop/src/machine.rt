@@ -3,14 +3,17 @@ ghost use Rattle.std.specs.Prelude.{◌≡◌, ◌+◌, ◌≤◌, ◌<◌, ◌|
 ghost use Rattle.bell_loop.specs.Entering.{CanRun};
 ghost use Rattle.aio_model.specs.declared.loop_replies.LoopReply.{LoopReply};
 ghost use Rattle.aio_model.specs.declared.loop_scripts.Command.{Command};
+ghost use Rattle.aio_model.specs.LoopLines.{HasNoDeadline};
 ghost use Rattle.bell_loop.specs.Machines.{Answers, IsNew, Ready, state_of, ran_in, more_in, enqueue_command};
 
 use crate::callbacks::Callbacks;
+use crate::marks::Marks;
 use crate::steps;
 use crate::tag::Tag;
+use crate::verdict::verdict;
 use aio_bh::{LotBuilt, LotPass, LotPool, Polled};
 use aio_core::{Built, Home, LoopTable, Seat};
-use aio_model::{ActKind, Flags, Kind, NoMemory, RanList};
+use aio_model::{ActKind, Commit, Flags, Kind, NoMemory, RanList};
 use std::alloc::Global;
 use std::sync::Wait;
 
@@ -27,6 +30,8 @@ pub struct Machine<'a, R: Wait> {
     placing: LotPass,
     callbacks: Callbacks<'a, R>,
     living: u32,
+    /// Which events are set.
+    marks: Marks,
 }
 
 fn either(one: bool, other: bool) -> bool
@@ -66,6 +71,7 @@ impl<'a, R: Wait> Machine<'a, R> {
             return Err(NoMemory);
         };
         let callbacks = Callbacks::build(rt, alloc, lists)?;
+        let marks = Marks::build(alloc, events)?;
         let machine = Machine {
             rt,
             table,
@@ -75,6 +81,7 @@ impl<'a, R: Wait> Machine<'a, R> {
             placing,
             callbacks,
             living: 0,
+            marks,
         };
         Ok((machine, seat))
     }
@@ -127,6 +134,7 @@ impl<'a, R: Wait> Machine<'a, R> {
         ensures answers { Answers (Command.Set event) (LoopReply.WasSet event) (state_of self.old) (state_of self.new) }
     {
         steps::set(&self.table, &mut self.home.seat, event);
+        self.marks.mark(event, true);
         self.callbacks.rang = true;
     }
 
@@ -137,7 +145,9 @@ impl<'a, R: Wait> Machine<'a, R> {
         ensures ready { Ready self.new }
         ensures answers { Answers (Command.Clear event) (LoopReply.Cleared event result) (state_of self.old) (state_of self.new) }
     {
-        steps::clear(&self.table, &mut self.home, event)
+        let was = steps::clear(&self.table, &mut self.home, event);
+        self.marks.mark(event, false);
+        was
     }
 
     /// Whether a one-shot with this tag was placed. It wasn't where every lot lives.
@@ -176,5 +186,21 @@ impl<'a, R: Wait> Machine<'a, R> {
         );
         self.living = 0;
         polled
+    }
+
+    /// A commit that watches all events and has no deadline, the end of the sleep where it came to one, and an accept. The answer is
+    /// told from what a scan finds, and from what home itself set and enqueued since the last accept.
+    pub fn commit(&mut self) -> Commit
+        requires ready { Ready self.old }
+        ensures ready { Ready self.new }
+        ensures answers { Answers Command.Commit (LoopReply.Committed result) (state_of self.old) (state_of self.new) }
+        ensures line { HasNoDeadline result }
+    {
+        let scanned = steps::look(&self.table, &mut self.home);
+        let rang = self.callbacks.rang;
+        let answer = verdict(scanned.urgent, self.marks.first(), rang, scanned.idle);
+        steps::sleep_and_accept(&self.table, &mut self.home);
+        self.callbacks.rang = false;
+        answer
     }
 }

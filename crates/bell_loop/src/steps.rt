@@ -1,24 +1,28 @@
 //! The calls of home on the shared loop. Where home alone makes its history, each does to a log what the commands of a loop script are
 //! defined by.
-ghost use Rattle.std.specs.Prelude.{◌≡◌, ◌≤◌, ◌<◌, ℕ, [], false, map, MatchBool};
+ghost use Rattle.std.specs.Prelude.{◌≡◌, ◌≤◌, ◌<◌, ◌-◌, ◌^◌, ℕ, [], true, false, map, MatchBool};
 ghost use Rattle.aio_model.specs.declared.loop_replies.LoopReply.{LoopReply};
 ghost use Rattle.aio_model.specs.declared.loop_scripts.Command.{Command};
 ghost use Rattle.aio_model.specs.LoopLog.{flags_before, enqueued_log, canceled_log, set_log, is_set_in, cleared_log};
 ghost use Rattle.aio_model.specs.LoopSeats as Seats;
 ghost use Rattle.aio_model.specs.LoopFlags.{lives};
+ghost use Rattle.aio_model.specs.LoopLists.{is_set};
 ghost use Rattle.aio_core.specs.Standing.{asked_by};
 ghost use Rattle.aio_core.specs.Calls.{IsSeatOf};
+ghost use Rattle.aio_core.specs.Known.{is_running};
+ghost use Rattle.aio_core.specs.Scans.{SameButSleep};
 ghost use Rattle.aio_bh.specs.OneShots.{IsPoolFor, ServesHome};
 ghost use Rattle.lot_pool.specs.Pools.{IsPassOf};
 ghost use Rattle.bell_loop.specs.Entering.{acts_at, CanRun, Names};
-ghost use Rattle.bell_loop.specs.Running.{Answers, Calm, Idles, IsAlone, GoesTo, PlacesTag, SameButSeen};
+ghost use Rattle.aio_notify.specs.Commits.{IsAwakeBy};
+ghost use Rattle.bell_loop.specs.Running.{Answers, Calm, Finds, Idles, IsAlone, GoesTo, OnlyOthers, PlacesTag, SameButSeen};
 
 use crate::callbacks::Callbacks;
 use crate::tag::Tag;
 use aio_bh::{BottomHalves, LotPass, LotPool, Polled};
-use aio_core::{Home, LoopTable, Seat};
-use aio_model::{Flags, Kind};
-use aio_notify::LoopEvents;
+use aio_core::{Home, LoopTable, Scanned, Seat};
+use aio_model::{Commit, Flags, Kind};
+use aio_notify::{LoopEvents, Sleeping};
 use std::sync::Wait;
 
 /// An enqueue of a handle.
@@ -95,6 +99,7 @@ pub(crate) fn poll<'a, R: Wait>(
     ensures none { callbacks.new.waiting ≡ [] }
     ensures answers { Answers table.now.sizes (acts_at (map (λ l. l.items) callbacks.old.lists.now)) Command.Poll (LoopReply.Ran callbacks.new.ran callbacks.new.more result.progress result.cut_nests) callbacks.old.rang callbacks.new.rang home.old.seat.known.seen home.new.seat.known.seen }
     ensures none_lives { IsAlone home.new.seat.known.seen → Calm home.old.seat.known.seen → (i : ℕ) → lives i home.new.seat.known.seen ≡ false }
+    ensures events { IsAlone home.new.seat.known.seen → (e : ℕ) → is_set e home.new.seat.known.seen ≡ is_set e home.old.seat.known.seen }
 {
     table.poll(rt, pool, pass, home, callbacks)
 }
@@ -156,4 +161,40 @@ pub(crate) fn once<R: Wait>(
         }
     }
     unreachable!()
+}
+
+/// Looks at all that was pushed, as a home does that is about to sleep.
+pub(crate) fn look(table: &LoopTable<Tag>, home: &mut Home<Tag>) -> Scanned
+    requires idles { Idles table.now home.old.seat }
+    ensures idles { Idles table.now home.new.seat }
+    ensures others { OnlyOthers home.old.seat.known.seen home.new.seat.known.seen }
+    ensures finds { IsAlone home.new.seat.known.seen → Calm home.old.seat.known.seen → Finds table.now.sizes result.urgent result.idle home.new.seat.known.seen }
+{
+    table.scan(home)
+}
+
+/// Ends the sleep, where home committed to one.
+fn wake(table: &LoopTable<Tag>, home: &mut Home<Tag>, commit: Commit)
+    requires seat { IsSeatOf table.now home.old.seat }
+    requires awake { IsAwakeBy (2 ^ 64 - 1) table.now.sizes.events commit home.old.seat.known }
+    ensures seat { IsSeatOf table.now home.new.seat }
+    ensures running { is_running home.new.seat.known.sleep ≡ true }
+    ensures seen { home.new.seat.known.seen ≡ home.old.seat.known.seen }
+    ensures same { SameButSleep home.old.seat.known home.new.seat.known }
+{
+    match commit {
+        Commit::Sleep(_) => table.disarm(home),
+        Commit::Awake(_) => {}
+    }
+}
+
+/// A commit that watches all events and has no deadline, the end of the sleep where it came to one, and an accept.
+pub(crate) fn sleep_and_accept(table: &LoopTable<Tag>, home: &mut Home<Tag>)
+    requires idles { Idles table.now home.old.seat }
+    ensures idles { Idles table.now home.new.seat }
+    ensures others { OnlyOthers home.old.seat.known.seen home.new.seat.known.seen }
+{
+    let commit = table.commit(home, u64::MAX, None, 0);
+    wake(table, home, commit);
+    table.accept(home);
 }

@@ -1,4 +1,4 @@
-//! Loop scripts without a commit, and what their commands print.
+//! Loop scripts, and what their commands print.
 ghost use Rattle.std.specs.Prelude.{◌≡◌, ◌≤◌, [], length, map, IfOk};
 ghost use Rattle.bell_loop.specs.Entering.{CanRun};
 ghost use Rattle.bell_loop.specs.Machines.{Ready};
@@ -82,6 +82,10 @@ fn ring<R: Wait>(
             let placed = machine.once(tag);
             print_reply(sink, page, &LoopReply::Placed(tag, placed))
         }
+        Command::Commit => {
+            let commit = machine.commit();
+            print_reply(sink, page, &LoopReply::Committed(commit))
+        }
         Command::Set(event) if event < machine.events() => {
             machine.set(event);
             print_reply(sink, page, &LoopReply::WasSet(event))
@@ -126,7 +130,7 @@ type Row = (&'static str, &'static str);
 /// The newest is called first; a second schedule finds the first; a cancel leaves the index pending, and a deletion stays; who schedules
 /// itself is called in the next poll; a nested poll comes before the rest of its callback; an idle one is no progress; lots are free
 /// again after the poll; the fifth nest of a callback is cut, and the first of the eighth poll in one another.
-const ROWS: [Row; 12] = [
+const ROWS: [Row; 15] = [
     (
         "loop 3 0 0\nschedule 0\nschedule 1\nschedule 2\npoll\n",
         "schedule 0 was -----\nschedule 1 was -----\nschedule 2 was -----\npoll ran 2 1 0 progress yes cut 0\n",
@@ -158,6 +162,18 @@ const ROWS: [Row; 12] = [
     (
         "loop 1 0 4\nset 3\nclear 3\nclear 3\n",
         "set 3\nclear 3 was 1\nclear 3 was 0\n",
+    ),
+    (
+        "loop 1 0 0\nidle 0\nschedule 0\ncommit\ncommit\npoll\n",
+        "idle 0 was -----\nschedule 0 was PS--I\ncommit awake notified\ncommit sleep 10000000\npoll ran 0 progress no cut 0\n",
+    ),
+    (
+        "loop 1 0 4\nschedule 0\ncommit\npoll\ncommit\nset 3\ncommit\nclear 3\ncommit\n",
+        "schedule 0 was -----\ncommit awake urgent 0\npoll ran 0 progress yes cut 0\ncommit sleep forever\nset 3\ncommit awake event 3\nclear 3 was 1\ncommit sleep forever\n",
+    ),
+    (
+        "loop 1 0 0\nidle 0\ncancel 0\ncommit\ncommit\n",
+        "idle 0 was -----\ncancel 0 was PS--I\ncommit awake notified\ncommit sleep forever\n",
     ),
     (
         "loop 1 1 0\nonce 7\nonce 8\npoll\nonce 8\n",

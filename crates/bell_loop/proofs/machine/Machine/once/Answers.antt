@@ -7,5 +7,5 @@ pub returns-clause-answers : goal.returns-clause-answers
 returns-clause-answers g c =
     let old = c.args.self.now in
     Answers-once c.args.tag c.once-placed.result (state_of old) _
-    (ap (λ r. record { sizes = old.table.sizes; lists = map (λ l. l.items) old.callbacks.lists.now; seen = c.once-placed.new.seat.known.seen; rang = r; living = c.once-placed.new.living }) c.either-self.ensures)
+    (ap (λ r. record { sizes = old.table.sizes; lists = map (λ l. l.items) old.callbacks.lists.now; seen = c.once-placed.new.seat.known.seen; rang = r; living = c.once-placed.new.living; marks = old.marks }) c.either-self.ensures)
     c.once-placed.ensures.placed
