@@ -30,7 +30,7 @@ use Rattle.img_shared.specs.Phases.{hold_asked}
 use Rattle.aio_model.specs.RwTable.{wake_one, unlocked}
 use Rattle.aio_model.specs.Readers.{ReadersWriter}
 use Rattle.img_shared.specs.Notes.{Placement, Bytes, entries_from, told_in, note}
-use Rattle.img_shared.specs.Phases.{phase_at, CanLeave, taken_up}
+use Rattle.img_shared.specs.Phases.{phase_at, CanLeave, IsWaiting, taken_up}
 use Rattle.img_join.specs.Accounts.{IsAnsweredBy, AllAnswered, Going, Doing, Account}
 use Rattle.img_shared.proofs.Sounds.{phase_set}
 
@@ -114,12 +114,34 @@ for_one : (asked : List Asked) (id s size : ℕ) (phase : Phase) (told : Option 
 for_one asked id s size phase told index buffer request named doing other here =
     subst (λ (r : Request). Doing s size r buffer phase told) (some_same request other (sym named ∙ here)) doing
 
+-- a request that was queued
+pub waiting_present : (phase : Phase) → IsWaiting phase → (present : Present) × (phase ≡ Waiting present)
+waiting_present Idle waits = absurd waits
+waiting_present (Waiting present) waits = (present, refl)
+waiting_present (Active present) waits = absurd waits
+waiting_present Retired waits = absurd waits
+
+told_longer : (told : Option (List ℕ)) (size end : ℕ) → end ≤ size → IfSome told (λ all. size ≤ length all) → IfSome told (λ all. end ≤ length all)
+told_longer None size end within long = tt
+told_longer (Some all) size end within long = omega (arith, within, long)
+
 module _ {D : Type 0} (bytes : D → Option (List ℕ)) (asked : List Asked) (id s size requests : ℕ) where
   abbrev pub Acc : ImageState D → List (List ℕ) → List ℕ → Type 0
   Acc image buffers buffer = Account bytes asked id s size requests (note bytes image s) buffers buffer
 
   abbrev pub Names : ImageState D → Request → Type 0
   Names image request = request_named asked id (length (entries_from 0 s image.journal)) ≡ Some request
+
+  -- the stream retires: it has no request in progress
+  pub account_retired : (old new : ImageState D) → s < length old.phases → (buffers : List (List ℕ)) (before buffer : List ℕ) → Acc old buffers before
+      → new ≡ record old { homes = new.homes; phases = set old.phases s Retired } → Acc new buffers buffer
+  account_retired old new below buffers before buffer account is =
+      subst (λ (image : ImageState D). Acc image buffers buffer) (sym is) (record {
+        sized = account.sized;
+        many = account.many;
+        answered = account.answered;
+        doing = λ other here. subst (λ (p : Phase). Doing s size other buffer p (told_in p (bytes old.left) (bytes old.device))) (sym (phase_set old.phases s Retired below)) tt;
+      })
 
   module _ (old : ImageState D) (below : s < length old.phases) (buffers : List (List ℕ)) (request : Request) (named : Names old request) where
     -- another phase of the stream, and perhaps another device
@@ -160,18 +182,21 @@ module _ {D : Type 0} (bytes : D → Option (List ℕ)) (asked : List Asked) (id
           (account_phase (Waiting (begun_of s request)) old.device (hold_asked (kind_of request) s old.access).state before buffer account (refl, room))
 
       -- the hold is taken up
-      pub account_granted : (new : ImageState D) (present : Present) → phase_at old.phases s ≡ Waiting present
+      pub account_granted : (new : ImageState D) → IsWaiting (phase_at old.phases s)
           → end_of request ≤ old.size
           → new ≡ record old { phases = set old.phases s (taken_up (phase_at old.phases s)); access = (wake_one old.access).state }
           → bytes old.device ≡ bytes old.left
-          → IfSome (bytes old.device) (λ told. end_of request ≤ length told)
+          → IfSome (bytes old.device) (λ told. old.size ≤ length told)
           → Acc new buffers before
-      account_granted new present waits within is clean inside =
+      account_granted new waiting within is clean inside =
+          let found = waiting_present (phase_at old.phases s) waiting in
+          let present = found.0 in
+          let waits = found.1 in
           let was : Doing s size request before (Waiting present) (told_in (Waiting present) (bytes old.left) (bytes old.device)) =
           subst (λ (p : Phase). Doing s size request before p (told_in p (bytes old.left) (bytes old.device))) waits (account.doing request named) in
           let next : taken_up (phase_at old.phases s) ≡ Active (begun_of s request) = ap taken_up waits ∙ ap (λ (p : Present). Active p) was.0 in
           subst (λ (image : ImageState D). Acc image buffers before) (sym (is ∙ ap (λ (x : Phase). record old { phases = set old.phases s x; access = (wake_one old.access).state }) next))
-          (account_phase (Active (begun_of s request)) old.device (wake_one old.access).state before before account (begins before was.1 within clean inside))
+          (account_phase (Active (begun_of s request)) old.device (wake_one old.access).state before before account (begins before was.1 within clean (told_longer (bytes old.device) old.size (end_of request) within inside)))
 
       -- a piece is served
       pub account_piece : (new : ImageState D) (answer : Piece) (done : ℕ) (after : List ℕ)
@@ -246,9 +271,3 @@ module _ {D : Type 0} (bytes : D → Option (List ℕ)) (asked : List Asked) (id
           (subst (λ (d : D). Replied size request (bytes d) (bytes left.entry.after.value.value) (reply_of (mark_at p.stage (kind_of request) (length_of request) p.done) before)) (sym left.before)
           (subst (λ (d : D). Replied size request (bytes old.left) (bytes d) (reply_of (mark_at p.stage (kind_of request) (length_of request) p.done) before)) (sym left.after) good)))
           (phase_set old.phases s Idle below))
-
-      -- the stream retires
-      pub account_retired : (new : ImageState D) (buffer : List ℕ) → new ≡ record old { phases = set old.phases s Retired } → Acc new buffers buffer
-      account_retired new buffer is =
-          subst (λ (image : ImageState D). Acc image buffers buffer) (sym is)
-          (account_phase Retired old.device old.access before buffer account tt)

@@ -31,6 +31,11 @@ sum-le (x ∷ xs) (y ∷ ys) same each =
     let rest : sum xs ≤ sum ys = sum-le xs ys (omega arith) (λ i below. each (suc i) (omega arith)) in
     omega (arith, sum_by-cons (λ n. n) x xs, sum_by-cons (λ n. n) y ys, first, rest)
 
+-- the journal has no more entries than there are requests
+pub IsCounted-placed : {D : Type 0} {requests replied : List ℕ} {capacity : ℕ} {entries : List (Entry D)} → IsCounted requests replied capacity entries
+    → length entries ≤ sum requests
+IsCounted-placed {D} {requests} {replied} counted = omega (arith, sum-le replied requests counted.streams counted.within, counted.whole)
+
 -- what holds of each index of a list, after one number of it has changed
 EachIndex-set : (P : ℕ → Type 0) (xs : List ℕ) (k n : ℕ) → P k
     → ((i : ℕ) → i < length xs → i ≢ k → P i)

@@ -1,5 +1,5 @@
 -- What an image's invariant shows.
-use Rattle.std.proofs.Common.{◌≡◌, ℕ, set, List, [], ◌∷◌, ◌++◌, length, Option, refl}
+use Rattle.std.proofs.Common.{◌≡◌, ◌≤◌, ℕ, set, sum, List, [], ◌∷◌, ◌++◌, length, Option, refl}
 use Rattle.aio_model.proofs.Granted.{writer_alone}
 use Rattle.aio_model.specs.RwTable.{unlocked}
 use Rattle.img_requests.specs.declared.present.Present.{Present}
@@ -13,9 +13,12 @@ use Rattle.img_shared.specs.Phases.{phase_at}
 use Rattle.img_shared.specs.Soundness.{IsKept}
 
 pub whole_of : {D : Type 0} → (bytes : D → Option (List ℕ)) (extent faults size_faults : D → ℕ) (image : ImageState D)
-    → IsKept bytes extent faults size_faults image → IsWhole bytes extent faults size_faults image
-whole_of bytes extent faults size_faults image kept = record {
+    → IsKept bytes extent faults size_faults image → sum image.requests ≤ 4096 → length image.journal ≤ sum image.requests
+    → IsWhole bytes extent faults size_faults image
+whole_of bytes extent faults size_faults image kept few placed = record {
   streams = kept.sound.streams;
+  few = few;
+  placed = placed;
   linked = kept.sound.linked;
   apart = writer_alone image.access;
   due = kept.sound.due;

@@ -1,5 +1,5 @@
 -- What an image's calls do.
-use Rattle.std.specs.Prelude.{◌≡◌, ℕ, ◌+◌, ◌<◌, ◌≤◌, set, count_by, List, [], ◌∷◌, ◌++◌, length, map, slice_index, Option}
+use Rattle.std.specs.Prelude.{◌≡◌, ℕ, ◌+◌, ◌<◌, ◌≤◌, set, sum, count_by, List, [], ◌∷◌, ◌++◌, length, map, slice_index, Option}
 use Rattle.std.specs.List.{AllByRecursion}
 use Rattle.aio_model.specs.declared.holds.RwAnswer.TheVariants as hold
 use Rattle.aio_model.specs.declared.requests.Request.{Request}
@@ -89,6 +89,9 @@ pub record IsGranted {D : Type 0} (image : ImageState D) (stream : ℕ) : Type 0
 -- What an image that is looked at shows of its whole run.
 pub record IsWhole {D : Type 0} (bytes : D → Option (List ℕ)) (extent faults size_faults : D → ℕ) (image : ImageState D) : Type 0 where
   pub streams : length image.phases ≡ length image.requests
+  -- at most 4,096 requests are for all streams, and the journal has no more entries
+  pub few : sum image.requests ≤ 4096
+  pub placed : length image.journal ≤ sum image.requests
   -- begun, whole and failed requests hold what they need, and who writes is alone
   pub linked : (k : ℕ) → Linked (phase_at image.phases k) (hold_of image.access k)
   pub apart : AreApart (hold_of image.access)

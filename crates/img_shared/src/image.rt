@@ -250,6 +250,7 @@ impl<D: Device> Image<D> {
         ensures device { result ≡ self.device }
         ensures whole { IsWhole D.bytes D.extent D.faults D.size_faults self }
     {
+        let _ = self.journal();
         let Image {
             device,
             size: _,

@@ -91,7 +91,9 @@ impl<D> Ledger<D> {
 
     /// The entries, in the order of their places.
     pub(crate) fn entries(&self) -> &[Entry<D>]
-        ensures { result.now ≡ self.now.entries }
+        ensures entries { result.now ≡ self.now.entries }
+        ensures few { sum self.now.requests ≤ 4096 }
+        ensures placed { length self.now.entries ≤ sum self.now.requests }
     {
         self.entries.as_slice()
     }
