@@ -20,7 +20,7 @@ use Rattle.img_shared.specs.Notes.{Note, Placement, entries_from, told_in, note}
 use Rattle.img_shared.specs.Phases.{phase_at, done_in, IsWaiting, CanLeave, taken_up}
 use Rattle.img_shared.proofs.Sounds.{phase_set}
 use Rattle.img_join.specs.Accounts.{Account, Doing}
-use Rattle.img_join.proofs.Accounts.{entries_own, account_begun, account_queued, account_granted, account_piece, account_refused, account_left}
+use Rattle.img_join.proofs.Accounts.{entries_own, account_begun, account_queued, account_granted, account_piece, account_refused, account_left, account_retired}
 use Rattle.img_streams.specs.declared.answers.Grant.{Grant}
 use Rattle.img_streams.specs.declared.answers.Grant.TheVariants.{NotYet, Granted}
 use Rattle.img_streams.specs.ImageCalls.{come_to, TakesUp, OnGranted}
@@ -83,16 +83,6 @@ module _ {D : Type 0} (bytes : D → Option (List ℕ)) (s : ℕ) (g x : ImageSt
   }
 
   -- what taking up a hold makes of it
-  told_longer : (told : Option (List ℕ)) (size end : ℕ) → end ≤ size → IfSome told (λ all. size ≤ length all) → IfSome told (λ all. end ≤ length all)
-  told_longer None size end within long = tt
-  told_longer (Some all) size end within long = omega (arith, long)
-
-  present_of_waiting : (phase : Phase) → IsWaiting phase → (present : Present) × (phase ≡ Waiting present)
-  present_of_waiting Idle waits = absurd waits
-  present_of_waiting (Waiting present) waits = (present, refl)
-  present_of_waiting (Active present) waits = absurd waits
-  present_of_waiting Retired waits = absurd waits
-
   taken_up_so : (co : CoId) → co.co ≡ s → (answer : Grant) → IsWaiting (phase_at g.phases s) → TakesUp co answer g x
       → OnGranted answer (bytes g.device ≡ bytes g.left)
       → OnGranted answer (IfSome (bytes g.device) (λ told. g.size ≤ length told))
@@ -104,9 +94,7 @@ module _ {D : Type 0} (bytes : D → Option (List ℕ)) (s : ℕ) (g x : ImageSt
         ap (λ (i : ImageState D). phase_at i.phases s) next ∙ phase_set g.phases s (taken_up (phase_at g.phases s)) row,
         ap (λ (i : ImageState D). entries_from 0 s i.journal) next,
         λ request buffer within asked id size requests buffers named account.
-            let waiting = present_of_waiting (phase_at g.phases s) waits in
-            account_granted bytes asked id s size requests (come_to co g) row buffers request named buffer account x waiting.0 waiting.1 within next clean
-            (told_longer (bytes g.device) g.size (end_of request) within inside),
+            account_granted bytes asked id s size requests (come_to co g) row buffers request named buffer account x waits within next clean inside,
       )
 
   pub keeps_taken_up : (co : CoId) (answer : Grant) → TakesUp co answer g x → Keeps g x
@@ -162,13 +150,7 @@ module _ {D : Type 0} (bytes : D → Option (List ℕ)) (s : ℕ) (g x : ImageSt
   retired_so is = record {
     phase = ap (λ (i : ImageState D). phase_at i.phases s) is ∙ phase_set g.phases s Retired row;
     entries = ap (λ (i : ImageState D). entries_from 0 s i.journal) is;
-    account = λ asked id size requests buffers buffer account.
-        subst (λ (i : ImageState D). Account bytes asked id s size requests (note bytes i s) buffers buffer) (sym is) (record {
-          sized = account.sized;
-          many = account.many;
-          answered = account.answered;
-          doing = λ other here. subst (λ (p : Phase). Doing s size other buffer p (told_in p (bytes g.left) (bytes g.device))) (sym (phase_set g.phases s Retired row)) tt;
-        });
+    account = λ asked id size requests buffers buffer account. account_retired bytes asked id s size requests g x row buffers buffer buffer account is;
   }
 
   pub keeps_retired : x ≡ record g { homes = x.homes; phases = set g.phases s Retired } → Keeps g x

@@ -14,3 +14,4 @@ pub mod Settling
 pub mod Buffering
 pub mod Starting
 pub mod Histories
+pub mod Resumed

@@ -36,6 +36,7 @@ module _ {P D : Type 0} (bytes : D → Option (List ℕ)) (lock : CoMutex P (Ima
           place = waiting_place (built_of lock) queued (word_of co) named (known a) (known b) goes;
           number = knows.number ∙ of.number ∙ sym is;
           opened = ap (λ (n : Note D). n.opening) same ∙ of.opened;
+          streams = ap (λ (n : Note D). n.streams) same ∙ of.streams;
           known_there = omega (arith, of.known_there, ap (λ (n : Note D). n.streams) same, is);
           row_there = omega (arith, of.row_there, ap (λ (n : Note D). n.rows) same, is);
         };
@@ -82,6 +83,7 @@ module _ {P D : Type 0} (bytes : D → Option (List ℕ)) (lock : CoMutex P (Ima
           place = once_place (note bytes) (built_of lock) g x named (known a) (known b) once;
           number = once_number (note bytes) (built_of lock) g x named (known a) (known b) once ∙ of.number ∙ sym is_s;
           opened = ap (λ (n : Note D). n.opening) own_left ∙ keeps.opening ∙ ap (λ (n : Note D). n.opening) own_found ∙ of.opened;
+          streams = ap (λ (n : Note D). n.streams) own_left ∙ keeps.streams ∙ ap (λ (n : Note D). n.streams) own_found ∙ of.streams;
           known_there = omega (arith, of.known_there, ap (λ (n : Note D). n.streams) own_left, ap (λ (n : Note D). n.streams) own_found, keeps.streams, is_s);
           row_there = omega (arith, of.row_there, ap (λ (n : Note D). n.rows) own_left, ap (λ (n : Note D). n.rows) own_found, keeps.rows, is_s);
         };

@@ -45,7 +45,6 @@ module _ {P D : Type 0} (bytes : D → Option (List ℕ)) (lock : CoMutex P (Ima
   module _ (lines : List Step) (size : ℕ) (ids : List ℕ) (rows : List (List (List ℕ))) (retired : HaveRetired bytes lock lines size ids rows passes) where
     module _ (k : ℕ) (below : k < length ids) where
       one : (pass : Pass P (ImageState D) (Note D)) × In pass passes × IsRetired bytes lock lines size (slice_index ids k) k (row_at rows k) pass
-          × ((own_note bytes lock pass).streams ≡ length (built_of lock).requests)
       one = retired.each k below
 
       same : note bytes image k ≡ own_note bytes lock (retired.each k below).0
@@ -74,7 +73,7 @@ module _ {P D : Type 0} (bytes : D → Option (List ℕ)) (lock : CoMutex P (Ima
     shows_retired = record {
       opening = λ some. let o = retired.each 0 some in ap (λ (n : Note D). n.opening) (same 0 some) ∙ o.2.opened;
       sized = λ some. size_shown 0 some;
-      streams = λ some. let o = retired.each 0 some in ap (λ (n : Note D). n.streams) (same 0 some) ∙ o.3 ∙ retired.all;
+      streams = λ some. let o = retired.each 0 some in ap (λ (n : Note D). n.streams) (same 0 some) ∙ o.2.streams ∙ retired.all;
       each = one_shown;
       buffered = one_buffered;
     }
@@ -99,6 +98,7 @@ module _ {P D : Type 0} (bytes : D → Option (List ℕ)) (co : Stream P (ImageS
         is = record {
           number = is.pass.number;
           opened = is.pass.opened;
+          streams = is.pass.streams;
           retired = both.0;
           buffer = co.buffer.items;
           account = is.account;

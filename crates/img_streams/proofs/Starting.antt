@@ -58,6 +58,7 @@ module _ {P D : Type 0} (bytes : D → Option (List ℕ)) (lock : CoMutex P (Ima
       place = ap (λ (k : Known (ImageState D)). k.place) can.new.known_is;
       number = ap (λ (k : Known (ImageState D)). k.number) can.new.known_is;
       opened = ap (λ (n : Note D). n.opening) note_new ∙ sym (ap (λ (i : ImageState D). i.opening) can.built);
+      streams = ap (λ (n : Note D). n.streams) note_new ∙ sym (ap (λ (i : ImageState D). length i.requests) can.built);
       known_there = omega (arith, can.known, ap (λ (n : Note D). n.streams) note_new);
       row_there = omega (arith, can.known, ap (λ (n : Note D). n.rows) note_new, length-replicate (length can.requests) Idle);
     };

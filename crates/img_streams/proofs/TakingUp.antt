@@ -14,6 +14,7 @@ use Rattle.img_shared.specs.Images.{ImageState}
 use Rattle.img_shared.specs.Notes.{Note}
 use Rattle.img_shared.specs.Phases.{IsWaiting}
 use Rattle.img_join.specs.Accounts.{Account}
+use Rattle.img_join.proofs.Accounts.{waiting_present}
 use Rattle.img_streams.specs.declared.progress.At.{At}
 use Rattle.img_streams.specs.declared.progress.At.TheVariants as at
 use Rattle.img_streams.specs.declared.stream.Stream.{Stream}
@@ -30,12 +31,6 @@ use Rattle.img_streams.specs.declared.answers.Grant.{Grant}
 use Rattle.img_streams.specs.declared.answers.Grant.TheVariants.{NotYet, Granted}
 use Rattle.img_streams.specs.Steps.{IsTakenUp}
 use Rattle.img_streams.proofs.Making.{made_call}
-
-waiting_present : (phase : Phase) → IsWaiting phase → (present : Present) × (phase ≡ Waiting present)
-waiting_present Idle waits = absurd waits
-waiting_present (Waiting present) waits = (present, refl)
-waiting_present (Active present) waits = absurd waits
-waiting_present Retired waits = absurd waits
 
 module _ {P D : Type 0} (bytes : D → Option (List ℕ)) (old : Stream P (ImageState D) (Note D)) (of : CoMutex P (ImageState D) (Note D) × Script)
     (is : IsStreamOf bytes old of) (here : old.at ≡ at.Waiting) where

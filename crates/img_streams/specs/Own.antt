@@ -1,5 +1,5 @@
 -- What a pass knows of its stream, and what one turn at the lock makes of it.
-use Rattle.std.specs.Prelude.{◌≡◌, ℕ, ◌<◌, Bool, true, false, List, Option}
+use Rattle.std.specs.Prelude.{◌≡◌, ℕ, ◌<◌, Bool, true, false, List, length, Option}
 use Rattle.aio_model.specs.LockHistory.{value_of}
 use Rattle.co_state.specs.declared.cx.CoId.{CoId}
 use Rattle.co_mutex.specs.declared.lock.CoMutex.{CoMutex}
@@ -23,6 +23,7 @@ module _ {P D : Type 0} (bytes : D → Option (List ℕ)) (lock : CoMutex P (Ima
     pub place : (known pass).place ≡ place_of queued
     pub number : (known pass).number ≡ stream
     pub opened : (own_note pass).opening ≡ (built_of lock).opening
+    pub streams : (own_note pass).streams ≡ length (built_of lock).requests
     pub known_there : stream < (own_note pass).streams
     pub row_there : stream < (own_note pass).rows
 

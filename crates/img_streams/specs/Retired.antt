@@ -22,6 +22,7 @@ pub record IsRetired {P D : Type 0} (bytes : D → Option (List ℕ)) (lock : Co
     : Type 0 where
   pub number : (known pass).number ≡ k
   pub opened : (own_note bytes lock pass).opening ≡ (built_of lock).opening
+  pub streams : (own_note bytes lock pass).streams ≡ length (built_of lock).requests
   pub retired : (own_note bytes lock pass).phase ≡ Retired
   pub buffer : List ℕ
   pub account : Account bytes (asked lines) id k size (requests_of id lines) (own_note bytes lock pass) buffers buffer
@@ -41,7 +42,6 @@ pub record HaveRetired {P D : Type 0} (bytes : D → Option (List ℕ)) (lock : 
   pub all : length (built_of lock).requests ≡ length ids
   pub each : (k : ℕ) → k < length ids → (pass : Pass P (ImageState D) (Note D)) × In pass passes
       × IsRetired bytes lock lines size (slice_index ids k) k (row_at rows k) pass
-      × ((own_note bytes lock pass).streams ≡ length (built_of lock).requests)
 
 -- what the image shows then
 pub record ShowsRetired {D : Type 0} (bytes : D → Option (List ℕ)) (lines : List Step) (size : ℕ) (ids : List ℕ) (rows : List (List (List ℕ))) (built image : ImageState D) : Type 0 where

@@ -57,6 +57,7 @@ impl<D: Device> Stream<ImageRule<D>> {
     /// The coroutine of a stream that has made no call yet: of its pass and its number with its home, its id in the script,
     /// and its memory.
     pub fn of(pass: Pass<ImageRule<D>>, co: CoId, id: u32, room: Room) -> Stream<ImageRule<D>>
+        ensures is { (result.pass ≡ pass) × (result.co ≡ co) × (result.id ≡ id) }
         ensures of { (lock : CoMutex _ _ _) (script : Script) → CanStart lock script pass co id room → IsStreamOf D.bytes result (source lock script) }
     {
         Stream {
