@@ -16,8 +16,8 @@ use Rattle.aio_cli.specs.declared.answer.Answer.{Answer}
 use Rattle.aio_cli.specs.declared.answer.Answer.TheVariants.{Done, Errors, Usage, BadScript, TooLong, TooLarge, ReadFault, WriteFault, NoMemory, DeviceFault}
 use Rattle.aio_cli.specs.Answers.{IsOfLoop, IsRefusal, IsWhole, OnBadScript, OnCut, OnDeviceFault, OnRun, OnTooLarge, OnTooLong, OnWritten}
 use Rattle.aio_cli.specs.BellsRun.{RingsSaid}
-use Rattle.aio_cli.specs.declared.words.Mode.{Mode}
-use Rattle.aio_cli.specs.declared.words.Mode.TheVariants.{Image, Bells}
+use Rattle.program_words.specs.declared.modes.Mode.{Mode}
+use Rattle.program_words.specs.declared.modes.Mode.TheVariants.{Image, Bells}
 use Rattle.aio_cli.specs.Words.{InBells, InImage}
 use Rattle.aio_cli.specs.Reading.{IsText, IsTooLong, Refuses, RefusesLoop, Says, SaysLoop, SaysFitting, SaysImage, SaysSome, longest_script}
 

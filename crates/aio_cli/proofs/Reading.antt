@@ -1,7 +1,9 @@
 -- How the reads of one text join up.
-use Rattle.std.proofs.Common.{◌≡◌, ℕ, ◌<◌, true, false, List, [], ◌∷◌, ◌++◌, Some, None, refl, ap, ◌∙◌, inl, inr}
+use Rattle.std.proofs.Common.{◌≡◌, ℕ, ◌<◌, true, false, List, [], ◌∷◌, ◌++◌, Option, Some, None, refl, ap, ◌∙◌, inl, inr, arith}
 use Rattle.aio_words.specs.declared.called.SourceCall.{SourceCall}
+use Rattle.aio_words.specs.Content.{Takes}
 use Rattle.aio_cli.specs.Calls.{ReadsWell, Reads}
+use Rattle.aio_cli.specs.Reading.{TakesAtMost, most_read}
 
 -- no read
 pub no_read_yet : (calls : List SourceCall) → ReadsWell calls calls
@@ -33,3 +35,12 @@ reads_to_end before between now room n well end is = record {
 pub reads_to_fault : (before between now : List SourceCall) (room : ℕ)
     → ReadsWell before between → now ≡ record { room = room; got = None } ∷ between → Reads true before now
 reads_to_fault before between now room well is = record { between = between; well = well; last = (room, is) }
+
+-- a source that wasn't called
+
+nothing : (left : Option (List ℕ)) → Takes left left []
+nothing None = refl
+nothing (Some bytes) = refl
+
+pub takes_nothing : (left : Option (List ℕ)) → TakesAtMost most_read left left
+takes_nothing left = record { text = []; taken = nothing left; few = omega arith }

@@ -1,19 +1,13 @@
--- The words of the command line that the program takes.
-use Rattle.std.specs.Prelude.{ℕ, List, [], ◌∷◌, Option, Some, None, codes, if◌then◌else◌}
-use Rattle.aio_script.specs.Text.{is}
-use Rattle.aio_cli.specs.declared.words.Mode.{Mode}
-use Rattle.aio_cli.specs.declared.words.Mode.TheVariants.{Image, Bells}
+-- The modes of the program, as its one call serves them.
+use Rattle.std.specs.Prelude.{Option, Some, None}
+use Rattle.program_words.specs.declared.modes.Mode.{Mode}
+use Rattle.program_words.specs.declared.modes.Mode.TheVariants.{Image, Bells}
 
--- the mode that a word alone asks for
-abbrev pub mode_named : List ℕ → Option Mode
-mode_named word =
-    if is word (codes "--mode=run") then Some Image else if is word (codes "--mode=bh") then Some Bells else None
-
--- the mode that the words ask for, if they are those that the program takes: none, or one that names a mode
-abbrev pub mode_said : List (List ℕ) → Option Mode
-mode_said [] = Some Image
-mode_said (word ∷ []) = mode_named word
-mode_said words = None
+-- The mode that is served, of those that words may ask for. That of the generated script isn't yet.
+abbrev pub mode_served : Option Mode → Option Mode
+mode_served (Some Image) = Some Image
+mode_served (Some Bells) = Some Bells
+mode_served mode = None
 
 -- facts for one of the modes
 

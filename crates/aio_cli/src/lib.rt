@@ -9,7 +9,6 @@ mod program;
 mod read;
 mod run;
 mod serve;
-mod words;
 
 pub use answer::{Answer, End};
 pub use fault::print_fault;

@@ -15,16 +15,17 @@ ghost use Rattle.aio_cli.specs.Calls.{Reads, is_read_fault};
 ghost use Rattle.aio_cli.specs.Reading.{IsText, IsTooLong, Refuses, RefusesLoop, Says, SaysLoop, SaysFitting, SaysImage, SaysSome, TakesAtMost, longest_script, most_read};
 ghost use Rattle.aio_cli.specs.BellsRun.{RingsSaid};
 ghost use Rattle.aio_cli.specs.Run.{Runs};
-ghost use Rattle.aio_cli.specs.Words.{InBells, InImage, mode_said};
+ghost use Rattle.aio_cli.specs.Words.{InBells, InImage, mode_served};
+ghost use Rattle.program_words.specs.Words.{mode_said};
 
 use crate::bells::run_loop_script;
 use crate::read::{ReadFail, read_text};
 use crate::run::{run_script, unserved};
-use crate::words::{Mode, mode_said};
 use crate::{Answer, End};
 use aio_model::{LoopScript, Script};
 use aio_script::{ScriptFail, read_loop_script, read_script};
 use aio_words::{Clock, Device, DeviceAsk, Gate, Sink, Source};
+use program_words::{Mode, mode_said};
 use std::alloc::Global;
 
 /// How many bytes a script may have.
@@ -166,9 +167,10 @@ fn run_bells<S: Source, K: Sink, D: Device>(
 /// replies to the sink; or, where the word is `--mode=bh`, reads a loop script, does its commands on a loop of one
 /// thread, and writes what they answer.
 ///
-/// The words are those of the command line behind the program's name: none, `--mode=run` or `--mode=bh`. The clocks and
-/// the gate aren't used yet: a line that asks for a delay or a move is passed over, and requests are served in the order
-/// of their lines.
+/// The words are those of the command line behind the program's name, as `program_words` reads them. Which device the
+/// word `--image=` names is the caller's affair, who hands it in. The generated script isn't served yet: words that ask
+/// for it are answered Usage. The clocks and the gate aren't used yet: a line that asks for a delay or a move is passed
+/// over, and requests are served in the order of their lines.
 /// The device comes back at every answer. An answer is looked for in this order: Usage, then ReadFault or TooLong,
 /// BadScript, DeviceFault, TooLarge, and once the script was served WriteFault; NoMemory may stand in place of any from
 /// the reading to the serving.
@@ -205,7 +207,7 @@ pub fn top<S: Source, K: Sink, D: Device + Send, C: Clock + Send + Drop, G: Gate
     ensures eios { HasRisenBy (eios_of result.served.items) (D.faults device) (D.faults result.device) }
 
     // When each answer comes.
-    ensures usage { (result.answer ≡ Answer.Usage) ↔ (mode_said (map string_bytes words.now) ≡ None) }
+    ensures usage { (result.answer ≡ Answer.Usage) ↔ (mode_served (mode_said (map string_bytes words.now)) ≡ None) }
     ensures usage_source { result.answer ≡ Answer.Usage → source.new ≡ source.old }
     ensures bad_script { InImage (mode_said (map string_bytes words.now)) (OnBadScript result.answer (Refuses (S.left source.old) (S.left source.new))) }
     ensures bad_loop_script { InBells (mode_said (map string_bytes words.now)) (OnBadScript result.answer (RefusesLoop (S.left source.old) (S.left source.new))) }
@@ -232,7 +234,7 @@ pub fn top<S: Source, K: Sink, D: Device + Send, C: Clock + Send + Drop, G: Gate
     ensures failures { InImage (mode_said (map string_bytes words.now)) (OnRun result.answer (failures_in (D.calls result.device) ≡ failures_in (D.calls device) + eios_of result.served.items)) }
 
     // Where no read failed, a text that is too long or says no script is answered so.
-    ensures long { (mode_said (map string_bytes words.now) ≡ None → ⊥) → (HasRisen (S.faults source.old) (S.faults source.new) → ⊥)
+    ensures long { (mode_served (mode_said (map string_bytes words.now)) ≡ None → ⊥) → (HasRisen (S.faults source.old) (S.faults source.new) → ⊥)
         → IfSome (S.left source.old) (λ text. longest_script < length text → IsLengthRefusal result.answer) }
     ensures refused { InImage (mode_said (map string_bytes words.now)) ((HasRisen (S.faults source.old) (S.faults source.new) → ⊥)
         → IfSome (S.left source.old) (λ text. length text ≤ longest_script
@@ -259,5 +261,6 @@ pub fn top<S: Source, K: Sink, D: Device + Send, C: Clock + Send + Drop, G: Gate
         None => unserved(alloc, Answer::Usage, device),
         Some(Mode::Image) => run_image(alloc, source, sink, device),
         Some(Mode::Bells) => run_bells(alloc, source, sink, device),
+        Some(Mode::Generated { .. }) => unserved(alloc, Answer::Usage, device),
     }
 }

@@ -4,12 +4,12 @@ use Rattle.aio_words.specs.Content.{with_piece, AppendsFront}
 use Rattle.aio_script.specs.declared.refusals.ScriptRefusal.{ScriptRefusal}
 use Rattle.aio_script.specs.Grammar.{script_said}
 use Rattle.aio_script.specs.LoopGrammar.{loop_script_said}
-use Rattle.aio_cli.specs.declared.words.Mode.TheVariants.{Image, Bells}
+use Rattle.program_words.specs.declared.modes.Mode.TheVariants.{Image, Bells}
 use Rattle.aio_cli.specs.Answers.{IsRefusal, IsWhole}
 use Rattle.aio_cli.specs.Calls.{Reads, is_read_fault}
 use Rattle.aio_cli.specs.Reading.{longest_script}
-use Rattle.aio_cli.specs.Words.{mode_said}
-use Rattle.aio_cli.proofs.Reading.{no_read_yet, reads_so_far}
+use Rattle.program_words.specs.Words.{mode_said}
+use Rattle.aio_cli.proofs.Reading.{no_read_yet, reads_so_far, takes_nothing}
 use Rattle.aio_cli.proofs.Causes.{told-each, refused-only, whole-only, refused_loop-only, in_image, in_bells}
 use Rattle.aio_cli.proofs.program.top.Goals as goal
 
@@ -17,6 +17,14 @@ pub returns-in-None-clause-reads : goal.returns-in-None-clause-reads
 returns-in-None-clause-reads g c =
     let calls = g.S.Source.calls c.args.source.now in
     subst (λ answer. Reads (is_read_fault answer) calls calls) (sym c.unserved.ensures.answer) (reads_so_far calls calls (no_read_yet calls))
+
+pub returns-in-Some-Generated-clause-taken : goal.returns-in-Some-Generated-clause-taken
+returns-in-Some-Generated-clause-taken g c = takes_nothing (g.S.Source.left c.args.source.now)
+
+pub returns-in-Some-Generated-clause-reads : goal.returns-in-Some-Generated-clause-reads
+returns-in-Some-Generated-clause-reads g c =
+    let calls = g.S.Source.calls c.args.source.now in
+    subst (λ answer. Reads (is_read_fault answer) calls calls) (sym c.unserved-in-Some-Generated.ensures.answer) (reads_so_far calls calls (no_read_yet calls))
 
 pub returns-in-Some-Image-clause-refused : goal.returns-in-Some-Image-clause-refused
 returns-in-Some-Image-clause-refused g c =
