@@ -5,7 +5,7 @@ use aio_script::ScriptRefusal::{BadLine, BadNumber, NoHeader, OutOfLimit, Unknow
 use std::alloc::Global;
 use std::test::Fail;
 
-const SERVED: [Row; 6] = [
+const SERVED: [Row; 8] = [
     (
         &[],
         "image 16\nloops 1\nstream 0 0\n0 write 2 6869\n0 read 0 6\n0 flush",
@@ -33,6 +33,14 @@ const SERVED: [Row; 6] = [
     ),
     (&[], "image 16\nloops 1\nstream 0 0\n", Done, "end 0 0\n"),
     (&["--mode=run"], "image 16\nloops 1\n", Done, "end 0 0\n"),
+    // Which device the image is on is the caller's affair.
+    (&["--image=x"], "image 16\nloops 1\n", Done, "end 0 0\n"),
+    (
+        &["--image=x", "--mode=run"],
+        "image 16\nloops 1\n",
+        Done,
+        "end 0 0\n",
+    ),
 ];
 
 #[test]
@@ -40,7 +48,7 @@ fn scripts_are_served(rt: HostRuntime) -> Result<(), Fail> {
     assert_runs(&rt, rt.alloc(), SOUND, &SERVED)
 }
 
-const REFUSED: [Row; 12] = [
+const REFUSED: [Row; 16] = [
     (&[], "", BadScript(NoHeader), ""),
     (
         &[],
@@ -78,6 +86,16 @@ const REFUSED: [Row; 12] = [
     (&["--mode"], "image 16\nloops 1\n", Usage, ""),
     (&["--mode=bh "], "loop 1 0 0\nschedule 0\npoll\n", Usage, ""),
     (&[""], "image 16\nloops 1\n", Usage, ""),
+    (&["--loops=2"], "image 16\nloops 1\n", Usage, ""),
+    (&["--gen=0"], "image 16\nloops 1\n", Usage, ""),
+    (
+        &["--mode=bh", "--image=x"],
+        "loop 1 0 0\nschedule 0\npoll\n",
+        Usage,
+        "",
+    ),
+    // The generated script isn't served yet.
+    (&["--gen=8", "--from=1"], "image 16\nloops 1\n", Usage, ""),
 ];
 
 #[test]
