@@ -78,9 +78,9 @@ module _ (served : List Placed) (next behind : List ℕ) (place : ℕ) (placed :
   own_linked linked =
       let first : slice_index put_next placed.stream ≡ place = get_or-set_same next placed.stream place 0 known in
       let then : slice_index put_behind (slice_index put_next placed.stream) ≡ slice_index next placed.stream =
-      ap (λ n. slice_index put_behind n) first ∙ get_or-set_same behind place (slice_index next placed.stream) 0 room in
-      (
-        first, stands,
+      ap (λ n. slice_index put_behind n) first ∙ get_or-set_same behind place (slice_index next placed.stream) 0 room in (
+        first,
+        stands,
         subst (λ n. LeadThrough served placed.stream put_behind n (later placed.stream)) (sym then)
             (kept placed.stream (slice_index next placed.stream) (linked placed.stream)),
       )

@@ -66,9 +66,9 @@ module _ (lines : List Step) (served : List Placed) (k : ℕ) (step : Step) (ins
   printed-silent silent =
       ap (flat_map (line_for served))
       (sym (
-        asked-more lines k step inside here
-        ∙ ap (λ a. asked (take k lines) ++ a) (silent_at step.what step.stream (requests_of step.stream (take k lines)) silent)
-        ∙ append-nil (asked (take k lines))
+      asked-more lines k step inside here
+      ∙ ap (λ a. asked (take k lines) ++ a) (silent_at step.what step.stream (requests_of step.stream (take k lines)) silent)
+      ∙ append-nil (asked (take k lines))
       ))
 
   pub AreNext-silent : (next behind : List ℕ) → is_ask step.what ≡ false → AreNext lines served next behind k → AreNext lines served next behind (k + 1)
@@ -88,8 +88,11 @@ module _ (lines : List Step) (served : List Placed) (k : ℕ) (step : Step) (ins
 
     own-more : requests_of step.stream (take (k + 1) lines) ≡ index + 1
     own-more =
-        omega (arith, requests-more step.stream,
-        cond-true {A = ℕ} (step.stream == step.stream && is_ask step.what) 1 0 (and_from _ _ (eq-eqb step.stream step.stream refl) asking))
+        omega (
+          arith,
+          requests-more step.stream,
+          cond-true {A = ℕ} (step.stream == step.stream && is_ask step.what) 1 0 (and_from _ _ (eq-eqb step.stream step.stream refl) asking),
+        )
 
     -- the stream has a reply to it
     index-inside : index < length (standings_of step.stream 0 served)

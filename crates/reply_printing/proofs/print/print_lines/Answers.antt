@@ -16,7 +16,7 @@ take-place-requires-clause-place g c =
     omega (
       arith,
       next-inside lines c.args.served.now c.loop-line.line-index c.line-item.result inside c.line-item.is c.requires.order
-      c.loop-line.links.next c.loop-line.links.behind.items c.loop-line.invariant.next c.in-Ask.request c.in-Ask.is,
+          c.loop-line.links.next c.loop-line.links.behind.items c.loop-line.invariant.next c.in-Ask.request c.in-Ask.is,
     )
 
 pub bounds-served-place : goal.bounds-served-place
@@ -24,9 +24,10 @@ bounds-served-place g c =
     let lines = c.args.lines.now in
     let inside : c.loop-line.line-index < length lines = omega arith in
     omega (
-      arith, c.take-place.ensures.first,
+      arith,
+      c.take-place.ensures.first,
       next-inside lines c.args.served.now c.loop-line.line-index c.line-item.result inside c.line-item.is c.requires.order
-      c.loop-line.links.next c.loop-line.links.behind.items c.loop-line.invariant.next c.in-Ask.request c.in-Ask.is,
+          c.loop-line.links.next c.loop-line.links.behind.items c.loop-line.invariant.next c.in-Ask.request c.in-Ask.is,
     )
 
 pub returns-in_err-print_one-clause-gathers : goal.returns-in_err-print_one-clause-gathers
@@ -58,18 +59,18 @@ loop-line-preserved g c =
     omega (arith, stream-below lines served k step inside c.line-item.is 64 c.requires.streams) in
     elim c.match-line.branch [
       | in-Ask+in_ok-print_one w ↦ record {
-          printed = rw (w.sink-is, w.page-is)
-              (Gathers-same
-              (printed-more lines served k step inside c.line-item.is c.requires.order links.next links.behind.items c.loop-line.invariant.next
-              w.in-Ask.request w.in-Ask.is known w.take-place.result w.take-place.ensures.first w.index-served-place.result w.index-served-place.is)
-              (Gathers-then (Ok tt) c.loop-line.invariant.printed w.in_ok-print_one.ensures));
-          sized = ap length (ap (λ (l : Links). l.next) w.links-is ∙ w.take-place.ensures.next)
-              ∙ length-set links.next step.stream (slice_index links.behind.items w.take-place.result) ∙ c.loop-line.invariant.sized;
-          room = ap length (ap (λ (l : Links). l.behind.items) w.links-is ∙ w.take-place.ensures.behind) ∙ c.loop-line.invariant.room;
-          next = rw (w.links-is, w.take-place.ensures.next, w.take-place.ensures.behind)
-              (AreNext-more lines served k step inside c.line-item.is c.requires.order links.next links.behind.items c.loop-line.invariant.next
-              w.in-Ask.request w.in-Ask.is known w.take-place.result w.take-place.ensures.first);
-        }
+        printed = rw (w.sink-is, w.page-is)
+            (Gathers-same
+            (printed-more lines served k step inside c.line-item.is c.requires.order links.next links.behind.items c.loop-line.invariant.next
+            w.in-Ask.request w.in-Ask.is known w.take-place.result w.take-place.ensures.first w.index-served-place.result w.index-served-place.is)
+            (Gathers-then (Ok tt) c.loop-line.invariant.printed w.in_ok-print_one.ensures));
+        sized = ap length (ap (λ (l : Links). l.next) w.links-is ∙ w.take-place.ensures.next)
+            ∙ length-set links.next step.stream (slice_index links.behind.items w.take-place.result) ∙ c.loop-line.invariant.sized;
+        room = ap length (ap (λ (l : Links). l.behind.items) w.links-is ∙ w.take-place.ensures.behind) ∙ c.loop-line.invariant.room;
+        next = rw (w.links-is, w.take-place.ensures.next, w.take-place.ensures.behind)
+            (AreNext-more lines served k step inside c.line-item.is c.requires.order links.next links.behind.items c.loop-line.invariant.next
+            w.in-Ask.request w.in-Ask.is known w.take-place.result w.take-place.ensures.first);
+      }
       | in_default w ↦
           let silent = is_ask-other step.what w.in_default.not-Ask in record {
             printed = rw (w.sink-is, w.page-is) (Gathers-same (printed-silent lines served k step inside c.line-item.is silent) c.loop-line.invariant.printed);
