@@ -1,5 +1,5 @@
 -- The seats of a loop own the same numbers behind all that it does.
-use Rattle.std.proofs.Common.{◌≡◌, ℕ, zero, suc, ◌<◌, ◌≤◌, ◌+◌, Bool, true, false, List, [], ◌∷◌, Option, Some, None, refl, sym, ap, ◌∙◌, ◌==◌, arith, length, slice_index_or, slice_set, map, MatchBool, MatchOption}
+use Rattle.std.proofs.Common.{◌≡◌, ℕ, zero, suc, ◌<◌, Bool, true, false, List, [], ◌∷◌, Option, Some, None, refl, sym, ap, ◌∙◌, ◌==◌, arith, length, slice_index_or, MatchBool, MatchOption}
 use Rattle.std.proofs.Math.Seq.{map-set_same}
 use Rattle.std.proofs.lemmas.Bool.{cases_lt}
 use mathlib.Core.Logic.{⊎_elim}
@@ -22,13 +22,13 @@ use Rattle.loop_rows.specs.Posts.{Posts, FindsMarked}
 use Rattle.co_loop.specs.Posts.{WakesAt}
 use Rattle.co_loop.specs.Wakes.{Reach, WakesOne, WakesEach, is_somebody}
 use Rattle.co_loop.specs.Quits.{SetsEnd, SetsEnds}
-use Rattle.co_loop.specs.Crews.{Far, SendsOn, Follows, CarriesOut, Resumes, EntersOne}
+use Rattle.co_loop.specs.Crews.{Far, SendsOn, Follows, CarriesOut, EntersOne}
 use Rattle.co_loop.specs.Drains.{Drains, EntersAndDrains}
-use Rattle.co_loop.specs.Begins.{HomeFar, AdmitsGiven, BeginsOne, BeginsThese, TakesAndBegins, is_refused}
+use Rattle.co_loop.specs.Begins.{HomeFar, AdmitsGiven, BeginsThese, is_refused}
 use Rattle.co_loop.specs.Loops.{OnLoop, DoesFor, RunnerDoes}
 use Rattle.co_loop.specs.Napping.{is_armed}
 use Rattle.co_loop.specs.Again.{PostsAgain, PostsEachAgain}
-use Rattle.co_loop.specs.Numbers.{Numbers, numbers_at, numbers}
+use Rattle.co_loop.specs.Numbers.{numbers_at, numbers}
 
 by_bool : {A B Q : Type 0} (b : Bool) → MatchBool b A B → (A → Q) → (B → Q) → Q
 by_bool true is f g = f is

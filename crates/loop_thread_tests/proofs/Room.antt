@@ -1,5 +1,5 @@
 -- Loops that were opened for walkers have room for each.
-use Rattle.std.proofs.Common.{◌≡◌, ℕ, ◌<◌, arith, length}
+use Rattle.std.proofs.Common.{ℕ, ◌<◌, arith}
 use Rattle.loop_rows.specs.declared.opening.Opened.{Opened}
 use Rattle.loop_rows.specs.Opening.{AreNew}
 use Rattle.loop_rows.proofs.Places.{some_of}

@@ -1,5 +1,5 @@
 -- New hands can begin on new loops.
-use Rattle.std.proofs.Common.{◌≡◌, ℕ, ◌<◌, ◌≤◌, ◌+◌, List, [], ◌∷◌, ◌++◌, length, drop, slice_index_or, refl, sym, ap, ◌∙◌, subst, arith}
+use Rattle.std.proofs.Common.{◌≡◌, ℕ, ◌<◌, ◌+◌, List, [], ◌∷◌, ◌++◌, length, drop, slice_index_or, sym, ap, ◌∙◌, subst, arith}
 use Rattle.std.proofs.lemmas.List.{get_or-drop, get_or_default}
 use Rattle.co_schedule.specs.Known.{Known}
 use Rattle.co_schedule.specs.Calls.{SeatState, RunState}
@@ -8,14 +8,14 @@ use Rattle.loop_rows.specs.declared.shared.LoopShared.{LoopShared}
 use Rattle.loop_rows.specs.declared.seats.Seats.{Seats}
 use Rattle.loop_rows.specs.declared.opening.Homes.{Homes}
 use Rattle.loop_rows.specs.LoopStates.{LoopState, IsStation}
-use Rattle.loop_rows.specs.Opening.{IsNewLoop, NewEach}
+use Rattle.loop_rows.specs.Opening.{NewEach}
 use Rattle.loop_rows.proofs.Places.{at_push, some_of}
 use Rattle.co_loop.specs.declared.working.CoWork.{CoWork}
 use Rattle.co_loop.specs.Working.{CanStart, CanWork}
 use Rattle.co_loop.proofs.Stationed.{nobody_works}
 use Rattle.loop_threads.specs.declared.hands.Hand.{Hand}
 use Rattle.loop_threads.specs.Hands.{IsNewHand, AreNewHands}
-use Rattle.loop_threads.specs.Running.{CanBegin, CanBeginEach}
+use Rattle.loop_threads.specs.Running.{CanBeginEach}
 
 abbrev empty_run : ℕ → RunState
 empty_run room = record { room = room; cos = [] }

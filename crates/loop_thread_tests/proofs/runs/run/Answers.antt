@@ -1,4 +1,4 @@
-use Rattle.std.proofs.Common.{◌≡◌, ◌<◌, ◌∙◌, sym, subst, arith, length, vec_len, ℕ, List, slice_index_or}
+use Rattle.std.proofs.Common.{◌≡◌, sym, subst, arith, length, vec_len, List, slice_index_or}
 use Rattle.loop_rows.specs.declared.shared.LoopShared.{LoopShared}
 use Rattle.loop_rows.specs.Opening.{NewEach, AreHomesOf}
 use Rattle.loop_threads.specs.Members.{IsMemberOf}

@@ -1,9 +1,5 @@
-use Rattle.std.proofs.Common.{rules, ◌≡◌, ◌<◌, ◌+◌, ◌∙◌, ap, sym, subst, refl, arith, length, ℕ, vec_len, List, ◌++◌, ◌∷◌, [], slice_index_or, drop}
-use Rattle.std.proofs.lemmas.List.{get_or-drop, drop-drop}
-use Rattle.loop_rows.proofs.Places.{at_push}
-use Rattle.co_loop.specs.declared.working.CoWork.{CoWork}
-use Rattle.loop_threads.specs.declared.hands.Hand.{Hand}
-use Rattle.loop_threads.specs.Hands.{IsNewHand, AreNewHands}
+use Rattle.std.proofs.Common.{rules, ◌≡◌, ◌∙◌, ap, arith, vec_len, drop}
+use Rattle.std.proofs.lemmas.List.{drop-drop}
 use Rattle.loop_threads.proofs.Starting.{one_hand_more, hands_begin}
 use Rattle.loop_threads.proofs.hands.new_hands.Goals as goal
 

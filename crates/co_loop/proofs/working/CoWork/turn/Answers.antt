@@ -1,14 +1,13 @@
-use Rattle.std.proofs.Common.{◌≡◌, ◌≤◌, ◌&&◌, not, ℕ, List, refl, sym, ap, ◌∙◌, subst, slice_index_or, Vec, Global}
+use Rattle.std.proofs.Common.{◌≡◌, ◌≤◌, ◌&&◌, not, ℕ, refl, sym, ap, ◌∙◌, subst, slice_index_or, Vec, Global}
 use Rattle.aio_core.specs.Calls.{TableState}
 use Rattle.co_schedule.specs.Calls.{IsSeatOf as IsCoSeatOf}
 use Rattle.loop_rows.specs.declared.rows.Row.{Row}
 use Rattle.loop_rows.specs.declared.seats.Seats.{Seats}
 use Rattle.co_loop.specs.declared.crew.Crew.{Crew}
-use Rattle.co_loop.specs.declared.leaving.Leaving.{Leaving}
 use Rattle.co_loop.specs.declared.on_loop.CoLoop.{CoLoop}
 use Rattle.co_loop.specs.Again.{is_kept}
 use Rattle.co_loop.specs.Crews.{far}
-use Rattle.co_loop.specs.Loops.{IsOnLoop, on_loop, RunnerDoes}
+use Rattle.co_loop.specs.Loops.{IsOnLoop, on_loop}
 use Rattle.co_loop.specs.Rows.{IsRow}
 use Rattle.co_loop.specs.Numbers.{numbers}
 use Rattle.co_loop.proofs.Numbered.{runner_does}

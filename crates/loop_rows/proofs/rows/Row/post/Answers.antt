@@ -1,4 +1,4 @@
-use Rattle.std.proofs.Common.{◌≡◌, ◌<◌, ◌∙◌, ℕ, refl, sym, subst, length, length-set}
+use Rattle.std.proofs.Common.{◌<◌, ◌∙◌, refl, sym, subst, length-set}
 use Rattle.co_schedule.specs.Parcels.{IsStateOf}
 use Rattle.loop_rows.specs.declared.shared.LoopShared.{LoopShared}
 use Rattle.loop_rows.specs.declared.seats.Seats.{Seats}
