@@ -1,5 +1,5 @@
 //! How a lock for one stream is set up.
-ghost use Rattle.std.specs.Prelude.{◌≡◌, ◌<◌, ◌≤◌, ◌^◌, ◌==◌, ◌&&◌, IsTrue, length};
+ghost use Rattle.std.specs.Prelude.{◌≡◌, ◌<◌, ◌≤◌, ◌^◌, ◌==◌, ◌&&◌, IsTrue, length, map, slice_index};
 ghost use Rattle.aio_model.specs.Asked.{requests_of, is_ask};
 ghost use Rattle.co_mutex.specs.Passes.{passes_of};
 ghost use Rattle.img_streams.specs.Lines.{AreShort, IsShort};
@@ -61,6 +61,16 @@ fn fit(lines: &[Step]) -> bool
     lines.len() < 4096 && are_short(lines)
 }
 
+/// The id of the first stream line; 0, if there is none.
+fn first_id(script: &Script) -> u32
+    ensures { result ≡ slice_index (map (λ stream. stream.id) script.now.streams) 0 }
+{
+    match script.streams.as_slice() {
+        [] => 0,
+        [stream, ..] => stream.id,
+    }
+}
+
 /// A lock on a new image of the script's size, its one pass, and the memory of the stream of id 0.
 pub fn set_up<D: Device, R: Abort>(
     rt: &R,
@@ -72,6 +82,9 @@ pub fn set_up<D: Device, R: Abort>(
     ensures can { CanStart result.0 script.now result.1 (record { co = 0; home = 0 }) 0 result.2 }
     ensures one { passes_of result.0 ≡ 1 }
 {
+    if first_id(script) != 0 {
+        panic!(rt; "the first stream has the id 0");
+    }
     let lines = script.lines.as_slice();
     if !fit(lines) {
         panic!(rt; "the lines are few and short");

@@ -18,6 +18,7 @@ returns-clause-can g c =
       homes = 0 ∷ [];
       built = c.in-Ok-build-2.ensures.built.0 ∙ c.in-Ok-build.ensures.ok;
       known = omega arith;
+      named = search rules;
       count = c.requests_in-requests.ensures ∙ ap (requests_of 0) c.as_slice-lines.ensures;
       short = subst AreShort c.as_slice-lines.ensures fits.1;
       few = search rules;
