@@ -7,7 +7,7 @@ use Rattle.std.proofs.lemmas.List.{append-nil}
 use Rattle.aio_model.specs.declared.flags.Flags.{Flags}
 use Rattle.aio_model.specs.LoopHistory.{Sizes, History}
 use Rattle.aio_model.specs.LoopFlags.{are_due, are_urgent, is_due, is_urgent, flags_of}
-use Rattle.aio_model.specs.LoopLists.{stack_of, out_of}
+use Rattle.aio_model.specs.LoopLists.{seat_of, stack_of, out_of}
 use Rattle.aio_model.specs.LoopLegal.{IsLegal}
 use Rattle.aio_model.specs.LoopLog.{first_from}
 use Rattle.aio_model.specs.LoopSeats.{home, entries_of}
@@ -16,7 +16,8 @@ use Rattle.aio_core.specs.Known.{Known, Sleep, Running, Scanning, Scan, numbers_
 use Rattle.aio_core.specs.SleepSteps.{Learns, scan_in}
 use Rattle.aio_core.specs.Scans.{LookedAt, Passes, PassesAll, Scans, FoundNone, FoundUrgent, SameButSleep, some_idle, none_urgent, indices_of}
 use Rattle.aio_core.specs.Calls.{TableState, SeatState, IsSeatOf}
-use Rattle.aio_bh.proofs.Entries.{none_of_home, entries_of-append}
+use Rattle.table_seats.proofs.Standing.{entries-append}
+use Rattle.aio_bh.proofs.Entries.{none_of_home}
 use Rattle.bell_loop.specs.Running.{IsAlone, Calm, Idles, OnlyOthers, Finds}
 use Rattle.bell_loop.proofs.Alone.{alone_parts, none_else}
 use Rattle.bell_loop.proofs.Dues.{some_due, due-in_stack}
@@ -30,7 +31,7 @@ pub others-then : (a b c : History) → OnlyOthers a b → OnlyOthers b c → On
 others-then a b c first then = record {
   between = then.between ++ first.between;
   longer = then.longer ∙ ap (λ l. then.between ++ l) first.longer ∙ sym (append_assoc then.between first.between a);
-  not_home = entries_of-append home then.between first.between ∙ ap (λ l. l ++ entries_of home first.between) then.not_home ∙ first.not_home;
+  not_home = entries-append seat_of home then.between first.between ∙ ap (λ l. l ++ entries_of home first.between) then.not_home ∙ first.not_home;
 }
 
 -- where home is alone, nothing came
