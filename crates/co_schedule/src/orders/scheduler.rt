@@ -17,6 +17,7 @@ pub(crate) struct ToMark<'a> {
     pub(crate) own: u64,
     ghost of: { inner.table_id ≡ table.now.table },
     ghost numbers: { (0 < inner.me.0.known.count) × (own ≡ inner.me.0.known.first + 1) },
+    ghost seat: { inner.me.0.known.first < 64 },
     ghost below: { co < table.now.coroutines },
     ghost phase: { inner.me.0.known.phase ≡ AtRest },
     ghost slots: { inner.me.1 ≡ [] },
