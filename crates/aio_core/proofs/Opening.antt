@@ -1,23 +1,15 @@
 -- A new table meets the rule, over a history with no entry.
-use Rattle.std.proofs.Common.{Option, None, true, false, ◌+◌, map, replicate, ◌≡◌, ℕ, zero, suc, ◌<◌, ◌≤◌, List, [], ◌∷◌, length, slice_index, refl, sym, subst, arith}
-use mathlib.Core.Option.{some, some-injective, some-ne-none}
+use Rattle.std.proofs.Common.{Option, None, true, false, ◌+◌, map, replicate, ◌≡◌, ℕ, zero, suc, ◌<◌, ◌≤◌, List, [], ◌∷◌, length, slice_index, refl, arith}
+use mathlib.Core.Option.{some}
 use lib.ListN.{get_elem?}
 use Rattle.aio_model.specs.LoopLists.{seat_of, job_of}
-use Rattle.table_seats.specs.Seats.{owns, home, EachView, AreApart, IsSeat}
+use Rattle.table_seats.specs.Seats.{owns, home}
+use Rattle.table_seats.proofs.Opening.{each_alone, seats_alone}
 use Rattle.aio_model.specs.LoopHistory.{Sizes}
 use Rattle.aio_core.specs.Words.{head_at, notified_at, notify_me_at, notifier_at, event_at, flags_at, index_count, word_count, flags_word}
-use Rattle.aio_core.specs.Known.{Known, first_known, part_of, numbers_of}
+use Rattle.aio_core.specs.Known.{first_known, part_of, numbers_of}
 use Rattle.aio_core.specs.Opening.{AreFirst}
 use Rattle.aio_core.specs.Rule.{IsOfTable, Owes, HasOut, HasSleep, Stands, IsFull, HasJob, SlotsStand}
-
-each_alone : (P : Known → Type 0) (v : Known) → P v → EachView P (v ∷ [])
-each_alone P v h zero u e = subst P (some-injective v u e) h
-each_alone P v h (suc n) u e = absurd (some-ne-none u (sym e))
-
-apart_alone : (v : Known) → AreApart seat_of part_of (v ∷ [])
-apart_alone v zero zero u x e f ne n own = absurd (ne refl)
-apart_alone v zero (suc j) u x e f ne n own = absurd (some-ne-none x (sym f))
-apart_alone v (suc i) j u x e f ne n own = absurd (some-ne-none u (sym e))
 
 -- the flags of the lots below this one are set
 pub record WordsSoFar (sizes : Sizes) (lot : ℕ) (words : List ℕ) : Type 0 where
@@ -33,12 +25,11 @@ pub record WordsSoFar (sizes : Sizes) (lot : ℕ) (words : List ℕ) : Type 0 wh
 pub opening_stands : (sizes : Sizes) (words : List ℕ) → AreFirst sizes words → Stands sizes [] words (first_known sizes ∷ [])
 opening_stands sizes words first =
     let v = first_known sizes in
-    let is : IsSeat seat_of [] (part_of v) = record { seen_of = record { rest = []; longer = refl; none_missed = refl; mine_is = refl }; below = omega arith; told_of = tt } in
     record {
       long = first.long;
       legal = tt;
       seats = record {
-        parts = record { each = each_alone (λ u. IsSeat seat_of [] (part_of u)) v is; apart = apart_alone v; all_owned = refl };
+        parts = seats_alone seat_of part_of v refl;
         tables = each_alone (IsOfTable sizes) v (record { sizes_are = λ _. refl; active = λ q. absurd cc });
       };
       flags = record { each = first.flags };

@@ -1,6 +1,6 @@
 -- Who owns all numbers, at rest: it has seen the whole history, nobody is in flight, and a look at the notifier of a committed loop
 -- finds it set where home is not to sleep.
-use Rattle.std.proofs.Common.{Option, ◌≡◌, ◌≢◌, ℕ, suc, ◌+◌, ◌<◌, ◌≤◌, Bool, true, false, cond, eqb, List, [], ◌∷◌, ◌++◌, length, set, slice_index, refl, sym, ap, ◌∙◌, subst, ⊎_elim, arith, length-append, eq-zero-or-pos}
+use Rattle.std.proofs.Common.{Option, ◌≡◌, ◌≢◌, ℕ, ◌+◌, ◌<◌, Bool, true, false, cond, eqb, List, ◌∷◌, set, slice_index, refl, sym, ap, ◌∙◌, subst, ⊎_elim, arith, eq-zero-or-pos}
 use Rattle.std.proofs.lemmas.Bool.{cases_eq, cases_Bool, eq-eqb, ne_eqb, cond-true}
 use mathlib.Core.Option.{some, none, some-injective}
 use lib.ListN.{get_elem?}

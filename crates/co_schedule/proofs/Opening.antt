@@ -1,24 +1,15 @@
 -- A new table meets the rule, over a history with no entry.
-use Rattle.std.proofs.Common.{◌≡◌, Bool, false, ℕ, zero, suc, ◌<◌, Option, None, Some, List, [], ◌∷◌, length, map, replicate, slice_index, refl, sym, subst, arith}
-use mathlib.Core.Option.{some, some-injective, some-ne-none}
+use Rattle.std.proofs.Common.{◌≡◌, Bool, false, ℕ, zero, suc, ◌<◌, Option, None, Some, List, [], ◌∷◌, length, map, replicate, slice_index, refl, arith}
+use mathlib.Core.Option.{some}
 use lib.ListN.{get_elem?}
 use Rattle.atomic_table.specs.Table.{opening}
-use Rattle.table_seats.specs.Seats.{EachView, AreApart}
+use Rattle.table_seats.proofs.Opening.{each_alone, seats_alone}
 use Rattle.aio_model.specs.CoroutineHistory.{seat_of}
 use Rattle.co_schedule.specs.Words.{head_at, mark_at, word_count}
-use Rattle.co_schedule.specs.Known.{Known, part_of, first_known}
+use Rattle.co_schedule.specs.Known.{part_of, first_known}
 use Rattle.co_schedule.specs.Rule.{Stands}
 use Rattle.co_schedule.specs.Slots.{Kept}
 use Rattle.co_schedule.specs.Held.{AllOf}
-
-each_alone : {V : Type 0} (P : V → Type 0) (v : V) → P v → EachView P (v ∷ [])
-each_alone P v h zero u e = subst P (some-injective v u e) h
-each_alone P v h (suc n) u e = absurd (some-ne-none u (sym e))
-
-apart_alone : (v : Known) → AreApart seat_of part_of (v ∷ [])
-apart_alone v zero zero u x e f ne n own = absurd (ne refl)
-apart_alone v zero (suc j) u x e f ne n own = absurd (some-ne-none x (sym f))
-apart_alone v (suc i) j u x e f ne n own = absurd (some-ne-none u (sym e))
 
 abbrev pub zeros : ℕ → List ℕ
 zeros k = replicate k 0
@@ -43,11 +34,7 @@ opening_stands n =
     record {
       long = length-zeros (word_count n);
       legal = tt;
-      seats = record {
-        each = each_alone _ v (record { seen_of = record { rest = []; longer = refl; none_missed = refl; mine_is = refl }; below = omega arith; told_of = tt });
-        apart = apart_alone v;
-        all_owned = refl;
-      };
+      seats = seats_alone seat_of part_of v refl;
       marks = λ c low. all_zero (word_count n) (mark_at c);
       taken = [];
       stack = [];

@@ -3,3 +3,4 @@ pub mod Seats
 pub mod Splitting
 pub mod Joining
 pub mod Standing
+pub mod Opening
