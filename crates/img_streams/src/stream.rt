@@ -1,9 +1,9 @@
 //! The coroutine of a stream, and what it is lent.
-ghost use Rattle.std.specs.Prelude.{◌≡◌};
+ghost use Rattle.std.specs.Prelude.{◌≡◌, IsTrue};
 ghost use Rattle.aio_model.specs.declared.scripts.Script.{Script};
 ghost use Rattle.co_mutex.specs.declared.lock.CoMutex.{CoMutex};
 ghost use Rattle.img_streams.specs.Rooms.{CanStart};
-ghost use Rattle.img_streams.specs.Streams.{IsStreamOf, source};
+ghost use Rattle.img_streams.specs.Streams.{IsStreamOf, source, HasGone};
 
 use crate::progress::At;
 use crate::room::Room;
@@ -82,6 +82,13 @@ impl<P: LockRule> Stream<P> {
         ensures { result ≡ self.now.co.co }
     {
         self.co.co
+    }
+
+    /// Whether the stream has retired.
+    pub fn has_gone(&self) -> bool
+        ensures { IsTrue result → HasGone self.now.at }
+    {
+        matches!(self.at, At::Gone)
     }
 
     pub(crate) fn apart(self) -> (Pass<P>, Vec<Vec<u8>>)

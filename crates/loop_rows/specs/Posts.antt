@@ -4,7 +4,7 @@ use Rattle.aio_model.specs.declared.causes.Cause.{Cause}
 use Rattle.aio_bh.specs.Ready.{IsReady}
 use Rattle.co_schedule.specs.Words.{mark_at}
 use Rattle.co_schedule.specs.Known.{MarkCompare}
-use Rattle.co_schedule.specs.Standing.{Looks}
+use Rattle.co_schedule.specs.Standing.{Looks, IsMarkOf}
 use Rattle.co_schedule.specs.Parcels.{IsStateOf}
 use Rattle.co_schedule.specs.Calls.{IsSeatOf, HasScheduled}
 use Rattle.co_schedule.specs.Posting.{SchedulesHandle}
@@ -38,6 +38,7 @@ module _ {C O : Type 0} where
   pub record FindsMarked (co mark : ℕ) (before after : Seats C O) : Type 0 where
     pub marked : mark ≢ 0
     pub looks : Looks MarkCompare (mark_at co) mark before.coroutines.known after.coroutines.known
+    pub place : IsMarkOf co mark before.coroutines.known
     pub same : after.bottoms ≡ before.bottoms
 
   -- this was done to the seats of one loop

@@ -3,3 +3,4 @@ pub mod Places
 pub mod Scripts
 pub mod Starting
 pub mod Stopping
+pub mod Untouched

@@ -7,10 +7,12 @@ mod beginning;
 mod counting;
 mod finishing;
 mod gathering;
+mod giving_back;
 mod room;
 mod rounds;
 
 pub use beginning::{Begun, begin};
 pub use finishing::{Finished, finish};
+pub use giving_back::give_back;
 pub use room::EndRoom;
 pub use rounds::{carry, serve_in_rounds};
