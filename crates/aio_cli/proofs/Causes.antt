@@ -15,7 +15,7 @@ use Rattle.aio_script.specs.LoopGrammar.{loop_script_said}
 use Rattle.aio_cli.specs.declared.answer.Answer.{Answer}
 use Rattle.aio_cli.specs.declared.answer.Answer.TheVariants.{Done, Errors, Usage, BadScript, TooLong, TooLarge, ReadFault, WriteFault, NoMemory, DeviceFault}
 use Rattle.aio_cli.specs.Answers.{IsOfLoop, IsRefusal, IsWhole, OnBadScript, OnCut, OnDeviceFault, OnRun, OnTooLarge, OnTooLong, OnWritten}
-use Rattle.aio_cli.specs.BellsRun.{RingsSaid}
+use Rattle.aio_cli.specs.Rings.{RingsSaid}
 use Rattle.program_words.specs.declared.modes.Mode.{Mode}
 use Rattle.program_words.specs.declared.modes.Mode.TheVariants.{Image, Bells}
 use Rattle.aio_cli.specs.Words.{InBells, InImage}

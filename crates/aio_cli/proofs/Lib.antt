@@ -1,14 +1,6 @@
-pub mod Acting
 pub mod Causes
-pub mod Commanded
-pub mod Commands
-pub mod Entries
 pub mod Failures
 pub mod Going
-pub mod Known
-pub mod Logs
-pub mod Named
-pub mod Polls
 pub mod Printing
 pub mod Reading
 pub mod Rooms

@@ -1,5 +1,5 @@
 -- How the reads of one text join up.
-use Rattle.std.proofs.Common.{◌≡◌, ℕ, ◌<◌, true, false, List, [], ◌∷◌, ◌++◌, Option, Some, None, refl, ap, ◌∙◌, inl, inr, arith}
+use Rattle.std.proofs.Common.{◌≡◌, ℕ, ◌<◌, true, false, List, [], ◌∷◌, Option, Some, None, refl, ap, ◌∙◌, inl, inr, arith}
 use Rattle.aio_words.specs.declared.called.SourceCall.{SourceCall}
 use Rattle.aio_words.specs.Content.{Takes}
 use Rattle.aio_cli.specs.Calls.{ReadsWell, Reads}

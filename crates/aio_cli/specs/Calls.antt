@@ -2,7 +2,7 @@
 use Rattle.std.specs.Prelude.{◌≡◌, ◌⊎◌, ℕ, ◌<◌, Bool, true, false, List, [], ◌∷◌, ◌++◌, Option, Some, None}
 use Rattle.aio_words.specs.declared.called.SourceCall.{SourceCall}
 use Rattle.aio_cli.specs.declared.answer.Answer.{Answer}
-use Rattle.aio_cli.specs.declared.answer.Answer.TheVariants.{Done, Errors, Usage, BadScript, TooLong, TooLarge, ReadFault, WriteFault, NoMemory, DeviceFault}
+use Rattle.aio_cli.specs.declared.answer.Answer.TheVariants.{ReadFault}
 
 -- the read gave some bytes
 abbrev pub GaveSome : Option ℕ → Type 0

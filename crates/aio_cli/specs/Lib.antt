@@ -1,5 +1,4 @@
-pub mod Bells
-pub mod BellsRun
+pub mod Rings
 pub mod Answers
 pub mod Buffers
 pub mod Calls

@@ -1,7 +1,9 @@
 ghost use Rattle.std.specs.Prelude.{◌≡◌};
 
 use aio_model::Placed;
+use aio_notify::LoopEnd;
 use aio_script::ScriptRefusal;
+use bell_loop::Tag;
 
 /// How a run of the program ended.
 #[derive(Clone, Copy, Debug, PartialEq, Eq)]
@@ -29,12 +31,13 @@ pub enum Answer {
 }
 
 /// What a run of the program leaves: how it ended, the device, and the replies in the order of their places. There are
-/// none where nothing was served.
+/// none where nothing was served. In the mode of loop scripts it leaves the end of the loop, where all was written.
 #[derive(Drop)]
 pub struct End<D> {
     pub answer: Answer,
     pub device: D,
     pub served: Vec<Placed>,
+    pub bells: Option<LoopEnd<Tag>>,
 }
 
 impl Answer {

@@ -2,11 +2,11 @@
 #![tactic(auto)]
 
 mod answer;
-mod bells;
 mod fault;
 mod print;
 mod program;
 mod read;
+mod rings;
 mod run;
 mod serve;
 

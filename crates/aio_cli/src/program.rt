@@ -13,13 +13,13 @@ ghost use Rattle.aio_script.specs.LoopGrammar.{loop_script_said};
 ghost use Rattle.aio_cli.specs.Answers.{FailsReading, FailsReadingLoop, FailsText, IsDone, IsLengthRefusal, IsOfLoop, IsRefusal, IsWhole, OnBadScript, OnCut, OnDeviceFault, OnRun, OnTooLarge, OnTooLong, OnUnasked, OnUnserved, OnWritten, TellsErrors};
 ghost use Rattle.aio_cli.specs.Calls.{Reads, is_read_fault};
 ghost use Rattle.aio_cli.specs.Reading.{IsText, IsTooLong, Refuses, RefusesLoop, Says, SaysLoop, SaysFitting, SaysImage, SaysSome, TakesAtMost, longest_script, most_read};
-ghost use Rattle.aio_cli.specs.BellsRun.{RingsSaid};
+ghost use Rattle.aio_cli.specs.Rings.{AtBells, AtDone, EndsSaid, RingsSaid};
 ghost use Rattle.aio_cli.specs.Run.{Runs};
 ghost use Rattle.aio_cli.specs.Words.{InBells, InImage, mode_served};
 ghost use Rattle.program_words.specs.Words.{mode_said};
 
-use crate::bells::run_loop_script;
 use crate::read::{ReadFail, read_text};
+use crate::rings::{Rung, ring};
 use crate::run::{run_script, unserved};
 use crate::{Answer, End};
 use aio_model::{LoopScript, Script};
@@ -27,6 +27,7 @@ use aio_script::{ScriptFail, read_loop_script, read_script};
 use aio_words::{Clock, Device, DeviceAsk, Gate, Sink, Source};
 use program_words::{Mode, mode_said};
 use std::alloc::Global;
+use std::sync::Wait;
 
 /// How many bytes a script may have.
 const LONGEST_SCRIPT: usize = 1_048_576;
@@ -104,6 +105,7 @@ fn run_image<S: Source, K: Sink, D: Device>(
         (AppendsFront (K.held sink.old) (K.held sink.new))) }
     ensures unserved { OnUnserved result.answer ((sink.new ≡ sink.old) × (D.bytes result.device ≡ D.bytes device) × (result.served.items ≡ [])) }
     ensures unasked { OnUnasked result.answer (result.device ≡ device) }
+    ensures no_bells { result.bells ≡ None }
     ensures errors { TellsErrors result.answer result.served.items }
     ensures eios { HasRisenBy (eios_of result.served.items) (D.faults device) (D.faults result.device) }
     ensures asked { result.answer ≡ Answer.Usage → ⊥ }
@@ -132,8 +134,25 @@ fn run_image<S: Source, K: Sink, D: Device>(
     }
 }
 
+/// The end of a run in which a loop script was done.
+fn ended<D>(alloc: Global, rung: Rung, device: D) -> End<D>
+    ensures answer { result.answer ≡ rung.answer }
+    ensures device { result.device ≡ device }
+    ensures served { result.served.items ≡ [] }
+    ensures bells { result.bells ≡ rung.bells }
+{
+    let Rung { answer, bells } = rung;
+    End {
+        answer,
+        device,
+        served: Vec::new(alloc),
+        bells,
+    }
+}
+
 /// Reads a loop script, does its commands and prints their replies. The device isn't touched.
-fn run_bells<S: Source, K: Sink, D: Device>(
+fn run_bells<R: Wait, S: Source, K: Sink, D: Device>(
+    rt: &R,
     alloc: Global,
     source: &mut S,
     sink: &mut K,
@@ -144,6 +163,8 @@ fn run_bells<S: Source, K: Sink, D: Device>(
         (RingsSaid (S.left source.old) (S.left source.new) (λ text. K.held sink.new ≡ with_piece text (K.held sink.old))) }
     ensures cut { OnCut result.answer
         (RingsSaid (S.left source.old) (S.left source.new) (AppendsFront (K.held sink.old) (K.held sink.new))) }
+    ensures bells { AtDone result.answer result.bells (λ end.
+        EndsSaid (S.left source.old) (S.left source.new) (λ text. K.held sink.new ≡ with_piece text (K.held sink.old)) end.known.seen) }
     ensures unserved { OnUnserved result.answer (sink.new ≡ sink.old) }
     ensures device { result.device ≡ device }
     ensures served { result.served.items ≡ [] }
@@ -156,16 +177,15 @@ fn run_bells<S: Source, K: Sink, D: Device>(
     ensures sink_counted { K.faults sink.old ≤ K.faults sink.new }
     ensures reads { Reads (is_read_fault result.answer) (S.calls source.old) (S.calls source.new) }
 {
-    let answer = match read_loop(alloc, source) {
-        Ok(script) => run_loop_script(alloc, &script, sink),
-        Err(answer) => answer,
-    };
-    unserved(alloc, answer, device)
+    match read_loop(alloc, source) {
+        Ok(script) => ended(alloc, ring(rt, alloc, &script, sink), device),
+        Err(answer) => unserved(alloc, answer, device),
+    }
 }
 
 /// Does all that the program does: reads a script from the source, serves its requests on the device, and writes the
-/// replies to the sink; or, where the word is `--mode=bh`, reads a loop script, does its commands on a loop of one
-/// thread, and writes what they answer.
+/// replies to the sink; or, where the word is `--mode=bh`, reads a loop script, does its commands on the shared loop,
+/// and writes what they answer.
 ///
 /// The words are those of the command line behind the program's name, as `program_words` reads them. Which device the
 /// word `--image=` names is the caller's affair, who hands it in. The generated script isn't served yet: words that ask
@@ -174,7 +194,8 @@ fn run_bells<S: Source, K: Sink, D: Device>(
 /// The device comes back at every answer. An answer is looked for in this order: Usage, then ReadFault or TooLong,
 /// BadScript, DeviceFault, TooLarge, and once the script was served WriteFault; NoMemory may stand in place of any from
 /// the reading to the serving.
-pub fn top<S: Source, K: Sink, D: Device + Send, C: Clock + Send + Drop, G: Gate + Sync>(
+pub fn top<R: Wait, S: Source, K: Sink, D: Device + Send, C: Clock + Send + Drop, G: Gate + Sync>(
+    rt: &R,
     alloc: Global,
     words: &[String],
     source: &mut S,
@@ -199,6 +220,9 @@ pub fn top<S: Source, K: Sink, D: Device + Send, C: Clock + Send + Drop, G: Gate
     ensures rung_cut { InBells (mode_said (map string_bytes words.now)) (OnCut result.answer
         (RingsSaid (S.left source.old) (S.left source.new) (AppendsFront (K.held sink.old) (K.held sink.new)))) }
     ensures untouched { InBells (mode_said (map string_bytes words.now)) (IsOfLoop result.answer × (result.device ≡ device) × (result.served.items ≡ [])) }
+    // The end of that loop comes at Done in this mode, and at no other answer.
+    ensures bells { AtBells (mode_said (map string_bytes words.now)) result.answer result.bells (λ end.
+        EndsSaid (S.left source.old) (S.left source.new) (λ text. K.held sink.new ≡ with_piece text (K.held sink.old)) end.known.seen) }
     // At every other answer nothing was served and nothing written.
     ensures unserved { OnUnserved result.answer ((sink.new ≡ sink.old) × (D.bytes result.device ≡ D.bytes device) × (result.served.items ≡ [])) }
     ensures unasked { OnUnasked result.answer (result.device ≡ device) }
@@ -260,7 +284,7 @@ pub fn top<S: Source, K: Sink, D: Device + Send, C: Clock + Send + Drop, G: Gate
     match mode_said(words) {
         None => unserved(alloc, Answer::Usage, device),
         Some(Mode::Image) => run_image(alloc, source, sink, device),
-        Some(Mode::Bells) => run_bells(alloc, source, sink, device),
+        Some(Mode::Bells) => run_bells(rt, alloc, source, sink, device),
         Some(Mode::Generated { .. }) => unserved(alloc, Answer::Usage, device),
     }
 }

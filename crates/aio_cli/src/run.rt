@@ -1,4 +1,4 @@
-ghost use Rattle.std.specs.Prelude.{◌≡◌, ◌<◌, ◌≤◌, ◌^◌, ◌+◌, ◌∷◌, [], true, false, length, map, vec_capacity, IfOk, IfErr};
+ghost use Rattle.std.specs.Prelude.{◌≡◌, ◌<◌, ◌≤◌, ◌^◌, ◌+◌, ◌∷◌, [], None, true, false, length, map, vec_capacity, IfOk, IfErr};
 ghost use Rattle.aio_model.specs.Asked.{asked};
 ghost use Rattle.aio_model.specs.PrintedText.{printed_text};
 ghost use Rattle.aio_model.specs.SerialHistory.{asked_name, placed_name, eios_of};
@@ -47,11 +47,13 @@ pub(crate) fn unserved<D>(alloc: Global, answer: Answer, device: D) -> End<D>
     ensures answer { result.answer ≡ answer }
     ensures device { result.device ≡ device }
     ensures served { result.served.items ≡ [] }
+    ensures bells { result.bells ≡ None }
 {
     End {
         answer,
         device,
         served: Vec::new(alloc),
+        bells: None,
     }
 }
 
@@ -119,6 +121,7 @@ fn run_fitting<K: Sink, D: Device>(
         (Serves script.now (D.bytes device) (D.bytes result.device) result.served.items
         × AppendsFront (K.held sink.old) (K.held sink.new) (printed_text (asked script.now.lines) result.served.items)) }
     ensures unserved { OnUnserved result.answer ((sink.new ≡ sink.old) × (result.device ≡ device) × (result.served.items ≡ [])) }
+    ensures no_bells { result.bells ≡ None }
     ensures errors { TellsErrors result.answer result.served.items }
     ensures eios { HasRisenBy (eios_of result.served.items) (D.faults device) (D.faults result.device) }
     ensures device_counted { D.faults device ≤ D.faults result.device }
@@ -144,6 +147,7 @@ fn run_fitting<K: Sink, D: Device>(
                 answer,
                 device,
                 served: replies,
+                bells: None,
             }
         }
     }
@@ -166,6 +170,7 @@ pub(crate) fn run_script<K: Sink, D: Device>(
         (Serves script.now (D.bytes device) (D.bytes result.device) result.served.items
         × AppendsFront (K.held sink.old) (K.held sink.new) (printed_text (asked script.now.lines) result.served.items)) }
     ensures unserved { OnUnserved result.answer ((sink.new ≡ sink.old) × (D.bytes result.device ≡ D.bytes device) × (result.served.items ≡ [])) }
+    ensures no_bells { result.bells ≡ None }
     ensures errors { TellsErrors result.answer result.served.items }
     ensures eios { HasRisenBy (eios_of result.served.items) (D.faults device) (D.faults result.device) }
     ensures device_counted { D.faults device ≤ D.faults result.device }

@@ -12,6 +12,7 @@ use real_ends::{AnyDevice, FileDevice, SystemClock};
 use std::alloc::Global;
 use std::io::ErrorKind;
 use std::process::ExitCode;
+use std::sync::Wait;
 use std::{env, io};
 
 /// How many bytes the device has where no word names a file.
@@ -24,7 +25,7 @@ fn main(rt: HostRuntime) -> ExitCode {
         return ExitCode::from(Answer::NoMemory.status());
     };
     let answer = match words(&rt) {
-        Ok(words) => run(&rt, words.as_slice()).unwrap_or(Answer::NoMemory),
+        Ok(words) => run(&rt, &rt, words.as_slice()).unwrap_or(Answer::NoMemory),
         Err(error) => match error.kind() {
             ErrorKind::OutOfMemory => Answer::NoMemory,
             _ => Answer::Usage,
@@ -40,13 +41,14 @@ fn words(rt: &HostRuntime) -> io::Result<Vec<String>> {
     Ok(env::args(rt)?.skip(1).collect(rt.alloc())?)
 }
 
-/// Runs the program, and tells how that ended.
-fn run(rt: &HostRuntime, words: &[String]) -> Result<Answer, NoMemory> {
+/// Runs the program, and tells how that ended. `waits` stands for the same runtime, as who may wait.
+fn run<R: Wait>(rt: &HostRuntime, waits: &R, words: &[String]) -> Result<Answer, NoMemory> {
     let mut source = StdSource::build(rt.stdin())?;
     let mut sink = StdSink::output(rt.stdout())?;
     let device = device(rt, words)?;
     let clocks = clocks(rt)?;
     let end = top(
+        waits,
         rt.alloc(),
         words,
         &mut source,

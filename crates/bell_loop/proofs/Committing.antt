@@ -1,19 +1,21 @@
 -- A commit makes no entry, and home idles again after it.
-use Rattle.std.proofs.Common.{◌≡◌, ℕ, zero, suc, ◌==◌, Bool, true, false, Option, Some, None, MatchBool, MatchOption, refl, sym, ap, ◌∙◌, subst}
+use Rattle.std.proofs.Common.{◌≡◌, ℕ, zero, suc, ◌-◌, ◌^◌, ◌==◌, Bool, true, false, Option, Some, None, MatchBool, MatchOption, sym, ap, ◌∙◌, subst}
 use Rattle.aio_model.specs.declared.commits.Commit.{Commit}
-use Rattle.aio_model.specs.declared.commits.Commit.TheVariants.{Awake}
+use Rattle.aio_model.specs.declared.commits.Commit.TheVariants.{Sleep, Awake}
+use Rattle.aio_model.specs.declared.commits.Why.{Why}
 use Rattle.aio_model.specs.declared.commits.Why.TheVariants.{Urgent, Event}
 use Rattle.aio_model.specs.LoopHistory.{History}
 use Rattle.aio_model.specs.LoopLegal.{IsLegal}
-use Rattle.aio_model.specs.InFlight.{AtRest}
-use Rattle.aio_core.specs.Known.{Known, empty_stage, is_running}
+use Rattle.aio_core.specs.Known.{Known, is_running}
 use Rattle.aio_core.specs.SleepSteps.{Disarms, LoadsEvent}
-use Rattle.aio_core.specs.Scans.{Scans, SameButSleep}
+use Rattle.aio_core.specs.Scans.{SameButSleep}
 use Rattle.aio_core.specs.Calls.{TableState, SeatState, IsSeatOf}
-use Rattle.aio_notify.specs.Commits.{Commits, PastDeadline, PastEvents, ArmsAndTests, sleep_bound}
+use Rattle.aio_notify.specs.Commits.{Commits, PastDeadline, PastEvents, ArmsAndTests, IsAwakeBy, sleep_bound}
+use Rattle.aio_notify.specs.Settling.{is_committed}
 use Rattle.aio_notify.specs.Watching.{watches, LooksAt, LooksBelow, FindsSet}
 use Rattle.bell_loop.specs.Running.{Idles, OnlyOthers}
-use Rattle.bell_loop.proofs.Scanning.{scan_others, scan_legal, scan_runs}
+use Rattle.bell_loop.specs.Ending.{Sleeps}
+use Rattle.bell_loop.proofs.Scanning.{scan_others, scan_legal}
 
 look_seen : (watch e : ℕ) (set : Bool) (v w : Known) → LooksAt watch e set v w → w.seen ≡ v.seen
 look_seen watch e set v w look =
@@ -69,3 +71,29 @@ Idles-slept table a b idles of same running legal = record {
   running = running;
   legal = subst (λ s. IsLegal s b.known.seen) idles.of.sizes legal;
 }
+
+-- an accept changes nothing that is seen
+pub Idles-accepted : (table : TableState) (a b : SeatState) → Idles table a → IsSeatOf table b → b.known ≡ record a.known { did = b.known.did } → Idles table b
+Idles-accepted table a b idles of same = record {
+  of = of;
+  rest = ap (λ (k : Known). k.phase) same ∙ idles.rest;
+  first = ap (λ (k : Known). k.first) same ∙ idles.first;
+  count = ap (λ (k : Known). k.count) same ∙ idles.count;
+  stage = ap (λ (k : Known). k.stage) same ∙ idles.stage;
+  running = ap (λ (k : Known). is_running k.sleep) same ∙ idles.running;
+  legal = subst (λ (h : History). IsLegal table.sizes h) (sym (ap (λ (k : Known). k.seen) same)) idles.legal;
+}
+
+-- a commit that came to a sleep, and one that didn't
+pub Sleeps-of : (table : TableState) (a b : SeatState) (answer : Commit) (bound : Option ℕ) → Idles table a → IsSeatOf table b → SameButSleep a.known b.known → answer ≡ Sleep bound → IsAwakeBy (2 ^ 64 - 1) table.sizes.events answer b.known → Sleeps table b
+Sleeps-of table a b answer bound idles of same is awake = record {
+  of = of;
+  committed = ap is_committed (subst (λ c. IsAwakeBy (2 ^ 64 - 1) table.sizes.events c b.known) is awake);
+  rest = ap (λ (k : Known). k.phase) same ∙ idles.rest;
+  first = ap (λ (k : Known). k.first) same ∙ idles.first;
+  count = ap (λ (k : Known). k.count) same ∙ idles.count;
+}
+
+pub Idles-awake : (table : TableState) (a b : SeatState) (answer : Commit) (why : Why) → Idles table a → IsSeatOf table b → SameButSleep a.known b.known → answer ≡ Awake why → IsAwakeBy (2 ^ 64 - 1) table.sizes.events answer b.known → IsLegal a.known.sizes b.known.seen → Idles table b
+Idles-awake table a b answer why idles of same is awake legal =
+    Idles-slept table a b idles of same (subst (λ c. IsAwakeBy (2 ^ 64 - 1) table.sizes.events c b.known) is awake) legal

@@ -1,10 +1,10 @@
 -- Where nothing is announced or out, what is due stands in the stack.
-use Rattle.std.proofs.Common.{◌≡◌, ℕ, zero, suc, ◌+◌, ◌≤◌, ◌<◌, Bool, true, false, not, ◌&&◌, ◌||◌, cond, eqb, ltb, Option, Some, None, List, [], ◌∷◌, ◌++◌, arith, inl, inr, refl, sym, ap, ◌∙◌, subst}
+use Rattle.std.proofs.Common.{◌≡◌, ℕ, zero, suc, ◌+◌, ◌≤◌, ◌<◌, Bool, true, false, not, ◌&&◌, ◌||◌, cond, eqb, ltb, Option, Some, None, List, [], ◌∷◌, arith, refl, sym, ap, ◌∙◌, subst}
 use Rattle.std.specs.Option.{is_some}
 use Rattle.std.proofs.lemmas.Bool.{false≢true, eqb-true, eq-eqb, and_parts, ltb-true}
 use Rattle.aio_model.specs.FlagsWord.{bit}
 use Rattle.aio_model.specs.LoopHistory.{Sizes, Asked, Entry, New, Enqueue, Put, Cancel, Take, Dequeue, Free, SetEvent, ClearEvent, History}
-use Rattle.aio_model.specs.LoopFlags.{is_lot, is_pending, is_scheduled, is_scheduling, is_deleted, is_due, lives, has_life, asks, enqueues, ends_round, cancels}
+use Rattle.aio_model.specs.LoopFlags.{is_pending, is_scheduled, is_scheduling, is_deleted, is_due, lives, asks, enqueues, ends_round, cancels}
 use Rattle.aio_model.specs.LoopLists.{is_announced, stack_of, out_of}
 use Rattle.aio_model.specs.LoopLaws.{times_of}
 use Rattle.aio_model.specs.LoopLegal.{IsLegal}

@@ -80,6 +80,16 @@ Lots-handle sizes X i h legal handle before k alive =
       ]
     ]
 
+-- the callbacks made nothing
+abbrev pub MadeNone : List Entered → Type 0
+MadeNone [] = Unit {0}
+MadeNone (entered ∷ older) = (entered.made ≡ []) × MadeNone older
+
+MadeNone-split : (newer older : List Entered) → MadeNone (newer ++ older) → MadeNone newer × MadeNone older
+MadeNone-split [] older h = (tt, h)
+MadeNone-split (e ∷ newer) older h =
+    let parts = MadeNone-split newer older h.1 in ((h.0, parts.0), parts.1)
+
 module _ (acts : ℕ → List ActKind) (sizes : Sizes) where
   -- from these lots that need not be pending to those
   pub record Holds (X Y : ℕ → Type 0) (a b : Place) : Type 0 where
@@ -88,7 +98,7 @@ module _ (acts : ℕ → List ActKind) (sizes : Sizes) where
     pub longer : b.log ≡ more ++ a.log
     pub seen : b.seen ≡ added ++ a.seen
     pub runs : IsAlone b.seen → IsLegal sizes b.seen → (w w' : Waiting) → Runs (DoesActs acts) w more w'
-        → (NoneAnnounced a.seen → NoneAnnounced b.seen) × (Lots X a.seen → Lots Y b.seen) × (StackBelow sizes a.seen → StackBelow sizes b.seen) × ((e : ℕ) → is_set e b.seen ≡ is_set e a.seen)
+        → (NoneAnnounced a.seen → NoneAnnounced b.seen) × (Lots X a.seen → Lots Y b.seen) × (StackBelow sizes a.seen → StackBelow sizes b.seen) × ((e : ℕ) → is_set e b.seen ≡ is_set e a.seen) × (MadeNone more → stack_of a.seen ≡ [] → stack_of b.seen ≡ [])
 
   Holds-same : (X : ℕ → Type 0) (a b : Place) → b ≡ a → Holds X X a b
   Holds-same X a b same = record {
@@ -98,7 +108,7 @@ module _ (acts : ℕ → List ActKind) (sizes : Sizes) where
     seen = ap (λ (p : Place). p.seen) same;
     runs = λ alone legal w w' runs.
         let is : b.seen ≡ a.seen = ap (λ (p : Place). p.seen) same in
-        (subst NoneAnnounced (sym is), subst (Lots X) (sym is), subst (StackBelow sizes) (sym is), λ e. ap (is_set e) is);
+        (subst NoneAnnounced (sym is), subst (Lots X) (sym is), subst (StackBelow sizes) (sym is), λ e. ap (is_set e) is, λ made empty. ap stack_of is ∙ empty);
   }
 
   Holds-then : (X Y Z : ℕ → Type 0) (a b c : Place) → Holds X Y a b → Holds Y Z b c → Holds X Z a c
@@ -113,7 +123,7 @@ module _ (acts : ℕ → List ActKind) (sizes : Sizes) where
         let legal_mid : IsLegal sizes b.seen = legal_cut sizes then.added b.seen (subst (IsLegal sizes) then.seen legal) in
         let one = first.runs alone_mid legal_mid w parts.0 parts.1 in
         let two = then.runs alone legal parts.0 w' parts.2 in
-        (λ h. two.0 (one.0 h), λ h. two.1 (one.1 h), λ h. two.2 (one.2 h), λ e. two.3 e ∙ one.3 e);
+        (λ h. two.0 (one.0 h), λ h. two.1 (one.1 h), λ h. two.2 (one.2 h), λ e. two.3 e ∙ one.3 e, λ made empty. let parts = MadeNone-split then.more first.more made in two.4 parts.0 (one.4 parts.1 empty));
   }
 
   -- home made one entry
@@ -122,15 +132,15 @@ module _ (acts : ℕ → List ActKind) (sizes : Sizes) where
       let parts = alone_parts (e ∷ []) (others ++ a.seen) (subst IsAlone seen alone) in
       seen ∙ ap (λ l. e ∷ (l ++ a.seen)) (none_else others (alone_parts others a.seen parts.1).0 none)
 
-  Holds-entry : (X Y : ℕ → Type 0) (e : Entry) (others : History) (a b : Place) → ((i : ℕ) → enqueues i e ≡ false) → ((h : History) → Lots X h → Lots Y (e ∷ h)) → ((h : History) → StackBelow sizes h → StackBelow sizes (e ∷ h)) → ((k : ℕ) (h : History) → is_set k (e ∷ h) ≡ is_set k h) → entries_of home others ≡ [] → b.seen ≡ e ∷ (others ++ a.seen) → b.log ≡ a.log → Holds X Y a b
-  Holds-entry X Y e others a b quiet lots stack events none seen log = record {
+  Holds-entry : (X Y : ℕ → Type 0) (e : Entry) (others : History) (a b : Place) → ((i : ℕ) → enqueues i e ≡ false) → ((h : History) → Lots X h → Lots Y (e ∷ h)) → ((h : History) → StackBelow sizes h → StackBelow sizes (e ∷ h)) → ((k : ℕ) (h : History) → is_set k (e ∷ h) ≡ is_set k h) → ((h : History) → stack_of h ≡ [] → stack_of (e ∷ h) ≡ []) → entries_of home others ≡ [] → b.seen ≡ e ∷ (others ++ a.seen) → b.log ≡ a.log → Holds X Y a b
+  Holds-entry X Y e others a b quiet lots stack events empties none seen log = record {
     more = [];
     added = e ∷ others;
     longer = log;
     seen = seen;
     runs = λ alone legal w w' runs.
         let is : b.seen ≡ e ∷ a.seen = one_entry e others a b none seen alone in
-        (λ h. subst NoneAnnounced (sym is) (NoneAnnounced-entry e a.seen quiet h), λ h. subst (Lots Y) (sym is) (lots a.seen h), λ h. subst (StackBelow sizes) (sym is) (stack a.seen h), λ k. ap (is_set k) is ∙ events k a.seen);
+        (λ h. subst NoneAnnounced (sym is) (NoneAnnounced-entry e a.seen quiet h), λ h. subst (Lots Y) (sym is) (lots a.seen h), λ h. subst (StackBelow sizes) (sym is) (stack a.seen h), λ k. ap (is_set k) is ∙ events k a.seen, λ made empty. ap stack_of is ∙ empties a.seen empty);
   }
 
   Holds-enters : (X : ℕ → Type 0) (lent : Lent) (answer : Answer) (a b : Place) → Enters lent answer a b → Holds X X a b
@@ -145,7 +155,7 @@ module _ (acts : ℕ → List ActKind) (sizes : Sizes) where
         let is : b.seen ≡ enters.made ++ a.seen = enters.seen ∙ ap (λ l. l ++ a.seen) just in
         let legal_here : IsLegal sizes (enters.made ++ a.seen) = subst (IsLegal sizes) is legal in
         let adds = runs.2.adds in
-        (λ h. subst NoneAnnounced (sym is) (NoneAnnounced-acts sizes _ enters.made a.seen adds legal_here h), λ h. subst (Lots X) (sym is) (Lots-acts X _ enters.made a.seen adds h), λ h. subst (StackBelow sizes) (sym is) (StackBelow-acts sizes _ enters.made a.seen adds legal_here h), λ e. ap (is_set e) is ∙ set-acts e _ enters.made a.seen adds);
+        (λ h. subst NoneAnnounced (sym is) (NoneAnnounced-acts sizes _ enters.made a.seen adds legal_here h), λ h. subst (Lots X) (sym is) (Lots-acts X _ enters.made a.seen adds h), λ h. subst (StackBelow sizes) (sym is) (StackBelow-acts sizes _ enters.made a.seen adds legal_here h), λ e. ap (is_set e) is ∙ set-acts e _ enters.made a.seen adds, λ made empty. ap stack_of (is ∙ ap (λ m. m ++ a.seen) made.0) ∙ empty);
   }
 
   module _ (frame : Place → Place → Type 0) (frames : (X : ℕ → Type 0) (a b : Place) → frame a b → Holds X X a b) where
@@ -165,7 +175,7 @@ module _ (acts : ℕ → List ActKind) (sizes : Sizes) where
 
     Holds-free : (X : ℕ → Type 0) (i : ℕ) (lot : Bool) (a b : Place) → is_lot sizes i ≡ lot → MatchBool lot (Makes (Free i) a b) (b ≡ a) → Holds (λ k. X k ⊎ (k ≡ i)) X a b
     Holds-free X i true a b is free =
-        Holds-entry (λ k. X k ⊎ (k ≡ i)) X (Free i) free.others a b (λ k. refl) (Lots-freed X i) (λ h s. s) (λ k h. refl) free.not_home free.seen free.log
+        Holds-entry (λ k. X k ⊎ (k ≡ i)) X (Free i) free.others a b (λ k. refl) (Lots-freed X i) (λ h s. s) (λ k h. refl) (λ h s. s) free.not_home free.seen free.log
     Holds-free X i false a b is same = record {
       more = [];
       added = [];
@@ -173,7 +183,7 @@ module _ (acts : ℕ → List ActKind) (sizes : Sizes) where
       seen = ap (λ (p : Place). p.seen) same;
       runs = λ alone legal w w' runs.
           let here : b.seen ≡ a.seen = ap (λ (p : Place). p.seen) same in
-          (subst NoneAnnounced (sym here), λ h. subst (Lots X) (sym here) (Lots-handle sizes X i a.seen (subst (IsLegal sizes) here legal) is h), subst (StackBelow sizes) (sym here), λ e. ap (is_set e) here);
+          (subst NoneAnnounced (sym here), λ h. subst (Lots X) (sym here) (Lots-handle sizes X i a.seen (subst (IsLegal sizes) here legal) is h), subst (StackBelow sizes) (sym here), λ e. ap (is_set e) here, λ made empty. ap stack_of here ∙ empty);
     }
 
     Holds-turn : (X : ℕ → Type 0) (nests : ℕ) (a b : Place) → Turn sizes frame nests a b → Holds X X a b
@@ -181,7 +191,7 @@ module _ (acts : ℕ → List ActKind) (sizes : Sizes) where
         let d = turn.dequeue in
         let i = turn.index in
         let Y : ℕ → Type 0 = λ k. X k ⊎ (k ≡ i) in
-        Holds-then X Y X a turn.dequeued b (Holds-entry X Y (Dequeue i turn.ran) d.others a turn.dequeued (λ k. refl) (Lots-dequeued X i turn.ran) (λ h s. s) (λ k h. refl) d.not_home d.seen d.log)
+        Holds-then X Y X a turn.dequeued b (Holds-entry X Y (Dequeue i turn.ran) d.others a turn.dequeued (λ k. refl) (Lots-dequeued X i turn.ran) (λ h s. s) (λ k h. refl) (λ h s. s) d.not_home d.seen d.log)
         (Holds-then Y Y X turn.dequeued turn.ended b (Holds-calls Y i _ turn.ran nests turn.dequeued turn.ended turn.body) (Holds-free X i (is_lot sizes i) turn.ended b refl turn.free))
 
     Holds-turns : (X : ℕ → Type 0) (nests count : ℕ) (a b : Place) → Turns sizes frame nests count a b → Holds X X a b
@@ -191,7 +201,7 @@ module _ (acts : ℕ → List ActKind) (sizes : Sizes) where
 
   Holds-take : (X : ℕ → Type 0) (a b : Place) → Makes Take a b → Holds X X a b
   Holds-take X a b take =
-      Holds-entry X X Take take.others a b (λ k. refl) (λ h l. l) (λ h s i above. refl) (λ k h. refl) take.not_home take.seen take.log
+      Holds-entry X X Take take.others a b (λ k. refl) (λ h l. l) (λ h s i above. refl) (λ k h. refl) (λ h s. refl) take.not_home take.seen take.log
 
   pub Holds-frame : (depths : ℕ) (X : ℕ → Type 0) (a b : Place) → Frame sizes depths a b → Holds X X a b
   unfolding Frame
@@ -211,6 +221,17 @@ module _ (acts : ℕ → List ActKind) (sizes : Sizes) where
       let taken : frame.taken.seen ≡ Take ∷ a.seen = one_entry Take frame.take.others a frame.taken frame.take.not_home frame.take.seen alone_taken in
       (turns.runs alone legal w w' (subst (λ l. Runs (DoesActs acts) w l w') more_is runs)).2 (subst (StackBelow sizes) (sym taken) (λ i above. refl))
 
+  -- a poll whose callbacks make nothing leaves nothing in the stack
+  pub Empty-frame : (deeper : ℕ) (a b : Place) → Frame sizes (suc deeper) a b → (w w' : Waiting) (more : List Entered) → b.log ≡ more ++ a.log → Runs (DoesActs acts) w more w' → MadeNone more → IsAlone b.seen → IsLegal sizes b.seen → stack_of b.seen ≡ []
+  unfolding Frame
+  Empty-frame deeper a b frame w w' more longer runs made alone legal =
+      let turns = Holds-turns (Frame sizes deeper) (Holds-frame deeper) (λ k. ⊥) (nests_above deeper) frame.count frame.taken b frame.turns in
+      let same : more ++ a.log ≡ turns.more ++ a.log = sym longer ∙ turns.longer ∙ ap (λ l. turns.more ++ l) frame.take.log in
+      let more_is : more ≡ turns.more = append_cancel_right more turns.more a.log same in
+      let alone_taken : IsAlone frame.taken.seen = (alone_parts turns.added frame.taken.seen (subst IsAlone turns.seen alone)).1 in
+      let taken : frame.taken.seen ≡ Take ∷ a.seen = one_entry Take frame.take.others a frame.taken frame.take.not_home frame.take.seen alone_taken in
+      (turns.runs alone legal w w' (subst (λ l. Runs (DoesActs acts) w l w') more_is runs)).4 (subst MadeNone more_is made) (ap stack_of taken)
+
 -- after it no lot lives
 pub none_lives : (sizes : Sizes) (h : History) → IsLegal sizes h → NoneAnnounced h → Lots (λ k. ⊥) h → StackBelow sizes h → out_of h ≡ [] → (i : ℕ) → lives i h ≡ false
 none_lives sizes h legal announced lots below none i =
@@ -228,3 +249,17 @@ none_lives sizes h legal announced lots below none i =
         let none_out : times_of i (out_of h) ≡ 0 = ap (times_of i) none in
         let above : sizes.handles ≤ i = lot_above sizes i (lives-lot sizes i h legal is) in
         absurd (omega (arith, once, zero_announced, one_pending, none_out, below i above))
+
+-- where nothing is announced, in the stack or out, nothing is pending
+pub none_pends : (sizes : Sizes) (h : History) → IsLegal sizes h → NoneAnnounced h → stack_of h ≡ [] → out_of h ≡ [] → (i : ℕ) → is_pending i h ≡ false
+none_pends sizes h legal announced empty none i = by_bit (is_pending i h) refl
+  where
+    by_bit : (b : Bool) → is_pending i h ≡ b → is_pending i h ≡ false
+    by_bit false is = is
+    by_bit true is =
+        let once : bit (is_announced i h) + times_of i (stack_of h) + times_of i (out_of h) ≡ bit (is_pending i h) = announced_once sizes h i legal in
+        let zero_announced : bit (is_announced i h) ≡ 0 = ap bit (announced i) in
+        let one_pending : bit (is_pending i h) ≡ 1 = ap bit is in
+        let none_there : times_of i (stack_of h) ≡ 0 = ap (times_of i) empty in
+        let none_out : times_of i (out_of h) ≡ 0 = ap (times_of i) none in
+        absurd (omega (arith, once, zero_announced, one_pending, none_there, none_out))

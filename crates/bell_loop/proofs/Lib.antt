@@ -14,3 +14,5 @@ pub mod Listing
 pub mod Dues
 pub mod Scanning
 pub mod Committing
+pub mod Nothing
+pub mod Ended

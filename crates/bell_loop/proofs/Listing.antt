@@ -46,7 +46,6 @@ lists_agree handles acts lists all are bh =
 pub CanRun-of : (handles : ℕ) (acts : List Act) (lists : List (List ActKind)) → AllByRecursion (IsActWithin handles) acts → AreListsOf handles acts lists → CanRun handles lists []
 CanRun-of handles acts lists all are = record {
   waits = tt;
-  each = are.each;
   within = λ bh. subst (AreWithin handles) (sym (lists_agree handles acts lists all are bh)) (within_of handles bh acts all);
 }
 

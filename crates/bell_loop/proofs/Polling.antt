@@ -19,9 +19,10 @@ use Rattle.bell_loop.specs.Entering.{DoesEntry, Names, Noted}
 use Rattle.aio_core.specs.Known.{is_running}
 use Rattle.aio_core.specs.Calls.{TableState, SeatState, IsSeatOf}
 use Rattle.bell_loop.specs.Running.{IsAlone, any_rings, Answers, Calm, Idles, StackBelow}
-use Rattle.aio_model.specs.LoopFlags.{lives}
-use Rattle.aio_model.specs.LoopLists.{out_of, is_set}
-use Rattle.bell_loop.proofs.Holding.{Holds-frame, Below-frame, none_lives}
+use Rattle.aio_model.specs.LoopFlags.{lives, is_pending}
+use Rattle.aio_model.specs.LoopLists.{out_of, stack_of, is_set}
+use Rattle.bell_loop.proofs.Holding.{Holds-frame, Below-frame, Empty-frame, none_lives, none_pends}
+use Rattle.bell_loop.proofs.Nothing.{runs_none}
 use Rattle.bell_loop.proofs.Alone.{alone_parts, Grown-frame}
 use Rattle.bell_loop.proofs.Depths.{Keeps, Keeps-frame}
 use Rattle.bell_loop.proofs.Entries.{or_assoc}
@@ -146,6 +147,14 @@ module _ (acts : ℕ → List ActKind) (n n' : Noted) (polled : Polled) (a b : K
       let below = Below-frame acts a.sizes 7 (start_of a.seen) end frame [] [] end.log (sym (append-nil end.log)) acted (subst IsAlone seen alone) (subst (IsLegal a.sizes) seen legal) in
       none_lives a.sizes b.seen legal after.announced after.lots (subst (StackBelow a.sizes) (sym seen) below) none
 
+  -- where callbacks do nothing, nothing is pending afterwards
+  pub none_pending_after : ((bh : ℕ) → acts bh ≡ []) → IsAlone b.seen → Calm a.seen → out_of b.seen ≡ [] → (i : ℕ) → is_pending i b.seen ≡ false
+  none_pending_after idle alone calm none i =
+      let after = calm_after alone none calm in
+      let made = runs_none acts idle end.log [] acted in
+      let empty : stack_of b.seen ≡ [] = ap stack_of seen ∙ Empty-frame acts a.sizes 7 (start_of a.seen) end frame [] [] end.log (sym (append-nil end.log)) acted made.0 (subst IsAlone seen alone) (subst (IsLegal a.sizes) seen legal) in
+      none_pends a.sizes b.seen legal after.announced empty none i
+
   pub Polls-script : (script : LoopScript) (log : Log) → Names n.ran n.more [] → sizes_of script ≡ a.sizes → ((bh : ℕ) → acts bh ≡ acts_of script.acts bh) → IsAlone b.seen → history_of log ≡ a.seen → PollsScript script log (made_log between log) (Ran n'.ran n'.more polled.progress polled.cut_nests)
   Polls-script script log names sizes agree alone is =
       let told = names_of acts n end.log n' names runs in
@@ -194,6 +203,10 @@ module _ {R L : Type 0} (lists_in : R → L) (acts_in : L → ℕ → List ActKi
   pub none_lives_then : IsAlone b.seen → Calm a.seen → (i : ℕ) → lives i b.seen ≡ false
   none_lives_then alone calm =
       none_lives_after (acts_in (lists_in r)) (noted_in r) (noted_in r') polled a b polls.end polls.goes_on.between polls.frame polls.seen the_runs.1 polls.progress polls.cut_nests polls.goes_on.seen polls.goes_on.legal none alone calm polls.none_out
+
+  pub none_pending_then : ((bh : ℕ) → acts_in (lists_in r) bh ≡ []) → IsAlone b.seen → Calm a.seen → (i : ℕ) → is_pending i b.seen ≡ false
+  none_pending_then idle alone calm =
+      none_pending_after (acts_in (lists_in r)) (noted_in r) (noted_in r') polled a b polls.end polls.goes_on.between polls.frame polls.seen the_runs.1 polls.progress polls.cut_nests polls.goes_on.seen polls.goes_on.legal none idle alone calm polls.none_out
 
   pub events_then : IsAlone b.seen → (e : ℕ) → is_set e b.seen ≡ is_set e a.seen
   events_then alone e =

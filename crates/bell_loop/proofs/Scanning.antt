@@ -1,24 +1,19 @@
 -- What a scan found, where home alone makes the history.
-use Rattle.std.proofs.Common.{◌≡◌, ℕ, zero, suc, ◌+◌, Bool, true, false, not, ◌&&◌, ◌||◌, cond, Option, Some, None, List, [], ◌∷◌, ◌++◌, drop, MatchOption, refl, sym, ap, ◌∙◌, subst, append_assoc}
+use Rattle.std.proofs.Common.{◌≡◌, ℕ, Bool, true, false, not, ◌&&◌, ◌||◌, cond, Option, Some, None, List, [], ◌∷◌, ◌++◌, drop, MatchOption, refl, sym, ap, ◌∙◌, subst, append_assoc}
 use Rattle.std.specs.List.{find}
-use Rattle.std.specs.Option.{is_some}
 use Rattle.std.proofs.lemmas.Bool.{false≢true, and_parts}
 use Rattle.std.proofs.lemmas.List.{append-nil}
-use Rattle.aio_model.specs.declared.flags.Flags.{Flags}
-use Rattle.aio_model.specs.LoopHistory.{Sizes, History}
+use Rattle.aio_model.specs.LoopHistory.{History}
 use Rattle.aio_model.specs.LoopFlags.{are_due, are_urgent, is_due, is_urgent, flags_of}
 use Rattle.aio_model.specs.LoopLists.{seat_of, stack_of, out_of}
 use Rattle.aio_model.specs.LoopLegal.{IsLegal}
-use Rattle.aio_model.specs.LoopLog.{first_from}
 use Rattle.aio_model.specs.LoopSeats.{home, entries_of}
-use Rattle.aio_model.specs.InFlight.{AtRest}
-use Rattle.aio_core.specs.Known.{Known, Sleep, Running, Scanning, Scan, numbers_of, is_running}
+use Rattle.aio_core.specs.Known.{Known, Running, Scanning, Scan, numbers_of, is_running}
 use Rattle.aio_core.specs.SleepSteps.{Learns, scan_in}
-use Rattle.aio_core.specs.Scans.{LookedAt, Passes, PassesAll, Scans, FoundNone, FoundUrgent, SameButSleep, some_idle, none_urgent, indices_of}
-use Rattle.aio_core.specs.Calls.{TableState, SeatState, IsSeatOf}
+use Rattle.aio_core.specs.Scans.{LookedAt, Passes, PassesAll, Scans, FoundNone, FoundUrgent, some_idle, none_urgent, indices_of}
 use Rattle.table_seats.proofs.Standing.{entries-append}
 use Rattle.aio_bh.proofs.Entries.{none_of_home}
-use Rattle.bell_loop.specs.Running.{IsAlone, Calm, Idles, OnlyOthers, Finds}
+use Rattle.bell_loop.specs.Running.{IsAlone, Calm, OnlyOthers, Finds}
 use Rattle.bell_loop.proofs.Alone.{alone_parts, none_else}
 use Rattle.bell_loop.proofs.Dues.{some_due, due-in_stack}
 

@@ -13,9 +13,8 @@ use Rattle.bell_loop.specs.Actions.{AreWithin, some_rings}
 abbrev pub acts_at : List (List ActKind) → ℕ → List ActKind
 acts_at lists bh = slice_index_or lists bh []
 
--- there is a list of actions for each handle, and what waits is of such actions
+-- the actions of each list are on handles, and so is what waits
 pub record CanRun (handles : ℕ) (lists : List (List ActKind)) (waiting : Waiting) : Type 0 where
-  pub each : length lists ≡ handles
   pub within : (bh : ℕ) → AreWithin handles (acts_at lists bh)
   pub waits : AllByRecursion (AreWithin handles) waiting
 

@@ -13,7 +13,7 @@ use Rattle.aio_model.specs.LoopLog.{Log, history_of, is_rung}
 use Rattle.aio_model.specs.LoopLists.{is_set}
 use Rattle.aio_model.specs.LoopActs.{Waiting}
 use Rattle.aio_model.specs.LoopReplies.{Does}
-use Rattle.aio_core.specs.Calls.{TableState, SeatState}
+use Rattle.aio_core.specs.Calls.{TableState, SeatState, IsSeatOf, first_seat}
 use Rattle.lot_pool.specs.Pools.{PoolState, PassState, IsPassOf}
 use Rattle.aio_bh.specs.OneShots.{ServesHome}
 use Rattle.bell_loop.specs.declared.machine.Machine.{Machine}
@@ -29,13 +29,15 @@ pub record MachineState : Type 0 where
   -- which events are set
   pub marks : List Bool
 
--- between two commands home idles, the pool and its passes are the loop's, and no callback waits
-pub record IsReady (table : TableState) (home : SeatState) (pool : PoolState) (giving placing : PassState) (lists : List (List ActKind)) (waiting : Waiting) (marks : List Bool) : Type 0 where
+-- between two commands home idles, nothing was done by the seat of all other numbers, the pool and its passes are the loop's, and no callback waits
+pub record IsReady (table : TableState) (home others : SeatState) (pool : PoolState) (giving placing : PassState) (lists : List (List ActKind)) (waiting : Waiting) (marks : List Bool) : Type 0 where
   pub idles : Idles table home
   pub serves : ServesHome table.sizes pool giving
   pub places : IsPassOf pool placing
   pub can : CanRun table.sizes.handles lists waiting
   pub none : waiting ≡ []
+  pub others_of : IsSeatOf table others
+  pub others_are : others.known ≡ first_seat table.sizes
   pub marks_are : length marks ≡ table.sizes.events
 
 -- the log has the history that was seen, and the machine keeps what it tells
@@ -78,7 +80,7 @@ state_of machine =
 -- it may do a command
 abbrev pub Ready : {R : Type 0} → Machine R → Type 0
 Ready machine =
-    IsReady machine.table machine.home.seat machine.pool machine.giving machine.placing (map (λ l. l.items) machine.callbacks.lists.now) machine.callbacks.waiting machine.marks
+    IsReady machine.table machine.home.seat machine.others machine.pool machine.giving machine.placing (map (λ l. l.items) machine.callbacks.lists.now) machine.callbacks.waiting machine.marks
 
 -- who was called in the last poll, and how many besides
 abbrev pub ran_in : {R : Type 0} → Machine R → List Called

@@ -49,13 +49,22 @@ fn empty(ran: &mut RanList)
     }
 }
 
+/// The actions of a handle's callback. One for which there is no list does nothing.
+fn listed<'a>(lists: &'a [Vec<ActKind>], bh: u32) -> &'a [ActKind]
+    ensures { result.now ≡ acts_at (map (λ l. l.items) lists.now) bh }
+{
+    match lists.get(bh as usize) {
+        Some(list) => list.as_slice(),
+        None => &[],
+    }
+}
+
 /// What is to be done from a first entry on: by a one-shot nothing.
 fn first_todo<'a>(lists: &'a [Vec<ActKind>], bh: u32, job: Option<Tag>) -> &'a [ActKind]
-    requires { job ≡ None → bh < length lists.now }
     ensures { result.now ≡ acts_called (acts_at (map (λ l. l.items) lists.now)) bh (option_map (λ t. t.tag) job) }
 {
     match job {
-        None => lists[bh as usize].as_slice(),
+        None => listed(lists, bh),
         Some(_) => &[],
     }
 }
@@ -87,6 +96,15 @@ impl<'a, R: Wait> Callbacks<'a, R> {
     {
         empty(&mut self.ran);
         self.more = 0;
+    }
+
+    /// From now on no callback does anything.
+    pub(crate) fn forget_lists(&mut self)
+        ensures none { self.new.lists.now ≡ [] }
+        ensures rest { self.new ≡ record self.old { lists = self.new.lists } }
+    {
+        let lists = self.lists;
+        self.lists = &lists[..0];
     }
 
     /// One more was called.
@@ -125,7 +143,6 @@ impl<'a, R: Wait> Callbacks<'a, R> {
 
     /// What is to be done at an entry.
     fn todo(&mut self, bh: u32, job: Option<Tag>, first: bool) -> &'a [ActKind]
-        requires { first ≡ true → job ≡ None → bh < length self.old.lists.now }
         ensures finds { FindsTodo (acts_at (map (λ l. l.items) self.old.lists.now)) first bh (option_map (λ t. t.tag) job) result.now self.old.waiting self.new.waiting }
         ensures within { (handles : ℕ) → CanRun handles (map (λ l. l.items) self.old.lists.now) self.old.waiting → AreWithin handles result.now × AllByRecursion (AreWithin handles) self.new.waiting }
         ensures rest { self.new ≡ record self.old { waiting = self.new.waiting } }
@@ -152,7 +169,6 @@ impl<'a, R: Wait> Callbacks<'a, R> {
 impl<'a, R: Wait> Callbacks<'a, R> {
     /// Notes an entry, and finds what is to be done at it.
     fn begin(&mut self, bh: u32, job: Option<Tag>, first: bool) -> &'a [ActKind]
-        requires { first ≡ true → job ≡ None → bh < length self.old.lists.now }
         ensures names { (calls : List Called) → Names self.old.ran self.old.more calls → Names self.new.ran self.new.more (if first then calls ++ called_by bh (option_map (λ t. t.tag) job) ∷ [] else calls) }
         ensures finds { FindsTodo (acts_at (map (λ l. l.items) self.old.lists.now)) first bh (option_map (λ t. t.tag) job) result.now self.old.waiting self.new.waiting }
         ensures within { (handles : ℕ) → CanRun handles (map (λ l. l.items) self.old.lists.now) self.old.waiting → AreWithin handles result.now × AllByRecursion (AreWithin handles) self.new.waiting }

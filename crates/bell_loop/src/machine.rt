@@ -1,10 +1,14 @@
 //! A shared loop on which the commands of a loop script are done by home alone.
-ghost use Rattle.std.specs.Prelude.{◌≡◌, ◌+◌, ◌≤◌, ◌<◌, ◌||◌, [], length, map, IfOk};
+ghost use Rattle.std.specs.Prelude.{◌≡◌, ◌+◌, ◌≤◌, ◌<◌, ◌||◌, ℕ, false, [], length, map, IfOk};
 ghost use Rattle.bell_loop.specs.Entering.{CanRun};
 ghost use Rattle.aio_model.specs.declared.loop_replies.LoopReply.{LoopReply};
 ghost use Rattle.aio_model.specs.declared.loop_scripts.Command.{Command};
+ghost use Rattle.aio_model.specs.LoopFlags.{is_pending};
 ghost use Rattle.aio_model.specs.LoopLines.{HasNoDeadline};
-ghost use Rattle.bell_loop.specs.Machines.{Answers, IsNew, Ready, state_of, ran_in, more_in, enqueue_command};
+ghost use Rattle.aio_model.specs.LoopLog.{Log};
+ghost use Rattle.bell_loop.specs.Running.{Calm, IsAlone};
+ghost use Rattle.bell_loop.specs.Machines.{Answers, IsNew, Ready, Stands, state_of, ran_in, more_in, enqueue_command};
+ghost use Rattle.bell_loop.specs.Ending.{clearing, clearings, EndsBy, Leads};
 
 use crate::callbacks::Callbacks;
 use crate::marks::Marks;
@@ -14,6 +18,7 @@ use crate::verdict::verdict;
 use aio_bh::{LotBuilt, LotPass, LotPool, Polled};
 use aio_core::{Built, Home, LoopTable, Seat};
 use aio_model::{ActKind, Commit, Flags, Kind, NoMemory, RanList};
+use aio_notify::LoopEnd;
 use std::alloc::Global;
 use std::sync::Wait;
 
@@ -23,6 +28,8 @@ pub struct Machine<'a, R: Wait> {
     rt: &'a R,
     table: LoopTable<Tag>,
     home: Home<Tag>,
+    /// The seat of all other numbers. Nothing is done through it.
+    others: Seat<Tag>,
     pool: LotPool,
     /// Gives lots back in a poll.
     giving: LotPass,
@@ -41,19 +48,19 @@ fn either(one: bool, other: bool) -> bool
 }
 
 impl<'a, R: Wait> Machine<'a, R> {
-    /// A machine with these lists of actions, one for each handle, and the seat of all other numbers of its loop.
+    /// A machine with these lists of actions, one for each handle.
     pub fn build(
         rt: &'a R,
         alloc: Global,
         lists: &'a [Vec<ActKind>],
         lots: u32,
         events: u32,
-    ) -> Result<(Machine<'a, R>, Seat<Tag>), NoMemory>
+    ) -> Result<Machine<'a, R>, NoMemory>
         requires few { length lists.now + lots ≤ 4096 }
         requires few_events { events ≤ 64 }
         requires can { CanRun (length lists.now) (map (λ l. l.items) lists.now) [] }
-        ensures ready { IfOk result (λ built. Ready built.0) }
-        ensures new { IfOk result (λ built. IsNew (record { handles = length lists.now; lots = lots; events = events }) (map (λ l. l.items) lists.now) (state_of built.0)) }
+        ensures ready { IfOk result (λ built. Ready built) }
+        ensures new { IfOk result (λ built. IsNew (record { handles = length lists.now; lots = lots; events = events }) (map (λ l. l.items) lists.now) (state_of built)) }
     {
         let handles = lists.len() as u32;
         let Ok(
@@ -66,24 +73,30 @@ impl<'a, R: Wait> Machine<'a, R> {
         else {
             return Err(NoMemory);
         };
-        let Ok(Built { table, home, seat }) = LoopTable::<Tag>::build(alloc, handles, lots, events)
+        let Ok(
+            Built {
+                table,
+                home,
+                seat: others,
+            },
+        ) = LoopTable::<Tag>::build(alloc, handles, lots, events)
         else {
             return Err(NoMemory);
         };
         let callbacks = Callbacks::build(rt, alloc, lists)?;
         let marks = Marks::build(alloc, events)?;
-        let machine = Machine {
+        Ok(Machine {
             rt,
             table,
             home,
+            others,
             pool,
             giving,
             placing,
             callbacks,
             living: 0,
             marks,
-        };
-        Ok((machine, seat))
+        })
     }
 
     pub fn handles(&self) -> u32
@@ -174,6 +187,7 @@ impl<'a, R: Wait> Machine<'a, R> {
         requires ready { Ready self.old }
         ensures ready { Ready self.new }
         ensures answers { Answers Command.Poll (LoopReply.Ran (ran_in self.new) (more_in self.new) result.progress result.cut_nests) (state_of self.old) (state_of self.new) }
+        ensures quiet { (state_of self.old).lists ≡ [] → IsAlone (state_of self.new).seen → Calm (state_of self.old).seen → (i : ℕ) → is_pending i (state_of self.new).seen ≡ false }
     {
         self.callbacks.begin_poll();
         let polled = steps::poll(
@@ -202,5 +216,50 @@ impl<'a, R: Wait> Machine<'a, R> {
         steps::sleep_and_accept(&self.table, &mut self.home);
         self.callbacks.rang = false;
         answer
+    }
+    /// Clears the event where it is set.
+    fn clear_if_set(&mut self, event: u32)
+        requires ready { Ready self.old }
+        requires event { event < (state_of self.old).sizes.events }
+        requires none { (state_of self.old).lists ≡ [] }
+        ensures ready { Ready self.new }
+        ensures leads { Leads (clearing event) (state_of self.old) (state_of self.new) }
+    {
+        if self.marks.is_marked(event) {
+            self.clear(event);
+        }
+    }
+
+    /// Clears each event that is set, in rising order.
+    fn clear_all(&mut self)
+        requires ready { Ready self.old }
+        requires none { (state_of self.old).lists ≡ [] }
+        ensures ready { Ready self.new }
+        ensures leads { Leads (clearings (state_of self.old).sizes.events) (state_of self.old) (state_of self.new) }
+    {
+        for event in 0..self.events() {
+            self.clear_if_set(event);
+        }
+    }
+
+    /// Ends the loop: a poll whose callbacks do nothing, the clearing of each event that is set, an accept and a commit, and the
+    /// settling. Home alone made the history then, so all that was answered before was answered as `Answers` says.
+    pub fn end(mut self) -> LoopEnd<Tag>
+        requires ready { Ready self }
+        requires stands { IsAlone (state_of self).seen → (log : Log) × Stands (state_of self) log }
+        ensures ends { EndsBy (state_of self.entry) result.known.seen }
+    {
+        self.callbacks.forget_lists();
+        self.poll();
+        self.clear_all();
+        let Machine {
+            rt,
+            table,
+            mut home,
+            others,
+            ..
+        } = self;
+        steps::fall_asleep(rt, &table, &mut home);
+        steps::settled(table, home, others)
     }
 }

@@ -49,6 +49,13 @@ impl Marks {
         self.events[event as usize] = is_set;
     }
 
+    pub fn is_marked(&self, event: u32) -> bool
+        requires { event < length self.now }
+        ensures { result ≡ slice_index_or self.now event false }
+    {
+        self.events[event as usize]
+    }
+
     /// The least event that is set.
     pub fn first(&self) -> Option<u32>
         ensures { result ≡ first_from (λ e. slice_index_or self.now e false) 0 (length self.now) }

@@ -5,16 +5,17 @@ ghost use Rattle.aio_model.specs.declared.loop_replies.LoopReply.{LoopReply};
 ghost use Rattle.aio_model.specs.declared.loop_scripts.Command.{Command};
 ghost use Rattle.aio_model.specs.LoopLog.{flags_before, enqueued_log, canceled_log, set_log, is_set_in, cleared_log};
 ghost use Rattle.aio_model.specs.LoopSeats as Seats;
-ghost use Rattle.aio_model.specs.LoopFlags.{lives};
+ghost use Rattle.aio_model.specs.LoopFlags.{is_pending, lives};
 ghost use Rattle.aio_model.specs.LoopLists.{is_set};
 ghost use Rattle.aio_core.specs.Standing.{asked_by};
-ghost use Rattle.aio_core.specs.Calls.{IsSeatOf};
+ghost use Rattle.aio_core.specs.Calls.{IsSeatOf, first_seat};
 ghost use Rattle.aio_core.specs.Known.{is_running};
 ghost use Rattle.aio_core.specs.Scans.{SameButSleep};
 ghost use Rattle.aio_bh.specs.OneShots.{IsPoolFor, ServesHome};
 ghost use Rattle.lot_pool.specs.Pools.{IsPassOf};
 ghost use Rattle.bell_loop.specs.Entering.{acts_at, CanRun, Names};
 ghost use Rattle.aio_notify.specs.Commits.{IsAwakeBy};
+ghost use Rattle.bell_loop.specs.Ending.{Sleeps};
 ghost use Rattle.bell_loop.specs.Running.{Answers, Calm, Finds, Idles, IsAlone, GoesTo, OnlyOthers, PlacesTag, SameButSeen};
 
 use crate::callbacks::Callbacks;
@@ -22,7 +23,7 @@ use crate::tag::Tag;
 use aio_bh::{BottomHalves, LotPass, LotPool, Polled};
 use aio_core::{Home, LoopTable, Scanned, Seat};
 use aio_model::{Commit, Flags, Kind};
-use aio_notify::{LoopEvents, Sleeping};
+use aio_notify::{LoopEnd, LoopEvents, Settled, Sleeping, settle};
 use std::sync::Wait;
 
 /// An enqueue of a handle.
@@ -99,6 +100,7 @@ pub(crate) fn poll<'a, R: Wait>(
     ensures none { callbacks.new.waiting ≡ [] }
     ensures answers { Answers table.now.sizes (acts_at (map (λ l. l.items) callbacks.old.lists.now)) Command.Poll (LoopReply.Ran callbacks.new.ran callbacks.new.more result.progress result.cut_nests) callbacks.old.rang callbacks.new.rang home.old.seat.known.seen home.new.seat.known.seen }
     ensures none_lives { IsAlone home.new.seat.known.seen → Calm home.old.seat.known.seen → (i : ℕ) → lives i home.new.seat.known.seen ≡ false }
+    ensures none_pending { ((bh : ℕ) → acts_at (map (λ l. l.items) callbacks.old.lists.now) bh ≡ []) → IsAlone home.new.seat.known.seen → Calm home.old.seat.known.seen → (i : ℕ) → is_pending i home.new.seat.known.seen ≡ false }
     ensures events { IsAlone home.new.seat.known.seen → (e : ℕ) → is_set e home.new.seat.known.seen ≡ is_set e home.old.seat.known.seen }
 {
     table.poll(rt, pool, pass, home, callbacks)
@@ -197,4 +199,48 @@ pub(crate) fn sleep_and_accept(table: &LoopTable<Tag>, home: &mut Home<Tag>)
     let commit = table.commit(home, u64::MAX, None, 0);
     wake(table, home, commit);
     table.accept(home);
+}
+
+/// An accept, and then a commit that watches all events and has no deadline. Whether home is committed now.
+fn accept_and_commit(table: &LoopTable<Tag>, home: &mut Home<Tag>) -> bool
+    requires idles { Idles table.now home.old.seat }
+    ensures others { OnlyOthers home.old.seat.known.seen home.new.seat.known.seen }
+    ensures sleeps { MatchBool result (Sleeps table.now home.new.seat) (Idles table.now home.new.seat) }
+{
+    table.accept(home);
+    match table.commit(home, u64::MAX, None, 0) {
+        Commit::Sleep(_) => true,
+        Commit::Awake(_) => false,
+    }
+}
+
+/// Accepts and commits until home is committed.
+pub(crate) fn fall_asleep<R: Wait>(rt: &R, table: &LoopTable<Tag>, home: &mut Home<Tag>)
+    requires idles { Idles table.now home.old.seat }
+    ensures sleeps { Sleeps table.now home.new.seat }
+    ensures others { OnlyOthers home.old.seat.known.seen home.new.seat.known.seen }
+{
+    for _ in rt.forever() {
+        if accept_and_commit(table, home) {
+            return;
+        }
+    }
+    unreachable!()
+}
+
+/// Ends the loop, in which home alone made entries, and left nothing pending and no event set.
+pub(crate) fn settled(table: LoopTable<Tag>, home: Home<Tag>, others: Seat<Tag>) -> LoopEnd<Tag>
+    requires sleeps { Sleeps table home.seat }
+    requires of { IsSeatOf table others }
+    requires new { others.known ≡ first_seat table.sizes }
+    requires none_pending { IsAlone home.seat.known.seen → (i : ℕ) → is_pending i home.seat.known.seen ≡ false }
+    requires none_set { IsAlone home.seat.known.seen → (e : ℕ) → e < table.sizes.events → is_set e home.seat.known.seen ≡ false }
+    ensures alone { IsAlone home.seat.known.seen }
+    ensures seen { result.known.seen ≡ home.seat.known.seen }
+{
+    match settle(table, home, others) {
+        Settled::Quiet(end) => end,
+        Settled::Pending(..) => unreachable!(),
+        Settled::Event(..) => unreachable!(),
+    }
 }

@@ -1,126 +1,27 @@
-//! Loop scripts, and what their commands print.
-ghost use Rattle.std.specs.Prelude.{◌≡◌, ◌≤◌, [], length, map, IfOk};
-ghost use Rattle.bell_loop.specs.Entering.{CanRun};
-ghost use Rattle.bell_loop.specs.Machines.{Ready};
+//! Loop scripts, and what they print.
+ghost use Rattle.std.specs.Prelude.{◌≤◌, length};
 
-use aio_model::{ActKind, Command, Kind, LoopReply, LoopScript};
-use aio_script::{Page, WriteFault, hand_over, print_poll, print_reply, read_loop_script};
+use aio_script::read_loop_script;
 use aio_words::MemSink;
-use bell_loop::{Machine, lists_of};
+use bell_script::run_loop_script;
 use std::alloc::Global;
 use std::process::Abort;
 use std::sync::Wait;
 use std::test::Fail;
 
-/// A loop script, and the lists of its callbacks.
-#[derive(Drop)]
-struct Prepared {
-    script: LoopScript,
-    lists: Vec<Vec<ActKind>>,
-}
-
-fn prepare(alloc: Global, text: &[u8]) -> Result<Prepared, Fail>
+/// What the commands of a text print.
+pub(crate) fn printed<R: Wait>(rt: &R, alloc: Global, text: &[u8]) -> Result<Vec<u8>, Fail>
     requires { length text.now ≤ 4294967295 }
-    ensures lists { IfOk result (λ p. CanRun (length p.lists.items) (map (λ l. l.items) p.lists.items) []) }
-    ensures few { IfOk result (λ p. (length p.lists.items ≤ 64) × (p.script.lots ≤ 64) × (p.script.events ≤ 64)) }
 {
     let Ok(script) = read_loop_script(alloc, text) else {
         return Err(Fail::from("no loop script"));
     };
-    let lists = lists_of(alloc, script.acts.as_slice(), script.handles)?;
-    Ok(Prepared { script, lists })
-}
-
-/// Prints what an enqueue or a cancel found.
-fn ring_handle<R: Wait>(
-    machine: &mut Machine<'_, R>,
-    command: Command,
-    sink: &mut MemSink,
-    page: &mut Page,
-) -> Result<(), WriteFault>
-    requires ready { Ready machine.old }
-    ensures ready { Ready machine.new }
-{
-    match command {
-        Command::Schedule(i) if i < machine.handles() => {
-            let was = machine.enqueue(i, Kind::Sched);
-            print_reply(sink, page, &LoopReply::Flagged(Command::Schedule(i), was))
-        }
-        Command::Idle(i) if i < machine.handles() => {
-            let was = machine.enqueue(i, Kind::Idle);
-            print_reply(sink, page, &LoopReply::Flagged(Command::Idle(i), was))
-        }
-        Command::Delete(i) if i < machine.handles() => {
-            let was = machine.enqueue(i, Kind::Del);
-            print_reply(sink, page, &LoopReply::Flagged(Command::Delete(i), was))
-        }
-        Command::Cancel(i) if i < machine.handles() => {
-            let was = machine.cancel(i);
-            print_reply(sink, page, &LoopReply::Flagged(Command::Cancel(i), was))
-        }
-        _ => Ok(()),
-    }
-}
-
-/// Does a command, and prints its reply.
-fn ring<R: Wait>(
-    machine: &mut Machine<'_, R>,
-    command: Command,
-    sink: &mut MemSink,
-    page: &mut Page,
-) -> Result<(), WriteFault>
-    requires ready { Ready machine.old }
-    ensures ready { Ready machine.new }
-{
-    match command {
-        Command::Poll => {
-            let polled = machine.poll();
-            let (ran, more) = machine.called();
-            print_poll(sink, page, ran, more, polled.progress, polled.cut_nests)
-        }
-        Command::Once(tag) => {
-            let placed = machine.once(tag);
-            print_reply(sink, page, &LoopReply::Placed(tag, placed))
-        }
-        Command::Commit => {
-            let commit = machine.commit();
-            print_reply(sink, page, &LoopReply::Committed(commit))
-        }
-        Command::Set(event) if event < machine.events() => {
-            machine.set(event);
-            print_reply(sink, page, &LoopReply::WasSet(event))
-        }
-        Command::Clear(event) if event < machine.events() => {
-            let was = machine.clear(event);
-            print_reply(sink, page, &LoopReply::Cleared(event, was))
-        }
-        _ => ring_handle(machine, command, sink, page),
-    }
-}
-
-/// What the commands of a text print.
-fn printed<R: Wait>(rt: &R, alloc: Global, text: &[u8]) -> Result<Vec<u8>, Fail>
-    requires { length text.now ≤ 4294967295 }
-{
-    let Prepared { script, lists } = prepare(alloc, text)?;
     let mut sink = MemSink::build(alloc, 65_536, &[])?;
-    let mut page = Page::build(alloc)?;
-    let Ok((mut machine, _)) = Machine::build(
-        rt,
-        alloc,
-        lists.as_slice(),
-        script.lots,
-        script.events,
-    ) else {
+    let Ok(run) = run_loop_script(rt, alloc, &script, &mut sink) else {
         return Err(Fail::from("no memory"));
     };
-    for command in script.commands.as_slice() {
-        if ring(&mut machine, *command, &mut sink, &mut page).is_err() {
-            return Err(Fail::from("a reply was not printed"));
-        }
-    }
-    if hand_over(&mut sink, &mut page).is_err() {
-        return Err(Fail::from("the last replies were not printed"));
+    if run.written.is_err() {
+        return Err(Fail::from("a reply was not printed"));
     }
     Ok(Vec::from_slice(alloc, sink.bytes())?)
 }

@@ -19,7 +19,7 @@ fn a_failed_read_of_the_text_serves_nothing(rt: HostRuntime) -> Result<(), Fail>
             reads,
             ..SOUND
         };
-        let seen = run(rt.alloc(), ends, &[], FIRST)?;
+        let seen = run(&rt, rt.alloc(), ends, &[], FIRST)?;
         assert_eq!(rt; seen.answer, ReadFault, "{reads:?}");
         assert!(rt; seen.printed.is_empty());
         assert!(rt; seen.device.iter().all(|b| *b == 0));
@@ -36,7 +36,7 @@ fn a_text_is_read_to_its_end(rt: HostRuntime) -> Result<(), Fail> {
             reads,
             ..SOUND
         };
-        let seen = run(rt.alloc(), ends, &[], FIRST)?;
+        let seen = run(&rt, rt.alloc(), ends, &[], FIRST)?;
         assert_eq!(rt; seen.answer, Done);
         assert_eq!(rt; seen.printed.as_slice(), REPLIES);
     }
@@ -58,7 +58,7 @@ fn assert_cut(rt: &impl Abort, seen: &Seen) {
 #[test]
 fn a_sink_that_is_full_cuts_the_replies(rt: HostRuntime) -> Result<(), Fail> {
     let ends = Ends { room: 20, ..SOUND };
-    let seen = run(rt.alloc(), ends, &[], FIRST)?;
+    let seen = run(&rt, rt.alloc(), ends, &[], FIRST)?;
     assert_cut(&rt, &seen);
     assert!(rt; seen.printed.is_empty());
     Ok(())
@@ -79,7 +79,7 @@ const WRITES: [(&[u32], usize, usize); 4] = [
 fn a_sink_that_fails_cuts_the_replies(rt: HostRuntime) -> Result<(), Fail> {
     for (writes, least, most) in WRITES {
         let ends = Ends { writes, ..SOUND };
-        let seen = run(rt.alloc(), ends, &[], LONG)?;
+        let seen = run(&rt, rt.alloc(), ends, &[], LONG)?;
         if most < 131_108 {
             assert_cut(&rt, &seen);
         } else {

@@ -157,7 +157,7 @@ fn crowd(alloc: Global) -> Result<Vec<u8>, Fail> {
 fn a_crowd_of_handles_comes_to_an_end(rt: HostRuntime) -> Result<(), Fail> {
     let alloc = rt.alloc();
     let text = crowd(alloc)?;
-    let seen = run(alloc, SOUND, BELLS, text.as_slice())?;
+    let seen = run(&rt, alloc, SOUND, BELLS, text.as_slice())?;
     assert_eq!(rt; seen.answer, Done);
     let lines = seen.printed.iter().filter(|byte| **byte == b'\n').count();
     assert_eq!(rt; lines, 4096);

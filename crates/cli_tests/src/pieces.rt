@@ -25,7 +25,7 @@ fn requests_of_one_piece_and_of_two(rt: HostRuntime) -> Result<(), Fail> {
             "image 1048576\nloops 1\nstream 0 0\n0 write 5 {bytes}\n0 read 5 {n}\n"
         )?;
         let replies = format!(in alloc; "0 0 write ok {n}\n1 0 read ok {bytes}\nend 2 0\n")?;
-        let seen = run(alloc, SOUND, &[], text.as_bytes())?;
+        let seen = run(&rt, alloc, SOUND, &[], text.as_bytes())?;
         assert_eq!(rt; seen.answer, Done);
         assert_eq!(rt; seen.printed.as_slice(), replies.as_bytes(), "at {n}");
         let written = seen.device.iter().filter(|b| **b == 255).count();
@@ -48,7 +48,7 @@ fn a_failed_piece_keeps_those_before_it(rt: HostRuntime) -> Result<(), Fail> {
     let text = format!(in alloc; "image 1048576\nloops 1\nstream 0 0\n0 write 0 {bytes}\n")?;
     for (calls, good, rest) in CASES {
         let ends = Ends { calls, ..SOUND };
-        let seen = run(alloc, ends, &[], text.as_bytes())?;
+        let seen = run(&rt, alloc, ends, &[], text.as_bytes())?;
         let replies = format!(in alloc; "0 0 write eio {good}\nend 1 1\n")?;
         assert_eq!(rt; seen.answer, Errors(1));
         assert_eq!(rt; seen.printed.as_slice(), replies.as_bytes());

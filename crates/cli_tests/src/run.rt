@@ -5,6 +5,7 @@ use aio_cli::{Answer, top};
 use aio_words::{MemDevice, MemSink, MemSource, OpenGate, StepClock};
 use std::alloc::Global;
 use std::process::Abort;
+use std::sync::Wait;
 use std::test::Fail;
 
 /// The ends that a run is given.
@@ -65,11 +66,18 @@ fn owned(alloc: Global, words: &[&str]) -> Result<Vec<String>, Fail> {
 }
 
 /// A run of this text with these words.
-pub fn run(alloc: Global, ends: Ends, words: &[&str], text: &[u8]) -> Result<Seen, Fail> {
+pub fn run<R: Wait>(
+    rt: &R,
+    alloc: Global,
+    ends: Ends,
+    words: &[&str],
+    text: &[u8],
+) -> Result<Seen, Fail> {
     let given = owned(alloc, words)?;
     let mut source = MemSource::build(alloc, text, ends.chunk.max(1), ends.reads)?;
     let mut sink = MemSink::build(alloc, ends.room, ends.writes)?;
     let end = top(
+        rt,
         alloc,
         given.as_slice(),
         &mut source,
@@ -87,9 +95,14 @@ pub fn run(alloc: Global, ends: Ends, words: &[&str], text: &[u8]) -> Result<See
 }
 
 /// Each run answers and prints what its row says.
-pub fn assert_runs(rt: &impl Abort, alloc: Global, ends: Ends, rows: &[Row]) -> Result<(), Fail> {
+pub fn assert_runs<R: Abort + Wait>(
+    rt: &R,
+    alloc: Global,
+    ends: Ends,
+    rows: &[Row],
+) -> Result<(), Fail> {
     for (words, text, answer, printed) in rows {
-        let seen = run(alloc, ends, words, text.as_bytes())?;
+        let seen = run(rt, alloc, ends, words, text.as_bytes())?;
         assert_eq!(rt; seen.answer, *answer, "{text}");
         assert_eq!(rt; seen.status, answer.status(), "{text}");
         assert_eq!(rt; seen.printed.as_slice(), printed.as_bytes(), "{text}");

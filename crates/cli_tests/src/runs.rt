@@ -186,7 +186,7 @@ fn a_text_may_have_1048576_bytes(rt: HostRuntime) -> Result<(), Fail> {
     ];
     for (script, len, answer) in cases {
         let text = long_text(alloc, script, len)?;
-        let seen = run(alloc, SOUND, &[], text.as_slice())?;
+        let seen = run(&rt, alloc, SOUND, &[], text.as_slice())?;
         assert_eq!(rt; seen.answer, answer);
         assert_eq!(rt; seen.printed.is_empty(), answer != Done);
     }

@@ -8,6 +8,7 @@ use aio_words::{MemDevice, MemSink, MemSource, OpenGate, StepClock};
 use script_generator::generate;
 use served_check::{check_served, replay};
 use std::alloc::Global;
+use std::sync::Wait;
 use std::test::Fail;
 
 /// A script, its text, and as many zeros as its image has bytes.
@@ -61,11 +62,12 @@ fn clocks(alloc: Global) -> Result<Vec<StepClock>, Fail>
 }
 
 /// A run of the script's text over the zeros. The source gives at most 100 bytes a read.
-pub fn run(alloc: Global, stage: &Stage, fails: Fails) -> Result<Seen, Fail> {
+pub fn run<R: Wait>(rt: &R, alloc: Global, stage: &Stage, fails: Fails) -> Result<Seen, Fail> {
     let mut source = MemSource::build(alloc, stage.text.as_bytes(), 100, fails.reads)?;
     let mut sink = MemSink::build(alloc, 1_048_576, fails.writes)?;
     let device = MemDevice::build(alloc, stage.opening.as_slice(), fails.calls)?;
     let end = top(
+        rt,
         alloc,
         &[],
         &mut source,

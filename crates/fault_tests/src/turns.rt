@@ -5,6 +5,7 @@ use crate::run::{Fails, Seen, Stage, is_lawful, leaves, run, set_up};
 use aio_cli::Answer::{DeviceFault, ReadFault, WriteFault};
 use std::alloc::Global;
 use std::process::Abort;
+use std::sync::Wait;
 use std::test::Fail;
 
 const NONE: Fails<'static> = Fails {
@@ -30,8 +31,8 @@ fn assert_served(
 }
 
 /// This call of the device fails; call 0 asks for its length.
-fn assert_device_fault(
-    rt: &impl Abort,
+fn assert_device_fault<R: Abort + Wait>(
+    rt: &R,
     alloc: Global,
     stage: &Stage,
     call: u32,
@@ -40,7 +41,7 @@ fn assert_device_fault(
         calls: &[call],
         ..NONE
     };
-    let seen = run(alloc, stage, fails)?;
+    let seen = run(rt, alloc, stage, fails)?;
     if call == 0 {
         assert_eq!(rt; seen.answer, DeviceFault);
         assert!(rt; seen.printed.is_empty());
@@ -62,12 +63,17 @@ fn each_call_of_the_device_in_turn(rt: HostRuntime) -> Result<(), Fail> {
     Ok(())
 }
 
-fn assert_read_fault(rt: &impl Abort, alloc: Global, stage: &Stage, call: u32) -> Result<(), Fail> {
+fn assert_read_fault<R: Abort + Wait>(
+    rt: &R,
+    alloc: Global,
+    stage: &Stage,
+    call: u32,
+) -> Result<(), Fail> {
     let fails = Fails {
         reads: &[call],
         ..NONE
     };
-    let seen = run(alloc, stage, fails)?;
+    let seen = run(rt, alloc, stage, fails)?;
     assert_eq!(rt; seen.answer, ReadFault, "call {call}");
     assert!(rt; seen.printed.is_empty() && seen.served.is_empty());
     assert_eq!(rt; seen.device.bytes(), stage.opening.as_slice());
@@ -95,7 +101,7 @@ fn each_write_in_turn(rt: HostRuntime) -> Result<(), Fail> {
         writes: &[0],
         ..NONE
     };
-    let seen = run(alloc, &stage, fails)?;
+    let seen = run(&rt, alloc, &stage, fails)?;
     assert_eq!(rt; seen.answer, WriteFault);
     assert!(rt; seen.printed.is_empty());
     assert_served(&rt, alloc, &stage, &seen, 0)
@@ -110,7 +116,7 @@ fn no_second_write(rt: HostRuntime) -> Result<(), Fail> {
         writes: &[1],
         ..NONE
     };
-    let seen = run(alloc, &stage, fails)?;
+    let seen = run(&rt, alloc, &stage, fails)?;
     let wanted = printed_text(alloc, &stage.script, seen.served.as_slice())?;
     assert_eq!(rt; seen.printed.as_slice(), wanted.as_bytes());
     assert_served(&rt, alloc, &stage, &seen, 0)

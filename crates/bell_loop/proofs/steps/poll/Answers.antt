@@ -1,6 +1,6 @@
 use Rattle.std.proofs.Common.{map}
 use Rattle.bell_loop.specs.Entering.{acts_at, noted}
-use Rattle.bell_loop.proofs.Polling.{lists_stay, none_waits_then, Answers-polled, none_lives_then, events_then}
+use Rattle.bell_loop.proofs.Polling.{lists_stay, none_waits_then, Answers-polled, none_lives_then, events_then, none_pending_then}
 use Rattle.bell_loop.proofs.steps.poll.Goals as goal
 
 pub returns-clause-lists : goal.returns-clause-lists
@@ -22,3 +22,7 @@ returns-clause-none_lives g c =
 pub returns-clause-events : goal.returns-clause-events
 returns-clause-events g c =
     events_then (λ d. d.lists) (λ l. acts_at (map (λ x. x.items) l.now)) (λ d. noted d.waiting d.ran d.more d.rang) c.poll.result c.args.callbacks.now c.poll.new.runner _ _ c.poll.ensures.polls c.requires.none
+
+pub returns-clause-none_pending : goal.returns-clause-none_pending
+returns-clause-none_pending g c =
+    none_pending_then (λ d. d.lists) (λ l. acts_at (map (λ x. x.items) l.now)) (λ d. noted d.waiting d.ran d.more d.rang) c.poll.result c.args.callbacks.now c.poll.new.runner _ _ c.poll.ensures.polls c.requires.none

@@ -23,7 +23,6 @@ returns-in-Some-clause-can_run g c =
     let lists_are = ap (λ s. s.lists) c.wait_behind.ensures.rest ∙ ap (λ s. s.lists) c.begin-todo.ensures.rest in
     let before = c.requires.can_run in
     subst (λ l. CanRun c.args.table.now.sizes.handles (map (λ l. l.items) l.now) c.wait_behind.new.self.waiting) (sym lists_are) record {
-      each = before.each;
       within = before.within;
       waits = c.wait_behind.ensures.within c.args.table.now.sizes.handles (behind_within _ _ _ within.0 c.in-Some.ensures.later) within.1;
     }
@@ -42,4 +41,17 @@ returns-in-Some-clause-runs g c =
         subst (λ s. DoesEntry acts before (record { lent = lent; answer = Nests; made = all.made }) (noted s.waiting s.ran s.more s.rang)) (sym c.wait_behind.ensures.rest)
             (DoesEntry-nested acts c.args.call.now.bh (option_map (λ t. t.tag) c.args.call.now.job) c.args.call.now.first c.args.call.now.nests_left c.begin-todo.result.now all.made _ _ _ _ _ _ _ _ c.begin-todo.ensures.names c.begin-todo.ensures.finds all.adds c.begin-todo.ensures.rang c.in-Some.later.now _ c.in-Some.ensures.later c.wait_behind.ensures.waiting),
       );
+    }
+
+pub act_until_nest-requires-clause-within : goal.act_until_nest-requires-clause-within
+act_until_nest-requires-clause-within g c = (c.begin-todo.ensures.within c.args.table.now.sizes.handles c.requires.can_run).0
+
+pub returns-in-None-clause-can_run : goal.returns-in-None-clause-can_run
+returns-in-None-clause-can_run g c =
+    let within = c.begin-todo.ensures.within c.args.table.now.sizes.handles c.requires.can_run in
+    let lists_are = ap (λ s. s.lists) c.begin-todo.ensures.rest in
+    let before = c.requires.can_run in
+    subst (λ l. CanRun c.args.table.now.sizes.handles (map (λ l. l.items) l.now) c.begin-todo.new.self.waiting) (sym lists_are) record {
+      within = before.within;
+      waits = within.1;
     }

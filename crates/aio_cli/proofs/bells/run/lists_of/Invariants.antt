@@ -1,9 +1,0 @@
-use Rattle.std.proofs.Common.{◌≡◌, ℕ, ◌<◌, length, map}
-use Rattle.aio_model.specs.LoopActs.{acts_of}
-use Rattle.aio_cli.specs.Bells.{acts_at}
-use Rattle.aio_cli.proofs.bells.run.lists_of.Given as goal
-
-abbrev pub invariant-loop-bh : goal.invariant-loop-bh
-invariant-loop-bh l =
-    (length l.lists.items ≡ l.bh)
-    × ((k : ℕ) → k < l.bh → acts_at (map (λ list. list.items) l.lists.items) k ≡ acts_of l.acts k)
