@@ -1,0 +1,6 @@
+pub mod Begun
+pub mod Berthed
+pub mod Ended
+pub mod Posted
+pub mod Lists
+pub mod Sharing

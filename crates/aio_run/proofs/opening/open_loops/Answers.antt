@@ -1,0 +1,19 @@
+use Rattle.std.proofs.Common.{◌≡◌, ◌∙◌, None, replicate, sym, ap, subst, arith, length, vec_len}
+use Rattle.loop_rows.specs.Opening.{AreNew, NewEach}
+use Rattle.aio_run.proofs.opening.open_loops.Goals as goal
+
+pub returns : goal.returns
+returns g c =
+    let t = c.in_ok-opened.ensures in
+    record {
+      tables = subst (λ n. AreNew c.args.script.now.loops n g.origin c.in_ok-opened.opened) c.coroutines_for-coroutines.ensures t;
+      rest = record {
+        hands = c.in_ok-hands.ensures.hands.0 ∙ c.requires.1.1.1.1.1.1;
+        begin = c.in_ok-hands.ensures.begins c.in_ok-opened.opened.shared.items c.in_ok-opened.opened.homes.items c.in_ok-opened.opened.row.seats.items (t.long ∙ sym c.requires.1.1.1.1.1.1)
+            (subst (λ n. NewEach n c.coroutines_for-coroutines.result g.origin c.in_ok-opened.opened.shared.items c.in_ok-opened.opened.homes.items c.in_ok-opened.opened.row.seats.items) (sym c.requires.1.1.1.1.1.1) t.each);
+        reserved = c.in_ok-reserve.ensures;
+        berths = c.in_ok-empty_berths.ensures ∙ ap (λ n. replicate n None) c.streams_in-many.ensures;
+        streams = (c.in_ok-room.ensures.0, omega (arith, c.in_ok-room.ensures.1, c.streams_in-many.ensures));
+        ends = c.in_ok-room-2.ensures;
+      };
+    }

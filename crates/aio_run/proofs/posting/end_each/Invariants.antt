@@ -1,0 +1,5 @@
+use Rattle.loop_rows.specs.Rows.{IsRow, HasNumbers}
+use Rattle.aio_run.proofs.posting.end_each.Given as goal
+
+abbrev pub invariant-loop-to : goal.invariant-loop-to
+invariant-loop-to g l = IsRow l.shared l.row × HasNumbers 0 64 l.row

@@ -1,0 +1,5 @@
+pub mod Berths
+pub mod Ends
+pub mod Posting
+pub mod Readiness
+pub mod Runs

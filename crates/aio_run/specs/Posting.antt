@@ -1,0 +1,29 @@
+-- What the posts of a script's streams make on its loops.
+use Rattle.std.specs.Prelude.{◌≡◌, ℕ, zero, suc, ◌<◌, ◌==◌, true, if◌then◌else◌, List, [], ◌∷◌, length, slice_index, slice_index_or}
+use Rattle.aio_model.specs.declared.causes.Cause.TheVariants.{Begin}
+use Rattle.aio_model.specs.CoroutineHistory.{Schedule, Push, History}
+use Rattle.loop_rows.specs.Opening.{loop_sizes}
+use Rattle.loop_rows.specs.declared.seats.Seats.{Seats}
+use Rattle.loop_rows.specs.declared.shared.LoopShared.{LoopShared}
+
+-- Of the first so many coroutines each was scheduled and pushed on the loop that is its home, with its state, by the seat of number 0.
+-- These are the entries on one loop, newest first.
+abbrev pub begun_on : ℕ → List ℕ → ℕ → History
+begun_on zero homes loop = []
+begun_on (suc co) homes loop =
+    if slice_index homes co == loop then Push co 0 ∷ Schedule co Begin true 0 ∷ begun_on co homes loop else begun_on co homes loop
+
+-- the seats of so many loops have made just these entries of coroutines
+abbrev pub HaveBegun : {C O : Type 0} → ℕ → List ℕ → ℕ → List (Seats C O) → Type 0
+HaveBegun {C} {O} many homes loops seats =
+    (t : ℕ) (s : Seats C O) → t < loops → (slice_index_or seats t s).coroutines.known.mine ≡ begun_on many homes t
+
+-- the tables of all loops are made for so many coroutines
+abbrev pub HaveCoroutines : {C O : Type 0} → ℕ → List (LoopShared C O) → Type 0
+HaveCoroutines {C} {O} many shared =
+    (k : ℕ) (t : LoopShared C O) → k < length shared → (slice_index_or shared k t).coroutines.coroutines ≡ many
+
+-- each loop has one handle, no lots and one event
+abbrev pub HaveSizes : {C O : Type 0} → List (LoopShared C O) → Type 0
+HaveSizes {C} {O} shared =
+    (k : ℕ) (t : LoopShared C O) → k < length shared → (slice_index_or shared k t).bottoms.sizes ≡ loop_sizes

@@ -1,0 +1,268 @@
+//! The run of a script.
+ghost use Rattle.std.specs.Prelude.{◌≡◌, ◌+◌, ◌≤◌, None, length, replicate, vec_len, vec_capacity, []};
+ghost use Rattle.std.specs.List.{AllByRecursion};
+ghost use Rattle.aio_model.specs.SerialHistory.{eios_of};
+ghost use Rattle.aio_script.specs.Bounds.{IsBounded};
+ghost use Rattle.aio_words.specs.Called.{failures_in, sizes_asked};
+ghost use Rattle.aio_words.specs.Faults.{HasRisenBy};
+ghost use Rattle.co_loop.specs.Rows.{AreOf};
+ghost use Rattle.co_loop.specs.Working.{CanWork};
+ghost use Rattle.img_streams.specs.Streams.{IsStreamOf, source};
+ghost use Rattle.loop_rows.specs.Opening.{HomesEach};
+ghost use Rattle.loop_rows.specs.Rows.{IsRow, HasNumbers};
+ghost use Rattle.loop_threads.specs.Reserving.{IsReserved};
+ghost use Rattle.loop_threads.specs.Running.{CanBeginEach};
+ghost use Rattle.stream_ends.specs.Images.{device_behind};
+ghost use Rattle.stream_ends.specs.Stops.{HaveStopped, IsServed};
+ghost use Rattle.aio_run.specs.Berths.{AllOf, AreBerthed};
+ghost use Rattle.aio_run.specs.Ends.{IsOver};
+ghost use Rattle.aio_run.specs.Posting.{HaveCoroutines, HaveSizes};
+ghost use Rattle.aio_run.specs.Readiness.{ArePosted, IsReady, coroutines_of};
+
+use crate::carrying::carry;
+use crate::opening::Loops;
+use crate::posting::end_each;
+use crate::preparing::{Prepared, ScriptRun};
+use crate::returning::{all_back, take_back};
+use aio_model::{Placed, Script};
+use aio_notify::LoopEnd;
+use aio_words::{Clock, Device, Gate};
+use co_loop::{CoWork, Crew};
+use co_mutex::CoMutex;
+use co_schedule::CoEnd;
+use co_state::Origin;
+use img_streams::{ImageRule, ServeEnv, StreamCo};
+use loop_rows::{LoopShared, Opened, Row};
+use loop_threads::{Hand, LoopRun, Reserved};
+use std::collections::VecDeque;
+use std::sync::Wait;
+use std::thread::Threads;
+use stream_ends::{Finished, finish};
+
+/// One loop whose run is over: its whole history, and that of its coroutines.
+#[derive(Drop)]
+pub struct RunEnd<C: Origin> {
+    pub calls: LoopEnd<()>,
+    pub coroutines: CoEnd<C>,
+}
+
+/// What a run came to.
+#[derive(Drop)]
+pub struct Outcome<D, C: Origin> {
+    pub device: D,
+    /// The replies, each at its place.
+    pub served: Vec<Placed>,
+    /// The loops, in order.
+    pub loops: Vec<RunEnd<C>>,
+}
+
+/// Those that have ended on a loop.
+fn ended_in<C: Origin + Drop, K: Drop>(work: CoWork<C, K>) -> Vec<Option<C>>
+    ensures { result ≡ work.crew.ended }
+{
+    let CoWork {
+        crew,
+        run: _,
+        clock: _,
+        is_ended: _,
+    } = work;
+    let Crew {
+        own: _,
+        coroutines: _,
+        store: _,
+        woken: _,
+        naps: _,
+        leaving: _,
+        ended,
+        done: _,
+        seats: _,
+    } = crew;
+    ended
+}
+
+/// Takes the streams that have ended on one loop, and keeps its two histories.
+fn end_one<D: Device, K: Drop, R: Wait>(
+    rt: &R,
+    lock: &CoMutex<ImageRule<D>>,
+    script: &Script,
+    run: LoopRun<StreamCo<D>, CoWork<StreamCo<D>, K>>,
+    berths: &mut Vec<Option<StreamCo<D>>>,
+) -> RunEnd<StreamCo<D>>
+    requires ended { AllOf D.bytes script.now lock.now run.work.crew.ended.items }
+    requires berths { AreBerthed D.bytes script.now lock.now berths.old.items }
+    ensures berths { AreBerthed D.bytes script.now lock.now berths.new.items }
+    ensures ends { (result.calls ≡ run.calls) × (result.coroutines ≡ run.coroutines) }
+{
+    let LoopRun {
+        calls,
+        coroutines,
+        side: _,
+        lot_pass: _,
+        work,
+    } = run;
+    take_back(rt, lock, script, ended_in(work), berths);
+    RunEnd { calls, coroutines }
+}
+
+/// The same of all loops, in their order.
+fn end_loops<D: Device, K: Drop, R: Wait>(
+    rt: &R,
+    lock: &CoMutex<ImageRule<D>>,
+    script: &Script,
+    runs: Vec<LoopRun<StreamCo<D>, CoWork<StreamCo<D>, K>>>,
+    berths: &mut Vec<Option<StreamCo<D>>>,
+    ends: &mut Vec<RunEnd<StreamCo<D>>>,
+)
+    requires runs { AllByRecursion (λ run. AllOf D.bytes script.now lock.now run.work.crew.ended.items) runs.items }
+    requires berths { AreBerthed D.bytes script.now lock.now berths.old.items }
+    requires over { AllByRecursion (λ run. IsOver (coroutines_of script.now) run.calls.known run.coroutines) runs.items }
+    requires room { (ends.old.items ≡ []) × (length runs.items ≤ vec_capacity ends.old) }
+    ensures berths { AreBerthed D.bytes script.now lock.now berths.new.items }
+    ensures over { (length ends.new.items ≡ length runs.items) × AllByRecursion (λ end. IsOver (coroutines_of script.now) end.calls.known end.coroutines) ends.new.items }
+{
+    let mut runs = VecDeque::from_vec(runs);
+    while let Some(run) = runs.pop_front() {
+        ends.push_reserved(end_one(rt, lock, script, run, berths));
+    }
+}
+
+/// What comes back of the loops.
+#[derive(Drop)]
+struct Gathered<C: Origin> {
+    streams: Vec<C>,
+    ends: Vec<RunEnd<C>>,
+}
+
+/// Takes all streams back from the loops, in the order of the stream lines, and keeps the loops' histories.
+fn gather<D: Device, K: Drop, R: Wait>(
+    rt: &R,
+    lock: &CoMutex<ImageRule<D>>,
+    script: &Script,
+    runs: Vec<LoopRun<StreamCo<D>, CoWork<StreamCo<D>, K>>>,
+    mut berths: Vec<Option<StreamCo<D>>>,
+    streams: Vec<StreamCo<D>>,
+    mut ends: Vec<RunEnd<StreamCo<D>>>,
+) -> Gathered<StreamCo<D>>
+    requires ended { AllByRecursion (λ run. AllOf D.bytes script.now lock.now run.work.crew.ended.items) runs.items }
+    requires over { AllByRecursion (λ run. IsOver (coroutines_of script.now) run.calls.known run.coroutines) runs.items }
+    requires berths { berths.items ≡ replicate (length script.now.streams) None }
+    requires streams { (streams.items ≡ []) × (length script.now.streams ≤ vec_capacity streams) }
+    requires ends { (ends.items ≡ []) × (length runs.items ≤ vec_capacity ends) }
+    ensures streams { HaveStopped D.bytes script.now lock.now result.streams.items }
+    ensures ends { (length result.ends.items ≡ length runs.items) × AllByRecursion (λ end. IsOver (coroutines_of script.now) end.calls.known end.coroutines) result.ends.items }
+{
+    end_loops(rt, lock, script, runs, &mut berths, &mut ends);
+    Gathered {
+        streams: all_back(rt, lock, script, berths, streams),
+        ends,
+    }
+}
+
+/// Where the script has no stream, nobody else ends the loops' runs.
+fn end_if_none<D: Device>(
+    script: &Script,
+    shared: &[LoopShared<StreamCo<D>>],
+    row: &mut Row<StreamCo<D>>,
+)
+    requires row { IsRow shared.now row.old × HasNumbers 0 64 row.old }
+    ensures row { IsRow shared.now row.new × HasNumbers 0 64 row.new }
+{
+    if script.streams.as_slice().is_empty() {
+        end_each(shared, row);
+    }
+}
+
+/// Carries the loops of a script, until all streams have ended and each loop is quiet.
+fn carry_streams<
+    D: Device + Send,
+    K: Clock + Drop + Send,
+    G: Gate + Sync,
+    R: Threads + Wait + Sync,
+>(
+    env: &ServeEnv<'_, D, G, R>,
+    opened: Opened<StreamCo<D>>,
+    hands: Vec<Hand<CoWork<StreamCo<D>, K>>>,
+    reserved: Reserved<StreamCo<D>, CoWork<StreamCo<D>, K>>,
+) -> Vec<LoopRun<StreamCo<D>, CoWork<StreamCo<D>, K>>>
+    requires few { length opened.shared.items ≤ 16 }
+    requires of { AreOf (source env.now.lock.now env.now.script.now) opened.shared.items }
+    requires tables { HaveCoroutines (coroutines_of env.now.script.now) opened.shared.items × HaveSizes opened.shared.items }
+    requires homes { (vec_len opened.homes ≡ length opened.shared.items) × HomesEach (length opened.shared.items) opened.shared.items opened.homes.items }
+    requires hands { (vec_len hands ≡ length opened.shared.items) × CanBeginEach (CanWork (λ c o. IsStreamOf D.bytes c o)) opened.shared.items opened.homes.items hands.items }
+    requires reserved { IsReserved (length opened.shared.items) reserved }
+    requires row { IsRow opened.shared.items opened.row × HasNumbers 0 64 opened.row }
+    ensures long { length result.items ≡ length opened.shared.items }
+    ensures ended { AllByRecursion (λ run. AllOf D.bytes env.now.script.now env.now.lock.now run.work.crew.ended.items) result.items }
+    ensures over { AllByRecursion (λ run. IsOver (coroutines_of env.now.script.now) run.calls.known run.coroutines) result.items }
+{
+    let Opened { shared, homes, row } = opened;
+    carry(env.rt, env, shared, reserved, homes, hands, row)
+}
+
+/// Runs the loops of a script, and takes all streams back.
+fn serve_streams<
+    D: Device + Send,
+    K: Clock + Drop + Send,
+    G: Gate + Sync,
+    R: Threads + Wait + Sync,
+>(env: &ServeEnv<'_, D, G, R>, loops: Loops<StreamCo<D>, K>) -> Gathered<StreamCo<D>>
+    requires bounded { IsBounded env.now.script.now }
+    requires posted { ArePosted (CanWork (λ c o. IsStreamOf D.bytes c o)) env.now.script.now (source env.now.lock.now env.now.script.now) loops }
+    ensures streams { HaveStopped D.bytes env.now.script.now env.now.lock.now result.streams.items }
+    ensures ends { (length result.ends.items ≡ env.now.script.now.loops) × AllByRecursion (λ end. IsOver (coroutines_of env.now.script.now) end.calls.known end.coroutines) result.ends.items }
+{
+    let Loops {
+        mut opened,
+        hands,
+        reserved,
+        berths,
+        streams,
+        ends,
+    } = loops;
+    end_if_none(env.script, &opened.shared, &mut opened.row);
+    let runs = carry_streams(env, opened, hands, reserved);
+    gather(env.rt, env.lock, env.script, runs, berths, streams, ends)
+}
+
+/// Serves the script: each loop on a thread of its own, or, where a thread can't be started, by the caller, in turns that don't block.
+/// Every loop is given turns until each stream's coroutine has ended, and the loop is quiet. All replies and the device come back, with
+/// the whole histories of the loops.
+pub fn run<D: Device + Send, K: Clock + Drop + Send, G: Gate + Sync, R: Threads + Wait + Sync>(
+    rt: &R,
+    script: &Script,
+    prepared: ScriptRun<D, K>,
+    gate: &G,
+) -> Outcome<D, StreamCo<D>>
+    requires bounded { IsBounded script.now }
+    requires fits { script.now.image ≤ D.extent (device_behind prepared.lock) }
+    requires ready { IsReady (CanWork (λ c o. IsStreamOf D.bytes c o)) script.now (λ lock. source lock script.now) prepared }
+    ensures serves { IsServed script.now (D.bytes (device_behind prepared.lock)) (D.bytes result.device) result.served.items }
+    ensures few { length result.served.items ≤ 4096 }
+    ensures loops { (length result.loops.items ≡ script.now.loops) × AllByRecursion (λ end. IsOver (coroutines_of script.now) end.calls.known end.coroutines) result.loops.items }
+
+    // What it came to at the device.
+    ensures extent { D.extent result.device ≡ D.extent (device_behind prepared.lock) }
+    ensures counted { D.faults (device_behind prepared.lock) ≤ D.faults result.device }
+    ensures eios { HasRisenBy (eios_of result.served.items) (D.faults (device_behind prepared.lock)) (D.faults result.device) }
+    ensures sizes { D.size_faults result.device ≡ D.size_faults (device_behind prepared.lock) }
+    ensures asked { sizes_asked (D.calls result.device) ≡ sizes_asked (D.calls (device_behind prepared.lock)) }
+    ensures failures { failures_in (D.calls result.device) ≡ failures_in (D.calls (device_behind prepared.lock)) + eios_of result.served.items }
+{
+    let Prepared { lock, room, loops } = prepared;
+    let env = ServeEnv {
+        rt,
+        lock: &lock,
+        script,
+        gate,
+    };
+    let Gathered {
+        streams,
+        ends: loops,
+    } = serve_streams(&env, loops);
+    let Finished { device, served } = finish(lock, streams, script, room);
+    Outcome {
+        device,
+        served,
+        loops,
+    }
+}
