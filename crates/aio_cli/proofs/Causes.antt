@@ -14,7 +14,7 @@ use Rattle.aio_script.specs.Grammar.{script_said}
 use Rattle.aio_script.specs.LoopGrammar.{loop_script_said}
 use Rattle.aio_cli.specs.declared.answer.Answer.{Answer}
 use Rattle.aio_cli.specs.declared.answer.Answer.TheVariants.{Done, Errors, Usage, BadScript, TooLong, TooLarge, ReadFault, WriteFault, NoMemory, DeviceFault}
-use Rattle.aio_cli.specs.Answers.{IsOfLoop, IsRefusal, IsWhole, OnBadScript, OnCut, OnDeviceFault, OnRun, OnTooLarge, OnTooLong, OnWritten}
+use Rattle.aio_cli.specs.Answers.{IsDone, IsOfLoop, IsRefusal, IsWhole, OnBadScript, OnCut, OnDeviceFault, OnRun, OnTooLarge, OnTooLong, OnWritten}
 use Rattle.aio_cli.specs.Rings.{RingsSaid}
 use Rattle.program_words.specs.declared.modes.Mode.{Mode}
 use Rattle.program_words.specs.declared.modes.Mode.TheVariants.{Image, Bells}
@@ -86,6 +86,20 @@ module _ (before now : Option (List ℕ)) (bytes : List ℕ) (told : before ≡ 
   refused_loop-only W V WriteFault of fault bad long written cut few refusal says = absurd (not-both-loop cut.script refusal (says_loop-whole cut.script cut.said) says)
   refused_loop-only W V NoMemory of fault bad long written cut few refusal says = tt
   refused_loop-only W V DeviceFault of fault bad long written cut few refusal says = absurd of
+
+  pub done_loop-only : (answer : Answer) → IsOfLoop answer → (answer ≡ ReadFault → ⊥) → (answer ≡ WriteFault → ⊥)
+      → OnBadScript answer (RefusesLoop before now) → OnTooLong answer (IsTooLong before now)
+      → length bytes ≤ longest_script → (script : LoopScript) → loop_script_said bytes ≡ Ok script → IsDone answer
+  done_loop-only Done of read write bad long few script says = tt
+  done_loop-only (Errors n) of read write bad long few script says = of
+  done_loop-only Usage of read write bad long few script says = of
+  done_loop-only (BadScript told_so) of read write bad long few script says = absurd (not-both-loop script told_so says (refuses_loop-whole told_so bad))
+  done_loop-only TooLong of read write bad long few script says = absurd (omega (arith, few, too_long-longer long))
+  done_loop-only (TooLarge i d) of read write bad long few script says = of
+  done_loop-only ReadFault of read write bad long few script says = absurd (read refl)
+  done_loop-only WriteFault of read write bad long few script says = absurd (write refl)
+  done_loop-only NoMemory of read write bad long few script says = tt
+  done_loop-only DeviceFault of read write bad long few script says = of
 
   module _ (extent size_before size_now : ℕ) where
     pub refused-only : (answer : Answer) → (answer ≡ Usage → ⊥) → (answer ≡ ReadFault → ⊥)

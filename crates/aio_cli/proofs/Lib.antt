@@ -1,9 +1,3 @@
 pub mod Causes
-pub mod Failures
-pub mod Going
-pub mod Printing
 pub mod Reading
-pub mod Rooms
 pub mod Served
-pub mod SoFar
-pub mod Streams

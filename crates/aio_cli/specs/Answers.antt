@@ -116,12 +116,12 @@ IsWhole image extent (TooLarge i d) served = (i ≡ image) × (d ≡ extent) × 
 IsWhole image extent NoMemory served = Unit {0}
 IsWhole image extent answer served = ⊥
 
--- an answer at which the script was served
-abbrev pub IsServed : Answer → Type 0
-IsServed Done = Unit {0}
-IsServed (Errors n) = Unit {0}
-IsServed WriteFault = Unit {0}
-IsServed answer = ⊥
+-- an answer that can come once the script was served
+abbrev pub IsOfPrinting : Answer → Type 0
+IsOfPrinting Done = Unit {0}
+IsOfPrinting (Errors n) = Unit {0}
+IsOfPrinting WriteFault = Unit {0}
+IsOfPrinting answer = ⊥
 
 -- why no text was read
 abbrev pub FailsText : Option (List ℕ) → Option (List ℕ) → ℕ → ℕ → Answer → Type 0

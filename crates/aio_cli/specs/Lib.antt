@@ -1,9 +1,7 @@
 pub mod Rings
 pub mod Answers
-pub mod Buffers
 pub mod Calls
 pub mod FaultText
 pub mod Reading
 pub mod Run
-pub mod Streams
 pub mod Words

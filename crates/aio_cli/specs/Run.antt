@@ -1,18 +1,15 @@
 -- What a run of the program does, from the text that it reads to the text that it writes.
-use Rattle.std.specs.Prelude.{◌≡◌, ℕ, List, drop, Option, option_map}
+use Rattle.std.specs.Prelude.{◌≡◌, ℕ, List, length, Option}
+use Rattle.std.specs.List.{AllByRecursion}
 use Rattle.aio_model.specs.declared.replies.Placed.{Placed}
 use Rattle.aio_model.specs.declared.scripts.Script.{Script}
 use Rattle.aio_model.specs.Asked.{asked}
-use Rattle.aio_model.specs.SerialHistory.{IsSerialHistory, bytes_left}
 use Rattle.aio_model.specs.PrintedText.{printed_text}
+use Rattle.stream_ends.specs.Stops.{IsServed}
+use Rattle.aio_run.specs.declared.running.RunEnd.{RunEnd}
+use Rattle.aio_run.specs.Ends.{IsOver}
+use Rattle.aio_run.specs.Readiness.{coroutines_of}
 use Rattle.aio_cli.specs.Reading.{Says}
-
--- The requests of a script were served: the replies are a serial history of them on the opening bytes, the device
--- has the bytes that they leave, and those past the image are as they were.
-pub record Serves (script : Script) (before now : Option (List ℕ)) (served : List Placed) : Type 0 where
-  pub history : IsSerialHistory script.image (asked script.lines) before served
-  pub leaves : now ≡ option_map (bytes_left (asked script.lines) served) before
-  pub past : option_map (drop script.image) now ≡ option_map (drop script.image) before
 
 -- A whole run. The text was all that the source had left, the script is the one that it says, its requests were
 -- served, and of their printed text this much was written.
@@ -20,5 +17,18 @@ pub record Runs (left_before left_now bytes_before bytes_now : Option (List ℕ)
     : Type 0 where
   pub script : Script
   pub said : Says left_before left_now script
-  pub serves : Serves script bytes_before bytes_now served
+  pub serves : IsServed script bytes_before bytes_now served
   pub writes : Writes (printed_text (asked script.lines) served)
+
+-- These are a script's loops in their order, each carried to its end.
+pub record HaveCarried {C O : Type 0} (script : Script) (loops : List (RunEnd C O)) : Type 0 where
+  pub many : length loops ≡ script.loops
+  pub over : AllByRecursion (λ end. IsOver (coroutines_of script) end.calls.known end.coroutines) loops
+
+-- The same run at its loops: they carried the script that the text says, and its requests were served.
+pub record RunsOnLoops {C O : Type 0} (left_before left_now bytes_before bytes_now : Option (List ℕ)) (served : List Placed) (loops : List (RunEnd C O))
+    : Type 0 where
+  pub script : Script
+  pub said : Says left_before left_now script
+  pub serves : IsServed script bytes_before bytes_now served
+  pub carried : HaveCarried script loops

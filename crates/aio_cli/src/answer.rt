@@ -2,8 +2,11 @@ ghost use Rattle.std.specs.Prelude.{◌≡◌};
 
 use aio_model::Placed;
 use aio_notify::LoopEnd;
+use aio_run::RunEnd;
 use aio_script::ScriptRefusal;
+use aio_words::Device;
 use bell_loop::Tag;
+use img_streams::StreamCo;
 
 /// How a run of the program ended.
 #[derive(Clone, Copy, Debug, PartialEq, Eq)]
@@ -30,13 +33,15 @@ pub enum Answer {
     DeviceFault,
 }
 
-/// What a run of the program leaves: how it ended, the device, and the replies in the order of their places. There are
-/// none where nothing was served. In the mode of loop scripts it leaves the end of the loop, where all was written.
+/// What a run of the program leaves: how it ended, the device, the replies in the order of their places, and the ends of
+/// the script's loops in their order. There are no replies and no loops where nothing was served. In the mode of loop
+/// scripts it leaves the end of that loop, where all was written.
 #[derive(Drop)]
-pub struct End<D> {
+pub struct End<D: Device> {
     pub answer: Answer,
     pub device: D,
     pub served: Vec<Placed>,
+    pub loops: Vec<RunEnd<StreamCo<D>>>,
     pub bells: Option<LoopEnd<Tag>>,
 }
 
@@ -62,7 +67,7 @@ impl Answer {
     }
 }
 
-impl<D> End<D> {
+impl<D: Device> End<D> {
     ghost use Rattle.aio_cli.specs.Answers.{status_of};
 
     /// The exit status of the program.

@@ -3,12 +3,10 @@
 
 mod answer;
 mod fault;
-mod print;
 mod program;
 mod read;
 mod rings;
 mod run;
-mod serve;
 
 pub use answer::{Answer, End};
 pub use fault::print_fault;

@@ -14,7 +14,7 @@ ghost use Rattle.aio_cli.specs.Answers.{FailsReading, FailsReadingLoop, FailsTex
 ghost use Rattle.aio_cli.specs.Calls.{Reads, is_read_fault};
 ghost use Rattle.aio_cli.specs.Reading.{IsText, IsTooLong, Refuses, RefusesLoop, Says, SaysLoop, SaysFitting, SaysImage, SaysSome, TakesAtMost, longest_script, most_read};
 ghost use Rattle.aio_cli.specs.Rings.{AtBells, AtDone, EndsSaid, RingsSaid};
-ghost use Rattle.aio_cli.specs.Run.{Runs};
+ghost use Rattle.aio_cli.specs.Run.{Runs, RunsOnLoops};
 ghost use Rattle.aio_cli.specs.Words.{InBells, InImage, mode_served};
 ghost use Rattle.program_words.specs.Words.{mode_said};
 
@@ -28,6 +28,7 @@ use aio_words::{Clock, Device, DeviceAsk, Gate, Sink, Source};
 use program_words::{Mode, mode_said};
 use std::alloc::Global;
 use std::sync::Wait;
+use std::thread::Threads;
 
 /// How many bytes a script may have.
 const LONGEST_SCRIPT: usize = 1_048_576;
@@ -91,19 +92,33 @@ fn read_loop<S: Source>(alloc: Global, source: &mut S) -> Result<LoopScript, Ans
 }
 
 /// Reads an image script, serves it and prints its replies.
-fn run_image<S: Source, K: Sink, D: Device>(
+fn run_image<
+    S: Source,
+    K: Sink,
+    D: Device + Send + Drop,
+    C: Clock + Send + Drop,
+    G: Gate + Sync,
+    R: Threads + Wait + Sync,
+>(
+    rt: &R,
     alloc: Global,
     source: &mut S,
     sink: &mut K,
     device: D,
+    clocks: Vec<C>,
+    gate: &G,
 ) -> End<D>
+    requires sixteen { vec_len clocks ≡ 16 }
     ensures written { OnWritten result.answer
         (Runs (S.left source.old) (S.left source.new) (D.bytes device) (D.bytes result.device) result.served.items
         (λ text. K.held sink.new ≡ with_piece text (K.held sink.old))) }
     ensures cut { OnCut result.answer
         (Runs (S.left source.old) (S.left source.new) (D.bytes device) (D.bytes result.device) result.served.items
         (AppendsFront (K.held sink.old) (K.held sink.new))) }
+    ensures carried { OnRun result.answer
+        (RunsOnLoops (S.left source.old) (S.left source.new) (D.bytes device) (D.bytes result.device) result.served.items result.loops.items) }
     ensures unserved { OnUnserved result.answer ((sink.new ≡ sink.old) × (D.bytes result.device ≡ D.bytes device) × (result.served.items ≡ [])) }
+    ensures no_loops { OnUnserved result.answer (result.loops.items ≡ []) }
     ensures unasked { OnUnasked result.answer (result.device ≡ device) }
     ensures no_bells { result.bells ≡ None }
     ensures errors { TellsErrors result.answer result.served.items }
@@ -129,16 +144,17 @@ fn run_image<S: Source, K: Sink, D: Device>(
     ensures failures { OnRun result.answer (failures_in (D.calls result.device) ≡ failures_in (D.calls device) + eios_of result.served.items) }
 {
     match read_all(alloc, source) {
-        Ok(script) => run_script(alloc, &script, sink, device),
+        Ok(script) => run_script(rt, alloc, &script, sink, device, clocks, gate),
         Err(answer) => unserved(alloc, answer, device),
     }
 }
 
 /// The end of a run in which a loop script was done.
-fn ended<D>(alloc: Global, rung: Rung, device: D) -> End<D>
+fn ended<D: Device>(alloc: Global, rung: Rung, device: D) -> End<D>
     ensures answer { result.answer ≡ rung.answer }
     ensures device { result.device ≡ device }
     ensures served { result.served.items ≡ [] }
+    ensures loops { result.loops.items ≡ [] }
     ensures bells { result.bells ≡ rung.bells }
 {
     let Rung { answer, bells } = rung;
@@ -146,6 +162,7 @@ fn ended<D>(alloc: Global, rung: Rung, device: D) -> End<D>
         answer,
         device,
         served: Vec::new(alloc),
+        loops: Vec::new(alloc),
         bells,
     }
 }
@@ -168,6 +185,7 @@ fn run_bells<R: Wait, S: Source, K: Sink, D: Device>(
     ensures unserved { OnUnserved result.answer (sink.new ≡ sink.old) }
     ensures device { result.device ≡ device }
     ensures served { result.served.items ≡ [] }
+    ensures loops { result.loops.items ≡ [] }
     ensures bad_script { OnBadScript result.answer (RefusesLoop (S.left source.old) (S.left source.new)) }
     ensures too_long { OnTooLong result.answer (IsTooLong (S.left source.old) (S.left source.new)) }
     ensures read_fault { result.answer ≡ Answer.ReadFault → HasRisen (S.faults source.old) (S.faults source.new) }
@@ -189,12 +207,20 @@ fn run_bells<R: Wait, S: Source, K: Sink, D: Device>(
 ///
 /// The words are those of the command line behind the program's name, as `program_words` reads them. Which device the
 /// word `--image=` names is the caller's affair, who hands it in. The generated script isn't served yet: words that ask
-/// for it are answered Usage. The clocks and the gate aren't used yet: a line that asks for a delay or a move is passed
-/// over, and requests are served in the order of their lines.
+/// for it are answered Usage.
+/// The script is served by its loops, each on a thread of its own. The loop at each place uses the clock at that place, and
+/// the clocks behind are let go. Each stream passes the gate before each of its requests.
 /// The device comes back at every answer. An answer is looked for in this order: Usage, then ReadFault or TooLong,
 /// BadScript, DeviceFault, TooLarge, and once the script was served WriteFault; NoMemory may stand in place of any from
-/// the reading to the serving.
-pub fn top<R: Wait, S: Source, K: Sink, D: Device + Send, C: Clock + Send + Drop, G: Gate + Sync>(
+/// the reading on until the loops are started.
+pub fn top<
+    S: Source,
+    K: Sink,
+    D: Device + Send + Drop,
+    C: Clock + Send + Drop,
+    G: Gate + Sync,
+    R: Threads + Wait + Sync,
+>(
     rt: &R,
     alloc: Global,
     words: &[String],
@@ -214,7 +240,11 @@ pub fn top<R: Wait, S: Source, K: Sink, D: Device + Send, C: Clock + Send + Drop
     ensures cut { InImage (mode_said (map string_bytes words.now)) (OnCut result.answer
         (Runs (S.left source.old) (S.left source.new) (D.bytes device) (D.bytes result.device) result.served.items
         (AppendsFront (K.held sink.old) (K.held sink.new)))) }
-    // So in the mode of loop scripts, where the text is one of the loop script, and the device isn't touched.
+    // At these three answers the script's loops have carried it, each to its end; at every other there is none.
+    ensures carried { InImage (mode_said (map string_bytes words.now)) (OnRun result.answer
+        (RunsOnLoops (S.left source.old) (S.left source.new) (D.bytes device) (D.bytes result.device) result.served.items result.loops.items)) }
+    ensures no_loops { OnUnserved result.answer (result.loops.items ≡ []) }
+    // In the mode of loop scripts, where the text is one of the loop script, and the device isn't touched.
     ensures rung { InBells (mode_said (map string_bytes words.now)) (OnWritten result.answer
         (RingsSaid (S.left source.old) (S.left source.new) (λ text. K.held sink.new ≡ with_piece text (K.held sink.old)))) }
     ensures rung_cut { InBells (mode_said (map string_bytes words.now)) (OnCut result.answer
@@ -223,6 +253,7 @@ pub fn top<R: Wait, S: Source, K: Sink, D: Device + Send, C: Clock + Send + Drop
     // The end of that loop comes at Done in this mode, and at no other answer.
     ensures bells { AtBells (mode_said (map string_bytes words.now)) result.answer result.bells (λ end.
         EndsSaid (S.left source.old) (S.left source.new) (λ text. K.held sink.new ≡ with_piece text (K.held sink.old)) end.known.seen) }
+    ensures unlooped { InBells (mode_said (map string_bytes words.now)) (result.loops.items ≡ []) }
     // At every other answer nothing was served and nothing written.
     ensures unserved { OnUnserved result.answer ((sink.new ≡ sink.old) × (D.bytes result.device ≡ D.bytes device) × (result.served.items ≡ [])) }
     ensures unasked { OnUnasked result.answer (result.device ≡ device) }
@@ -279,11 +310,9 @@ pub fn top<R: Wait, S: Source, K: Sink, D: Device + Send, C: Clock + Send + Drop
         → IfSome (S.left source.old) (λ text. length text ≤ longest_script
         → (script : LoopScript) → loop_script_said text ≡ Ok script → IsDone result.answer)) }
 {
-    drop(clocks);
-    let _ = gate;
     match mode_said(words) {
         None => unserved(alloc, Answer::Usage, device),
-        Some(Mode::Image) => run_image(alloc, source, sink, device),
+        Some(Mode::Image) => run_image(rt, alloc, source, sink, device, clocks, gate),
         Some(Mode::Bells) => run_bells(rt, alloc, source, sink, device),
         Some(Mode::Generated { .. }) => unserved(alloc, Answer::Usage, device),
     }

@@ -1,127 +1,155 @@
-ghost use Rattle.std.specs.Prelude.{◌≡◌, ◌<◌, ◌≤◌, ◌^◌, ◌+◌, ◌∷◌, [], None, true, false, length, map, vec_capacity, IfOk, IfErr};
+//! A script served by its loops on a device, and its replies printed.
+ghost use Rattle.std.specs.Prelude.{◌≡◌, ◌<◌, ◌≤◌, ◌+◌, ◌∷◌, [], None, true, false, length, take, vec_len, IfOk, IfErr};
+ghost use Rattle.aio_model.specs.declared.scripts.Step.{Step};
 ghost use Rattle.aio_model.specs.Asked.{asked};
 ghost use Rattle.aio_model.specs.PrintedText.{printed_text};
-ghost use Rattle.aio_model.specs.SerialHistory.{asked_name, placed_name, eios_of};
+ghost use Rattle.aio_model.specs.SerialHistory.{IsSerialHistory, eios_of};
 ghost use Rattle.aio_words.specs.Called.{device_call, failures_in, sizes_asked};
 ghost use Rattle.aio_words.specs.Content.{with_piece, AppendsFront};
 ghost use Rattle.aio_words.specs.Faults.{HasRisen, HasRisenBy};
 ghost use Rattle.aio_script.specs.Bounds.{IsBounded};
-ghost use Rattle.aio_cli.specs.Answers.{IsOfRun, IsOfServing, IsServed, OnCut, OnDeviceFault, OnRun, OnTooLarge, OnUnserved, OnWritten, TellsErrors};
+ghost use Rattle.stream_ends.specs.Stops.{IsServed};
+ghost use Rattle.reply_printing.specs.Standings.{AreInOrder, HaveStreamsBelow};
+ghost use Rattle.aio_cli.specs.Answers.{IsOfPrinting, IsOfRun, IsOfServing, OnCut, OnDeviceFault, OnRun, OnTooLarge, OnUnserved, OnWritten, TellsErrors};
 ghost use Rattle.aio_cli.specs.Calls.{is_read_fault};
-ghost use Rattle.aio_cli.specs.Buffers.{RoomsFor};
-ghost use Rattle.aio_cli.specs.Run.{Serves};
+ghost use Rattle.aio_cli.specs.Run.{HaveCarried};
 
-use crate::print::{errors_in, print_replies};
-use crate::serve::{count_requests, prepare_buffers, serve_lines};
 use crate::{Answer, End};
 use aio_model::{Placed, Script, Step, Unmade};
+use aio_run::{Outcome, prepare, run};
 use aio_script::{Page, WriteFault};
-use aio_words::{Device, DeviceAsk, Failed, Sink};
-use img_requests::Image;
+use aio_words::{Clock, Device, DeviceAsk, Failed, Gate, Sink};
+use img_streams::StreamCo;
+use reply_printing::{ReplyOrder, errors_in, print_replies};
 use std::alloc::{AllocError, Global};
-use std::collections::VecDeque;
+use std::sync::Wait;
+use std::thread::Threads;
 
-/// What serving and printing take of memory: a buffer for each line, room for the replies, and the page that they are
-/// printed on.
-struct Room {
-    buffers: VecDeque<Vec<u8>>,
-    served: Vec<Placed>,
+/// How many requests a script may have.
+const REQUESTS: usize = 4096;
+
+/// What printing takes of memory: room to find each request's reply, and the page that the lines are printed on.
+#[derive(Drop)]
+struct PrintRoom {
+    order: ReplyOrder,
     page: Page,
 }
 
-fn prepare(alloc: Global, lines: &[Step]) -> Result<Room, AllocError>
-    ensures rooms { IfOk result (λ room. RoomsFor lines.now (map (λ buffer. buffer.items) room.buffers.items)) }
-    ensures none { IfOk result (λ room. room.served.items ≡ []) }
-    ensures places { IfOk result (λ room. length lines.now ≤ vec_capacity room.served) }
+fn print_room(alloc: Global) -> Result<PrintRoom, AllocError>
+    ensures order { IfOk result (λ room. room.order ≡ 4096) }
     ensures empty { IfOk result (λ room. room.page ≡ []) }
 {
-    Ok(Room {
-        buffers: prepare_buffers(alloc, lines)?,
-        served: Vec::with_capacity(alloc, lines.len())?,
+    Ok(PrintRoom {
+        order: ReplyOrder::build(alloc, REQUESTS)?,
         page: Page::build(alloc)?,
     })
 }
 
+/// The first so many of the clocks, in their order.
+fn clocks_for<C: Drop>(mut clocks: Vec<C>, loops: u32) -> Vec<C>
+    requires enough { loops ≤ vec_len clocks }
+    ensures first { result.items ≡ take loops clocks.items }
+    ensures many { vec_len result ≡ loops }
+{
+    clocks.truncate(loops as usize);
+    clocks
+}
+
 /// The end of a run at which nothing was served.
-pub(crate) fn unserved<D>(alloc: Global, answer: Answer, device: D) -> End<D>
+pub(crate) fn unserved<D: Device>(alloc: Global, answer: Answer, device: D) -> End<D>
     ensures answer { result.answer ≡ answer }
     ensures device { result.device ≡ device }
     ensures served { result.served.items ≡ [] }
     ensures bells { result.bells ≡ None }
+    ensures loops { result.loops.items ≡ [] }
 {
     End {
         answer,
         device,
         served: Vec::new(alloc),
         bells: None,
+        loops: Vec::new(alloc),
     }
 }
 
-/// A device after a script was served on it, the replies, and a page to print them on.
-struct Served<D> {
-    device: D,
-    replies: Vec<Placed>,
-    page: Page,
+/// What came of serving a script by its loops, and room to print the replies.
+struct Served<D: Device> {
+    outcome: Outcome<D, StreamCo<D>>,
+    room: PrintRoom,
 }
 
-/// Serves a script on a device, which comes back unserved where memory runs out.
-fn serve_script<D: Device>(
+/// Serves a script on a device by the script's loops. The device comes back unserved where memory runs out, and no loop
+/// was started then.
+fn serve_script<
+    D: Device + Send + Drop,
+    C: Clock + Send + Drop,
+    G: Gate + Sync,
+    R: Threads + Wait + Sync,
+>(
+    rt: &R,
     alloc: Global,
     script: &Script,
     device: D,
+    clocks: Vec<C>,
+    gate: &G,
 ) -> Result<Served<D>, Unmade<D>>
     requires bounded { IsBounded script.now }
     requires fits { script.now.image ≤ D.extent device }
+    requires sixteen { vec_len clocks ≡ 16 }
     ensures unmade { IfErr result (λ unmade. unmade.back ≡ device) }
-    ensures few { IfOk result (λ served. length served.replies.items ≤ 4096) }
-    ensures empty { IfOk result (λ served. served.page ≡ []) }
-    ensures names { IfOk result (λ served. map placed_name served.replies.items ≡ map asked_name (asked script.now.lines)) }
-    ensures serves { IfOk result (λ served. Serves script.now (D.bytes device) (D.bytes served.device) served.replies.items) }
-    ensures eios { IfOk result (λ served. HasRisenBy (eios_of served.replies.items) (D.faults device) (D.faults served.device)) }
-    ensures counted { IfOk result (λ served. D.faults device ≤ D.faults served.device) }
-    ensures sizes { IfOk result (λ served. D.size_faults served.device ≡ D.size_faults device) }
-    ensures extent { IfOk result (λ served. D.extent served.device ≡ D.extent device) }
-    ensures asked { IfOk result (λ served. sizes_asked (D.calls served.device) ≡ sizes_asked (D.calls device)) }
-    ensures failures { IfOk result (λ served. failures_in (D.calls served.device) ≡ failures_in (D.calls device) + eios_of served.replies.items) }
+    ensures few { IfOk result (λ served. length served.outcome.served.items ≤ 4096) }
+    ensures order { IfOk result (λ served. served.room.order ≡ 4096) }
+    ensures empty { IfOk result (λ served. served.room.page ≡ []) }
+    ensures serves { IfOk result (λ served. IsServed script.now (D.bytes device) (D.bytes served.outcome.device) served.outcome.served.items) }
+    ensures carried { IfOk result (λ served. HaveCarried script.now served.outcome.loops.items) }
+    ensures eios { IfOk result (λ served. HasRisenBy (eios_of served.outcome.served.items) (D.faults device) (D.faults served.outcome.device)) }
+    ensures counted { IfOk result (λ served. D.faults device ≤ D.faults served.outcome.device) }
+    ensures sizes { IfOk result (λ served. D.size_faults served.outcome.device ≡ D.size_faults device) }
+    ensures extent { IfOk result (λ served. D.extent served.outcome.device ≡ D.extent device) }
+    ensures asked { IfOk result (λ served. sizes_asked (D.calls served.outcome.device) ≡ sizes_asked (D.calls device)) }
+    ensures failures { IfOk result (λ served. failures_in (D.calls served.outcome.device) ≡ failures_in (D.calls device) + eios_of served.outcome.served.items) }
 {
-    let lines = script.lines.as_slice();
-    let Ok(room) = prepare(alloc, lines) else {
+    let Ok(room) = print_room(alloc) else {
         return Err(Unmade { back: device });
     };
-    let Room {
-        buffers,
-        served: mut replies,
-        page,
-    } = room;
-    let requests = count_requests(lines);
-    let mut image = Image::build(alloc, device, script.image, &requests)?;
-    serve_lines(&mut image, lines, buffers, &mut replies);
-    Ok(Served {
-        device: image.into_device(),
-        replies,
-        page,
-    })
+    let clocks = clocks_for(clocks, script.loops);
+    let prepared = prepare(rt, alloc, script, device, clocks)?;
+    let outcome = run(rt, script, prepared, gate);
+    Ok(Served { outcome, room })
 }
 
 /// Serves a script on a device that is known to hold its image, and prints the replies.
-fn run_fitting<K: Sink, D: Device>(
+fn run_fitting<
+    K: Sink,
+    D: Device + Send + Drop,
+    C: Clock + Send + Drop,
+    G: Gate + Sync,
+    R: Threads + Wait + Sync,
+>(
+    rt: &R,
     alloc: Global,
     script: &Script,
     sink: &mut K,
     device: D,
+    clocks: Vec<C>,
+    gate: &G,
 ) -> End<D>
     requires bounded { IsBounded script.now }
     requires fits { script.now.image ≤ D.extent device }
+    requires sixteen { vec_len clocks ≡ 16 }
     ensures of_run { IsOfServing result.answer }
     ensures no_read { is_read_fault result.answer ≡ false }
     ensures written { OnWritten result.answer
-        (Serves script.now (D.bytes device) (D.bytes result.device) result.served.items
+        (IsServed script.now (D.bytes device) (D.bytes result.device) result.served.items
         × (K.held sink.new ≡ with_piece (printed_text (asked script.now.lines) result.served.items) (K.held sink.old))) }
     ensures cut { OnCut result.answer
-        (Serves script.now (D.bytes device) (D.bytes result.device) result.served.items
+        (IsServed script.now (D.bytes device) (D.bytes result.device) result.served.items
         × AppendsFront (K.held sink.old) (K.held sink.new) (printed_text (asked script.now.lines) result.served.items)) }
+    ensures carried { OnRun result.answer
+        (IsServed script.now (D.bytes device) (D.bytes result.device) result.served.items × HaveCarried script.now result.loops.items) }
     ensures unserved { OnUnserved result.answer ((sink.new ≡ sink.old) × (result.device ≡ device) × (result.served.items ≡ [])) }
     ensures no_bells { result.bells ≡ None }
+    ensures no_loops { OnUnserved result.answer (result.loops.items ≡ []) }
     ensures errors { TellsErrors result.answer result.served.items }
     ensures eios { HasRisenBy (eios_of result.served.items) (D.faults device) (D.faults result.device) }
     ensures device_counted { D.faults device ≤ D.faults result.device }
@@ -132,21 +160,21 @@ fn run_fitting<K: Sink, D: Device>(
     ensures asked { sizes_asked (D.calls result.device) ≡ sizes_asked (D.calls device) }
     ensures failures { OnRun result.answer (failures_in (D.calls result.device) ≡ failures_in (D.calls device) + eios_of result.served.items) }
 {
-    match serve_script(alloc, script, device) {
+    match serve_script(rt, alloc, script, device, clocks, gate) {
         Err(unmade) => unserved(alloc, Answer::NoMemory, unmade.back),
-        Ok(
-            Served {
+        Ok(Served { outcome, mut room }) => {
+            let Outcome {
                 device,
-                replies,
-                mut page,
-            },
-        ) => {
+                served,
+                loops,
+            } = outcome;
             let lines = script.lines.as_slice();
-            let answer = print_answer(sink, &mut page, lines, replies.as_slice());
+            let answer = print_answer(sink, &mut room, lines, served.as_slice());
             End {
                 answer,
                 device,
-                served: replies,
+                served,
+                loops,
                 bells: None,
             }
         }
@@ -154,23 +182,36 @@ fn run_fitting<K: Sink, D: Device>(
 }
 
 /// Serves a script on a device, where that is large enough, and prints the replies.
-pub(crate) fn run_script<K: Sink, D: Device>(
+pub(crate) fn run_script<
+    K: Sink,
+    D: Device + Send + Drop,
+    C: Clock + Send + Drop,
+    G: Gate + Sync,
+    R: Threads + Wait + Sync,
+>(
+    rt: &R,
     alloc: Global,
     script: &Script,
     sink: &mut K,
     mut device: D,
+    clocks: Vec<C>,
+    gate: &G,
 ) -> End<D>
     requires bounded { IsBounded script.now }
+    requires sixteen { vec_len clocks ≡ 16 }
     ensures of_run { IsOfRun result.answer }
     ensures no_read { is_read_fault result.answer ≡ false }
     ensures written { OnWritten result.answer
-        (Serves script.now (D.bytes device) (D.bytes result.device) result.served.items
+        (IsServed script.now (D.bytes device) (D.bytes result.device) result.served.items
         × (K.held sink.new ≡ with_piece (printed_text (asked script.now.lines) result.served.items) (K.held sink.old))) }
     ensures cut { OnCut result.answer
-        (Serves script.now (D.bytes device) (D.bytes result.device) result.served.items
+        (IsServed script.now (D.bytes device) (D.bytes result.device) result.served.items
         × AppendsFront (K.held sink.old) (K.held sink.new) (printed_text (asked script.now.lines) result.served.items)) }
+    ensures carried { OnRun result.answer
+        (IsServed script.now (D.bytes device) (D.bytes result.device) result.served.items × HaveCarried script.now result.loops.items) }
     ensures unserved { OnUnserved result.answer ((sink.new ≡ sink.old) × (D.bytes result.device ≡ D.bytes device) × (result.served.items ≡ [])) }
     ensures no_bells { result.bells ≡ None }
+    ensures no_loops { OnUnserved result.answer (result.loops.items ≡ []) }
     ensures errors { TellsErrors result.answer result.served.items }
     ensures eios { HasRisenBy (eios_of result.served.items) (D.faults device) (D.faults result.device) }
     ensures device_counted { D.faults device ≤ D.faults result.device }
@@ -192,18 +233,25 @@ pub(crate) fn run_script<K: Sink, D: Device>(
             if script.image > size {
                 unserved(alloc, Answer::TooLarge(script.image, size), device)
             } else {
-                run_fitting(alloc, script, sink, device)
+                run_fitting(rt, alloc, script, sink, device, clocks, gate)
             }
         }
     }
 }
 
 /// Prints the replies, and tells how that ended.
-fn print_answer<K: Sink>(sink: &mut K, page: &mut Page, lines: &[Step], served: &[Placed]) -> Answer
-    requires empty { page.old ≡ [] }
-    requires names { map placed_name served.now ≡ map asked_name (asked lines.now) }
+fn print_answer<K: Sink>(
+    sink: &mut K,
+    room: &mut PrintRoom,
+    lines: &[Step],
+    served: &[Placed],
+) -> Answer
+    requires empty { room.old.page ≡ [] }
+    requires room { length served.now ≤ room.old.order }
+    requires streams { HaveStreamsBelow 64 lines.now }
+    requires order { AreInOrder lines.now served.now }
     requires few { length served.now ≤ 4096 }
-    ensures of_run { IsServed result }
+    ensures of_run { IsOfPrinting result }
     ensures no_read { is_read_fault result ≡ false }
     ensures written { OnWritten result (K.held sink.new ≡ with_piece (printed_text (asked lines.now) served.now) (K.held sink.old)) }
     ensures cut { OnCut result (AppendsFront (K.held sink.old) (K.held sink.new) (printed_text (asked lines.now) served.now)) }
@@ -211,7 +259,7 @@ fn print_answer<K: Sink>(sink: &mut K, page: &mut Page, lines: &[Step], served: 
     ensures counted { K.faults sink.old ≤ K.faults sink.new }
     ensures write_fault { OnCut result (HasRisen (K.faults sink.old) (K.faults sink.new)) }
 {
-    match print_replies(sink, page, lines, served) {
+    match print_replies(sink, &mut room.page, &mut room.order, lines, served) {
         Err(WriteFault) => Answer::WriteFault,
         Ok(()) => match errors_in(served) {
             0 => Answer::Done,

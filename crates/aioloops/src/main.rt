@@ -13,6 +13,7 @@ use std::alloc::Global;
 use std::io::ErrorKind;
 use std::process::ExitCode;
 use std::sync::Wait;
+use std::thread::Threads;
 use std::{env, io};
 
 /// How many bytes the device has where no word names a file.
@@ -41,14 +42,18 @@ fn words(rt: &HostRuntime) -> io::Result<Vec<String>> {
     Ok(env::args(rt)?.skip(1).collect(rt.alloc())?)
 }
 
-/// Runs the program, and tells how that ended. `waits` stands for the same runtime, as who may wait.
-fn run<R: Wait>(rt: &HostRuntime, waits: &R, words: &[String]) -> Result<Answer, NoMemory> {
+/// Runs the program, and tells how that ended. `threads` is the leave to start the loops' threads and to wait for them.
+fn run<R: Threads + Wait + Sync>(
+    threads: &R,
+    rt: &HostRuntime,
+    words: &[String],
+) -> Result<Answer, NoMemory> {
     let mut source = StdSource::build(rt.stdin())?;
     let mut sink = StdSink::output(rt.stdout())?;
     let device = device(rt, words)?;
     let clocks = clocks(rt)?;
     let end = top(
-        waits,
+        threads,
         rt.alloc(),
         words,
         &mut source,

@@ -14,3 +14,5 @@ mod pieces;
 mod run;
 #[cfg(test)]
 mod runs;
+#[cfg(test)]
+mod streams;

@@ -2,11 +2,13 @@
 ghost use Rattle.std.specs.Prelude.{◌≡◌, vec_len, IfOk};
 
 use aio_cli::{Answer, top};
+use aio_model::Placed;
 use aio_words::{MemDevice, MemSink, MemSource, OpenGate, StepClock};
 use std::alloc::Global;
 use std::process::Abort;
 use std::sync::Wait;
 use std::test::Fail;
+use std::thread::Threads;
 
 /// The ends that a run is given.
 #[derive(Clone, Copy)]
@@ -41,6 +43,9 @@ pub struct Seen {
     pub status: u8,
     pub printed: Vec<u8>,
     pub device: Vec<u8>,
+    pub served: Vec<Placed>,
+    /// How many loops have come to their ends.
+    pub loops: usize,
 }
 
 /// Words, a text, and what the run answers and prints.
@@ -66,7 +71,7 @@ fn owned(alloc: Global, words: &[&str]) -> Result<Vec<String>, Fail> {
 }
 
 /// A run of this text with these words.
-pub fn run<R: Wait>(
+pub fn run<R: Threads + Wait + Sync>(
     rt: &R,
     alloc: Global,
     ends: Ends,
@@ -91,11 +96,13 @@ pub fn run<R: Wait>(
         status: end.status(),
         printed: Vec::from_slice(alloc, sink.bytes())?,
         device: Vec::from_slice(alloc, end.device.bytes())?,
+        loops: end.loops.len(),
+        served: end.served,
     })
 }
 
 /// Each run answers and prints what its row says.
-pub fn assert_runs<R: Abort + Wait>(
+pub fn assert_runs<R: Abort + Threads + Wait + Sync>(
     rt: &R,
     alloc: Global,
     ends: Ends,

@@ -104,19 +104,13 @@ fn what_is_no_script_is_refused(rt: HostRuntime) -> Result<(), Fail> {
 }
 
 /// On a device of sevens.
-const ZEROED: [Row; 3] = [
+const ZEROED: [Row; 2] = [
     (&[], "image 16\nloops 3", Done, "end 0 0\n"),
     (
         &[],
         "image 1048576\nloops 4\nstream 5 2\n5 zero 0 65536\n5 write 510 55aa\n5 move 3\n5 delay 1000\n5 flush\n5 read 508 4",
         Done,
         "0 5 zero ok 65536\n1 5 write ok 2\n2 5 flush ok\n3 5 read ok 000055aa\nend 4 0\n",
-    ),
-    (
-        &[],
-        "image 4\nloops 2\nstream 0 0\nstream 63 1\n0 write 0 aa\n63 read 0 1\n0 read 0 1",
-        Done,
-        "0 0 write ok 1\n1 63 read ok aa\n2 0 read ok aa\nend 3 0\n",
     ),
 ];
 

@@ -4,21 +4,32 @@ use aio_model::{Placed, Reply, Request, Script, Step, What};
 use std::alloc::{AllocError, Global};
 use std::test::Fail;
 
-/// The text of replies that stand in the order of the script's requests.
+/// The text of a script's replies, each at its place.
 pub fn printed_text(alloc: Global, script: &Script, served: &[Placed]) -> Result<String, Fail> {
     let mut text = String::new(alloc);
-    let mut place = 0usize;
+    let mut begun = [0u32; 64];
     for step in script.lines.as_slice() {
         if let What::Ask(request) = &step.what {
-            if place < served.len() {
-                text.push_str(reply_line(alloc, place, request, &served[place])?.as_str())?;
-                place += 1;
+            let stream = step.stream as usize % 64;
+            let place = place_of(served, step.stream, begun[stream]);
+            begun[stream] = begun[stream].wrapping_add(1);
+            if let Some(placed) = served.get(place) {
+                text.push_str(reply_line(alloc, place, request, placed)?.as_str())?;
             }
         }
     }
+    let requests = served.len();
     let errors = served.iter().filter(|placed| is_error(placed)).count();
-    text.push_str(format!(in alloc; "end {place} {errors}\n")?.as_str())?;
+    text.push_str(format!(in alloc; "end {requests} {errors}\n")?.as_str())?;
     Ok(text)
+}
+
+/// Where the reply to this request of the stream stands, or their number.
+fn place_of(served: &[Placed], stream: u32, index: u32) -> usize {
+    served
+        .iter()
+        .take_while(|placed| placed.stream != stream || placed.index != index)
+        .count()
 }
 
 fn reply_line(

@@ -10,6 +10,7 @@ use served_check::{check_served, replay};
 use std::alloc::Global;
 use std::sync::Wait;
 use std::test::Fail;
+use std::thread::Threads;
 
 /// A script, its text, and as many zeros as its image has bytes.
 #[derive(Drop)]
@@ -62,7 +63,12 @@ fn clocks(alloc: Global) -> Result<Vec<StepClock>, Fail>
 }
 
 /// A run of the script's text over the zeros. The source gives at most 100 bytes a read.
-pub fn run<R: Wait>(rt: &R, alloc: Global, stage: &Stage, fails: Fails) -> Result<Seen, Fail> {
+pub fn run<R: Threads + Wait + Sync>(
+    rt: &R,
+    alloc: Global,
+    stage: &Stage,
+    fails: Fails,
+) -> Result<Seen, Fail> {
     let mut source = MemSource::build(alloc, stage.text.as_bytes(), 100, fails.reads)?;
     let mut sink = MemSink::build(alloc, 1_048_576, fails.writes)?;
     let device = MemDevice::build(alloc, stage.opening.as_slice(), fails.calls)?;

@@ -7,6 +7,7 @@ use std::alloc::Global;
 use std::process::Abort;
 use std::sync::Wait;
 use std::test::Fail;
+use std::thread::Threads;
 
 const NONE: Fails<'static> = Fails {
     reads: &[],
@@ -31,7 +32,7 @@ fn assert_served(
 }
 
 /// This call of the device fails; call 0 asks for its length.
-fn assert_device_fault<R: Abort + Wait>(
+fn assert_device_fault<R: Abort + Threads + Wait + Sync>(
     rt: &R,
     alloc: Global,
     stage: &Stage,
@@ -63,7 +64,7 @@ fn each_call_of_the_device_in_turn(rt: HostRuntime) -> Result<(), Fail> {
     Ok(())
 }
 
-fn assert_read_fault<R: Abort + Wait>(
+fn assert_read_fault<R: Abort + Threads + Wait + Sync>(
     rt: &R,
     alloc: Global,
     stage: &Stage,
