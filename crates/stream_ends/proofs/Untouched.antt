@@ -44,8 +44,7 @@ module _ {P D : Type 0} (bytes : D → Option (List ℕ)) (script : Script) (loc
         )
     | inr h ↦
         let first = at_below spare 0 (omega (arith, below, h, few, is.passes, started.many)) in
-        let none : 0 ≡ k = omega (arith, below, h, few, is.passes, started.many) in
-        (
+        let none : 0 ≡ k = omega (arith, below, h, few, is.passes, started.many) in (
           first.0,
           (0, in_left spare (map pass_of cos) 0 first.0 first.1),
           ap (λ (v : Known (ImageState D)). v.number) (new 0 first.0 first.1).known_is ∙ none,
