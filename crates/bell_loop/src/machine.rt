@@ -217,6 +217,7 @@ impl<'a, R: Wait> Machine<'a, R> {
         self.callbacks.rang = false;
         answer
     }
+
     /// Clears the event where it is set.
     fn clear_if_set(&mut self, event: u32)
         requires ready { Ready self.old }
