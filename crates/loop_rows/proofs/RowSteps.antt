@@ -1,10 +1,11 @@
 -- A row, where one seat of it stepped.
-use Rattle.std.proofs.Common.{◌≡◌, ℕ, ◌<◌, List, length, slice_index_or, slice_set, subst, ◌∙◌, arith}
+use Rattle.std.proofs.Common.{◌≡◌, ℕ, ◌<◌, List, length, slice_index_or, slice_set, refl, ap, subst, ◌∙◌, arith}
 use Rattle.std.proofs.lemmas.List.{get_or_default}
 use Rattle.loop_rows.specs.declared.shared.LoopShared.{LoopShared}
 use Rattle.loop_rows.specs.declared.seats.Seats.{Seats}
 use Rattle.loop_rows.specs.Rows.{IsAt, EachAt}
 use Rattle.loop_rows.specs.Posts.{IsSeated, SameNumbers}
+use Rattle.loop_rows.specs.Stepping.{CoroutinesStay}
 use Rattle.loop_rows.proofs.Places.{at_set, as_read}
 use Rattle.loop_rows.proofs.Rowing.{renumbered}
 
@@ -25,3 +26,9 @@ each_posted shared seats first count to t s v lt long at also each seated same k
     (subst (λ (p : LoopShared _ _). IsAt first count p v) (at ∙ get_or_default shared to t x lt)
     (record { bottoms = seated.bottoms; coroutines = seated.coroutines; first_is = same.first ∙ was.first_is; count_is = same.count ∙ was.count_is; co_first_is = same.co_first ∙ was.co_first_is; co_count_is = same.co_count ∙ was.co_count_is }))
     k y (λ ne. each k x y low)
+
+-- one seat stepped on its loop's bottom halves alone
+pub coroutines_set : {C O : Type 0} (seats : List (Seats C O)) (to : ℕ) (s v : Seats C O) → to < length seats → s ≡ slice_index_or seats to s → v.coroutines ≡ s.coroutines → CoroutinesStay seats (slice_set seats to v)
+coroutines_set {C} {O} seats to s v lt at same k d =
+    at_set (λ (j : ℕ) (w : Seats C O). w.coroutines ≡ (slice_index_or seats j d).coroutines) seats to v lt
+    (same ∙ ap (λ (w : Seats C O). w.coroutines) (at ∙ get_or_default seats to s d lt)) k d (λ ne. refl)

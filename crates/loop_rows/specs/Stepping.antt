@@ -20,3 +20,8 @@ SchedulesAt {C} {O} to flags before after =
 abbrev pub SetsAt : {C O : Type 0} → ℕ → List (Seats C O) → List (Seats C O) → Type 0
 SetsAt {C} {O} to before after =
     (b a : Seats C O) → SetsAndNotifies 0 (slice_index_or before to b).bottoms.known (slice_index_or after to a).bottoms.known
+
+-- all seats of the tables of coroutines are as they were
+abbrev pub CoroutinesStay : {C O : Type 0} → List (Seats C O) → List (Seats C O) → Type 0
+CoroutinesStay {C} {O} before after =
+    (k : ℕ) (s : Seats C O) → (slice_index_or after k s).coroutines ≡ (slice_index_or before k s).coroutines

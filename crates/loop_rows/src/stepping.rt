@@ -4,7 +4,7 @@ ghost use Rattle.aio_model.specs.LoopHistory.{ToCall};
 ghost use Rattle.aio_bh.specs.Enqueuing.{Schedules};
 ghost use Rattle.aio_notify.specs.Setting.{SetsAndNotifies};
 ghost use Rattle.loop_rows.specs.Rows.{IsAt, IsRow, HasNumbers};
-ghost use Rattle.loop_rows.specs.Stepping.{OthersStay, SchedulesAt, SetsAt};
+ghost use Rattle.loop_rows.specs.Stepping.{OthersStay, SchedulesAt, SetsAt, CoroutinesStay};
 
 use crate::rows::Row;
 use crate::seats::Seats;
@@ -58,6 +58,7 @@ impl<C: Origin + Drop> Row<C> {
         ensures row { IsRow shared.now self.new × HasNumbers self.old.first self.old.count self.new }
         ensures others { OthersStay to self.old.seats.items self.new.seats.items }
         ensures sets { SetsAt to self.old.seats.items self.new.seats.items }
+        ensures coroutines { CoroutinesStay self.old.seats.items self.new.seats.items }
     {
         set_event_at(&shared[to], &mut self.seats[to]);
     }

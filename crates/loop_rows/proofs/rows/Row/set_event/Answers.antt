@@ -1,5 +1,5 @@
-use Rattle.std.proofs.Common.{◌∙◌, refl, length-set}
-use Rattle.loop_rows.proofs.RowSteps.{each_set}
+use Rattle.std.proofs.Common.{◌∙◌, refl, arith, length-set}
+use Rattle.loop_rows.proofs.RowSteps.{each_set, coroutines_set}
 use Rattle.loop_rows.proofs.rows.Row.set_event.Goals as goal
 
 pub returns-clause-row : goal.returns-clause-row
@@ -13,3 +13,7 @@ returns-clause-row g c =
       },
       record { first_is = refl; count_is = refl },
     )
+
+pub returns-clause-coroutines : goal.returns-clause-coroutines
+returns-clause-coroutines g c =
+    coroutines_set c.args.self.now.seats.items c.args.to c.index_mut.result.now c.set_event_at.new.seats (omega (arith, c.requires.to, c.requires.row.long)) c.index_mut.ensures.value c.set_event_at.ensures.same
