@@ -8,6 +8,7 @@ pub mod Nobody
 pub mod Numbered
 pub mod Posted
 pub mod Rowed
+pub mod SeatSteps
 pub mod Turned
 pub mod Unchanged
 pub mod Woken
