@@ -44,6 +44,10 @@ module _ {C O : Type 0} {shared : LoopShared C O} {before other after : Seats C 
   just_joined unites =
       record { seen = unites.parts.joined; made = unites.parts.made_by_joining; co_seen = unites.co_parts.joined; co_made = unites.co_parts.made_by_joining }
 
+  pub stayed_within : Unites shared before other after → IsWithin before after
+  stayed_within unites =
+      record { seen = unites.parts.stayed; made = unites.parts.made_by_staying; co_seen = unites.co_parts.stayed; co_made = unites.co_parts.made_by_staying }
+
   pub united_own : Unites shared before other after → HaveOwn after
   united_own unites = record {
     own = subst (λ (k : Known). k.mine ≡ own_entries seat_of (numbers_of k) k.seen) (sym unites.both) refl;

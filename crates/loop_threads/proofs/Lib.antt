@@ -6,6 +6,7 @@ pub mod Holding
 pub mod Membership
 pub mod Beginning
 pub mod Outcomes
+pub mod Seeing
 pub mod Sending
 pub mod Starting
 pub mod Whole

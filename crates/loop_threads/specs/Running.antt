@@ -2,6 +2,8 @@
 use Rattle.std.specs.Prelude.{◌≡◌, ℕ, ◌<◌, ◌≤◌, ◌+◌, ◌-◌, ◌*◌, IsFalse, Bool, List, length, slice_index_or, vec_len, vec_capacity}
 use Rattle.loop_rows.specs.declared.shared.LoopShared.{LoopShared}
 use Rattle.loop_rows.specs.declared.rows.Row.{Row}
+use Rattle.loop_rows.specs.declared.seats.Seats.{Seats}
+use Rattle.loop_threads.specs.Dealing.{RowSees}
 use Rattle.loop_threads.specs.Within.{RowWithin}
 use Rattle.loop_rows.specs.declared.opening.Homes.{Homes}
 use Rattle.loop_threads.specs.declared.parts.Part.{Part}
@@ -25,6 +27,11 @@ pub record Begins {C W O : Type 0} (homes : Homes C O) (hand : Hand W) (part : P
 abbrev pub BeginEach : {C W O : Type 0} → ℕ → List (Homes C O) → List (Hand W) → List (Part C W O) → Type 0
 BeginEach {C} {W} {O} n homes hands parts =
     (k j : ℕ) (h : Homes C O) (d : Hand W) (p : Part C W O) → k + j + 1 ≡ n → Begins (slice_index_or homes k h) (slice_index_or hands k d) (slice_index_or parts j p)
+
+-- the rows of the first so many parts have seen what these seats had, and made what they own of it
+abbrev pub PartsSee : {C W O : Type 0} → ℕ → ℕ → List (Seats C O) → List (Part C W O) → Type 0
+PartsSee {C} {W} {O} n loops whole parts =
+    (j : ℕ) (p : Part C W O) → j < n → RowSees loops whole (slice_index_or parts j p).row.seats.items
 
 -- there is room for each of so many, and nothing there
 pub record HasRoom {C W O : Type 0} (n : ℕ) (prepared : Prepared C W O) : Type 0 where

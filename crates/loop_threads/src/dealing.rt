@@ -1,7 +1,9 @@
 //! Each loop gets a row of seats for its thread, and the caller keeps the others.
-ghost use Rattle.std.specs.Prelude.{◌≡◌, ◌<◌, ◌≤◌, ◌+◌, ◌-◌, ◌*◌, length, vec_len, vec_capacity};
+ghost use Rattle.std.specs.Prelude.{◌≡◌, ◌<◌, ◌≤◌, ◌+◌, ◌-◌, ◌*◌, List, length, vec_len, vec_capacity};
+ghost use Rattle.loop_rows.specs.declared.seats.Seats.{Seats};
 ghost use Rattle.loop_rows.specs.Rows.{IsRow, HasNumbers};
-ghost use Rattle.loop_threads.specs.Dealing.{IsDoubled, ArePairs, AreSpares};
+ghost use Rattle.loop_threads.specs.Dealing.{IsDoubled, ArePairs, AreSpares, RowSeen, RowSees, RowsSee};
+ghost use Rattle.loop_threads.specs.Within.{OwnEach};
 
 use co_state::Origin;
 use loop_rows::{LoopShared, Row, Seats};
@@ -24,6 +26,9 @@ pub(crate) fn cut_in_pairs<C: Origin + Drop>(
     ensures pairs { ArePairs shared.now pairs.new.items × (2 * vec_len pairs.new ≡ 2 * vec_len pairs.old + row.count) }
     ensures room { vec_capacity pairs.new ≡ vec_capacity pairs.old }
     ensures spares { AreSpares (length shared.now) spares.new.items × (2 * vec_len spares.new + row.count ≡ 2 * vec_len spares.old + 2) }
+
+    // What the row had seen.
+    ensures sees { (whole : List (Seats C C.Source)) → RowSeen (length shared.now) whole row.seats.items → (times ≡ 0 → OwnEach (length shared.now) row.seats.items) → RowsSee (length shared.now) whole pairs.old.items → RowsSee (length shared.now) whole pairs.new.items }
 {
     if times == 0 {
         pairs.push_reserved(row);
@@ -46,7 +51,8 @@ pub(crate) fn join_pairs<C: Origin + Drop>(
 ) -> Row<C>
     requires pairs { ArePairs shared.now pairs.items }
     requires some { 0 < vec_len pairs }
-    ensures { IsRow shared.now result × HasNumbers 0 (2 * vec_len pairs) result }
+    ensures row { IsRow shared.now result × HasNumbers 0 (2 * vec_len pairs) result }
+    ensures sees { (whole : List (Seats C C.Source)) → RowsSee (length shared.now) whole pairs.items → RowSees (length shared.now) whole result.seats.items }
 {
     let Some(mut row) = pairs.pop() else {
         unreachable!()

@@ -3,7 +3,7 @@ ghost use Rattle.std.specs.Prelude.{◌≡◌, ◌<◌, ◌≤◌, ◌+◌, ◌-
 ghost use Rattle.loop_rows.specs.Rows.{IsRow, HasNumbers};
 ghost use Rattle.co_loop.specs.Working.{CanWork};
 ghost use Rattle.loop_threads.specs.Parts.{AllParts, InReverse};
-ghost use Rattle.loop_threads.specs.Within.{OwnEach, RowsWithin};
+ghost use Rattle.loop_threads.specs.Within.{OwnEach, RowWithin, RowsWithin};
 ghost use Rattle.loop_threads.specs.Members.{AreOfParts, MembersEach};
 
 use crate::ending::LoopRun;
@@ -49,6 +49,7 @@ pub(crate) fn join_all<C: Origin + Drop, K: Drop>(
     ensures row { IsRow shared.now result.row × HasNumbers 0 64 result.row }
     ensures own { OwnEach (length shared.now) result.row.seats.items }
     ensures rows { RowsWithin 0 (length shared.now) (length shared.now) parts.items result.row.seats.items }
+    ensures mine { 0 < length shared.now → RowWithin (length shared.now) mine.seats.items result.row.seats.items }
     ensures members { (vec_len result.members ≡ vec_len parts) × AreOfParts (vec_len parts) parts.items result.members.items }
     ensures homes { MembersEach (length shared.now) shared.now result.members.items }
     ensures ends { result.ends ≡ ends }

@@ -1,12 +1,13 @@
 //! What a run of loops begins with.
-ghost use Rattle.std.specs.Prelude.{◌≡◌, ◌<◌, ◌≤◌, ◌+◌, ◌-◌, ◌*◌, length, vec_len, vec_capacity};
+ghost use Rattle.std.specs.Prelude.{◌≡◌, ◌<◌, ◌≤◌, ◌+◌, ◌-◌, ◌*◌, List, length, vec_len, vec_capacity};
+ghost use Rattle.loop_rows.specs.declared.seats.Seats.{Seats};
 ghost use Rattle.loop_rows.specs.Rows.{IsRow, HasNumbers};
 ghost use Rattle.co_loop.specs.Working.{CanWork};
-ghost use Rattle.loop_threads.specs.Dealing.{ArePairs};
+ghost use Rattle.loop_threads.specs.Dealing.{ArePairs, RowSees, RowsSee};
 ghost use Rattle.loop_rows.specs.Opening.{HomesEach};
 ghost use Rattle.loop_threads.specs.Parts.{AllParts, InReverse};
 ghost use Rattle.loop_threads.specs.Reserving.{IsReserved};
-ghost use Rattle.loop_threads.specs.Running.{CanBeginEach, BeginEach, IsPrepared};
+ghost use Rattle.loop_threads.specs.Running.{CanBeginEach, BeginEach, IsPrepared, PartsSee};
 
 use crate::dealing::{cut_in_pairs, join_pairs};
 use crate::ending::LoopRun;
@@ -52,6 +53,7 @@ fn deal_parts<C: Origin + Drop, K: Drop>(
     ensures parts { (vec_len result ≡ length shared.now) × AllParts (CanWork C.is_of) shared.now result.items × InReverse result.items }
     ensures begins { BeginEach (length shared.now) homes.items hands.items result.items }
     ensures pairs { (vec_len pairs.new ≡ 32 - length shared.now) × ArePairs shared.now pairs.new.items }
+    ensures sees { (whole : List (Seats C C.Source)) → RowsSee (length shared.now) whole pairs.old.items → RowsSee (length shared.now) whole pairs.new.items × PartsSee (vec_len result) (length shared.now) whole result.items }
 {
     let mut parts = parts;
     while let Some(one) = homes.pop() {
@@ -91,6 +93,10 @@ pub fn prepare<C: Origin + Drop, K: Drop>(
     requires row { IsRow shared.now row × HasNumbers 0 64 row }
     ensures prepared { IsPrepared (CanWork C.is_of) shared.now result }
     ensures begins { BeginEach (length shared.now) homes.items hands.items result.parts.items }
+
+    // The rows have seen what the whole row had, and made what they own of it.
+    ensures mine { RowSees (length shared.now) row.seats.items result.mine.seats.items }
+    ensures parts { PartsSee (length shared.now) (length shared.now) row.seats.items result.parts.items }
 {
     let Reserved {
         mut spares,

@@ -1,9 +1,9 @@
 //! The run.
-ghost use Rattle.std.specs.Prelude.{◌≡◌, ◌≤◌, length, vec_len, vec_capacity};
+ghost use Rattle.std.specs.Prelude.{◌≡◌, ◌<◌, ◌≤◌, length, vec_len, vec_capacity};
 ghost use Rattle.co_loop.specs.Rows.{AreOf};
 ghost use Rattle.co_loop.specs.Working.{CanWork, Works};
 ghost use Rattle.loop_threads.specs.Members.{MembersEach};
-ghost use Rattle.loop_threads.specs.Within.{OwnEach};
+ghost use Rattle.loop_threads.specs.Within.{OwnEach, RowWithin};
 ghost use Rattle.loop_rows.specs.Rows.{IsRow, HasNumbers};
 ghost use Rattle.loop_threads.specs.Running.{IsPrepared, RunsEach};
 
@@ -35,6 +35,7 @@ impl<C: Origin + Drop + Send, K: Clock + Drop + Send> Prepared<C, CoWork<C, K>> 
         requires prepared { IsPrepared (CanWork C.is_of) shared.now self }
         ensures row { IsRow shared.now result.row × HasNumbers 0 64 result.row }
         ensures own { OwnEach (length shared.now) result.row.seats.items }
+        ensures mine { 0 < length shared.now → RowWithin (length shared.now) self.mine.seats.items result.row.seats.items }
         ensures members { (vec_len result.members ≡ length shared.now) × RunsEach (CanWork C.is_of) (Works E R C.is_of C.resumes K.time) shared.now result.row (length shared.now) self.parts.items result.members.items }
         ensures homes { MembersEach (length shared.now) shared.now result.members.items }
         ensures room { (vec_len result.ends ≡ 0) × (length shared.now ≤ vec_capacity result.ends) }

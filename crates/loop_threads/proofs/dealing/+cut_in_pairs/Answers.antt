@@ -2,6 +2,7 @@ use Rattle.std.proofs.Common.{rules, ◌≡◌, ◌-◌, ◌∙◌, subst, arith
 use Rattle.loop_rows.proofs.Places.{longer}
 use Rattle.loop_threads.specs.Dealing.{IsDoubled}
 use Rattle.loop_threads.proofs.Dealt.{halved, some_doubled, not_doubled, pairs_pushed, spares_popped}
+use Rattle.loop_threads.proofs.Seeing.{split_sees, only_seen, own_seen, pushed_sees}
 use Rattle.loop_threads.proofs.dealing.+cut_in_pairs.Goals as goal
 
 pub returns-then-times-eq0-clause-pairs : goal.returns-then-times-eq0-clause-pairs
@@ -57,3 +58,16 @@ returns-clause-spares g t c =
       second.0,
       omega (arith, second.1, first.1, half.is, n, c.split-other.ensures.stay.count_is, c.split-other.ensures.go.count_is, c.args.spares.now.ok.0, c.pop.new.self.ok.0),
     )
+
+pub returns-then-times-eq0-clause-sees : goal.returns-then-times-eq0-clause-sees
+returns-then-times-eq0-clause-sees g t c whole seen own was =
+    pushed_sees (length c.args.shared.now) whole c.push_reserved.new.self.items c.args.pairs.now.items c.args.row c.push_reserved.ensures.items was (own_seen (length c.args.shared.now) whole c.args.row.seats.items seen (own c.if-times-eq0.true))
+
+pub returns-clause-sees : goal.returns-clause-sees
+returns-clause-sees g t c whole seen own was =
+    let n = length c.args.shared.now in
+    let first = c.split-other.new.self in
+    let last = c.split-other.result in
+    let sees = split_sees _ c.args.shared.now whole c.args.row first last c.split-other.ensures seen in
+    c.cut_in_pairs-2.ensures.sees whole (only_seen n whole last.seats.items sees.1) (λ _ k s lt. (sees.1 k s s lt).own)
+    (c.cut_in_pairs.ensures.sees whole (only_seen n whole first.seats.items sees.0) (λ _ k s lt. (sees.0 k s s lt).own) was)

@@ -1,4 +1,4 @@
-use Rattle.std.proofs.Common.{◌≡◌, ◌≤◌, ◌+◌, ◌∙◌, ap, sym, subst, refl, arith, length, ℕ, vec_len, List, ◌∷◌, [], slice_index_or}
+use Rattle.std.proofs.Common.{◌≡◌, ◌<◌, ◌≤◌, ◌+◌, ◌∙◌, ap, sym, subst, refl, arith, length, ℕ, vec_len, List, ◌∷◌, [], slice_index_or}
 use Rattle.std.proofs.lemmas.Bool.{cases_eq}
 use mathlib.Core.Logic.{⊎_elim}
 use Rattle.std.proofs.lemmas.List.{get_or_append_left, get_or_default}
@@ -6,13 +6,14 @@ use Rattle.aio_bh.specs.OneShots.{ServesHome}
 use Rattle.aio_loop.specs.Homes.{IsHomeFree}
 use Rattle.co_schedule.specs.Calls.{IsSeatOf as IsCoSeatOf}
 use Rattle.co_loop.specs.Working.{CanWork}
+use Rattle.loop_rows.specs.declared.rows.Row.{Row}
 use Rattle.loop_threads.specs.declared.parts.Part.{Part}
 use Rattle.loop_threads.specs.declared.members.Member.{Member}
 use Rattle.loop_threads.specs.Parts.{IsPart}
 use Rattle.loop_threads.specs.Members.{IsOfPart, IsMemberOf}
 use Rattle.loop_rows.proofs.Places.{at_push, longer, some_of}
 use Rattle.loop_threads.specs.Within.{IsWithin}
-use Rattle.loop_threads.proofs.Holding.{just_joined, united_own, within_still}
+use Rattle.loop_threads.proofs.Holding.{just_joined, stayed_within, united_own, within_still}
 use Rattle.loop_threads.proofs.Membership.{taken_last, member_more}
 use Rattle.loop_threads.proofs.members.join_all.Goals as goal
 
@@ -88,6 +89,15 @@ loop-part-preserved g c =
           (member_more (λ (x : Part _ _ _) (y : Member _ _ _). IsOfPart x y) orig.items all.items rest.items done.items v made (length c.args.shared.now) e (omega (arith, was.0, all.ok.0, done.ok.0)) (omega (arith, c.requires.parts.2, orig.ok.0)) same
           (record { home_is = refl; side_is = refl; lots_are = refl; coroutines_are = refl; work_is = refl })
           (λ a b x y f low. was.8 a b x y f (omega (arith, low, done.ok.0))) k j p m h (omega (arith, lt, pushed.len, done.ok.0)))),
+      (λ none. absurd (omega (arith, none, pushed.len))),
+      (λ some t s w lt. ⊎_elim
+          (λ (first : vec_len done ≡ 0). subst (λ (x : Row _ _). IsWithin (slice_index_or x.seats.items t s) (slice_index_or c.join.new.self.seats.items t w)) (was.9 first) (stayed_within (c.join.ensures.each t (some_of T t lt) s w w (omega arith) lt)))
+          (λ (ne : vec_len done ≡ 0 → ⊥).
+          let more : 0 < vec_len done = grind (arith, ne) in
+          within_still _ _ _ _ (slice_index_or T t (some_of T t lt)) (c.requires.mine.0.each t (some_of T t lt) s lt) (was.3.each t (some_of T t lt) w lt)
+          (omega (arith, was.4.first_is)) (omega (arith, was.4.first_is, was.4.count_is, c.requires.mine.1.first_is, c.requires.mine.1.count_is))
+          (was.10 more t s w lt) (was.6 more t w lt) (c.join.ensures.each t (some_of T t lt) w (slice_index_or v.row.seats.items t s) w (omega arith) lt))
+          (cases_eq (vec_len done) 0)),
     )
 
 pub returns-clause-members : goal.returns-clause-members
@@ -113,3 +123,9 @@ returns-clause-own g c t s lt =
     let was = c.loop-part.invariant in
     let none : vec_len c.loop-part.parts ≡ 0 = c.in_default.ensures.cases.0 in
     was.6 (omega (arith, lt, was.0, none)) t s lt
+
+pub returns-clause-mine : goal.returns-clause-mine
+returns-clause-mine g c some =
+    let was = c.loop-part.invariant in
+    let none : vec_len c.loop-part.parts ≡ 0 = c.in_default.ensures.cases.0 in
+    was.10 (omega (arith, some, was.0, none))

@@ -3,7 +3,7 @@ use Rattle.loop_threads.specs.declared.parts.Part.{Part}
 use Rattle.loop_threads.specs.declared.members.Member.{Member}
 use Rattle.loop_rows.specs.Rows.{IsRow, HasNumbers}
 use Rattle.loop_threads.specs.Members.{IsOfPart, MembersEach}
-use Rattle.loop_threads.specs.Within.{OwnEach, RowsWithin}
+use Rattle.loop_threads.specs.Within.{OwnEach, RowWithin, RowsWithin}
 use Rattle.loop_threads.proofs.members.join_all.Given as goal
 
 abbrev pub invariant-loop-part : goal.invariant-loop-part
@@ -18,6 +18,8 @@ invariant-loop-part g l =
     × (0 < done → OwnEach (length l.shared) l.row.seats.items)
     × RowsWithin (vec_len l.parts) (length l.shared) (length l.shared) l.fn.parts.items l.row.seats.items
     × ((k j : ℕ) (p : Part _ _ _) (m : Member _ _ _) → k + j + 1 ≡ length l.shared → k < done → IsOfPart (slice_index_or l.fn.parts.items j p) (slice_index_or l.members.items k m))
+    × (done ≡ 0 → l.row ≡ l.fn.mine)
+    × (0 < done → RowWithin (length l.shared) l.fn.mine.seats.items l.row.seats.items)
 
 abbrev pub decreases-loop-part : goal.decreases-loop-part
 decreases-loop-part g l = vec_len l.parts

@@ -10,7 +10,9 @@ use Rattle.loop_threads.specs.Parts.{IsPart}
 use Rattle.loop_threads.specs.Running.{CanBegin, Begins}
 use Rattle.loop_rows.proofs.Places.{at_push, longer}
 use Rattle.loop_threads.proofs.Membership.{taken_last}
+use Rattle.loop_threads.specs.Dealing.{RowSees}
 use Rattle.loop_threads.proofs.Dealt.{pairs_popped}
+use Rattle.loop_threads.proofs.Seeing.{popped_sees}
 use Rattle.loop_threads.proofs.Beginning.{begin_more, part_of, part_begins}
 use Rattle.loop_threads.proofs.preparing.deal_parts.Goals as goal
 
@@ -61,6 +63,13 @@ loop-one-preserved g c =
           (begin_more (λ (x : Homes _ _) (y : Hand _) (z : Part _ _ _). Begins x y z) c.args.homes.items H.items hr.items c.args.hands.items D.items dr.items parts.items one hand made (length T) eh ed (omega (arith, was.0, H.ok.0, D.ok.0)) (omega (arith, was.1, H.ok.0, parts.ok.0))
           (omega (arith, c.requires.homes.0, c.args.homes.ok.0)) (omega (arith, c.requires.hands.0, c.args.hands.ok.0)) sh sd (record { home_is = refl; lots_are = refl; coroutines_are = refl; side_is = refl; work_is = refl })
           (λ a b x y z f less. was.8 a b x y z f (omega (arith, less, parts.ok.0))) k j h d p at (omega (arith, low, pushed.len, parts.ok.0)))),
+      (λ whole see.
+          let seen = was.9 whole see in
+          let popped = popped_sees (length T) whole R.items rr.items row er seen.0 in (
+            popped.0,
+            (λ j p low. subst (λ (xs : List (Part _ _ _)). RowSees (length T) whole (slice_index_or xs j p).row.seats.items) (sym pushed.items)
+                (at_push (λ (i : ℕ) (x : Part _ _ _). RowSees (length T) whole x.row.seats.items) parts.items (length parts.items) made refl popped.1 j p (omega (arith, low, pushed.len, parts.ok.0)) (λ less. seen.1 j p (omega (arith, less, parts.ok.0))))),
+          )),
     )
 
 pub returns-clause-parts : goal.returns-clause-parts

@@ -1,11 +1,12 @@
-use Rattle.std.proofs.Common.{◌≡◌, ◌<◌, ◌+◌, ℕ, length, vec_len, vec_capacity, slice_index_or}
+use Rattle.std.proofs.Common.{◌≡◌, ◌<◌, ◌+◌, ℕ, List, length, vec_len, vec_capacity, slice_index_or}
 use Rattle.co_loop.specs.Working.{CanWork}
 use Rattle.loop_rows.specs.declared.opening.Homes.{Homes}
 use Rattle.loop_threads.specs.declared.hands.Hand.{Hand}
 use Rattle.loop_threads.specs.declared.parts.Part.{Part}
-use Rattle.loop_threads.specs.Dealing.{ArePairs}
+use Rattle.loop_rows.specs.declared.seats.Seats.{Seats}
+use Rattle.loop_threads.specs.Dealing.{ArePairs, RowsSee}
 use Rattle.loop_threads.specs.Parts.{IsPart}
-use Rattle.loop_threads.specs.Running.{Begins}
+use Rattle.loop_threads.specs.Running.{Begins, PartsSee}
 use Rattle.loop_threads.proofs.preparing.deal_parts.Given as goal
 
 abbrev pub invariant-loop-one : goal.invariant-loop-one
@@ -20,6 +21,7 @@ invariant-loop-one g l =
     × ((k : ℕ) (d : Hand _) → k < vec_len l.hands → slice_index_or l.hands.items k d ≡ slice_index_or l.fn.hands.items k d)
     × ((j : ℕ) (p : Part _ _ _) → j < vec_len l.parts → IsPart (CanWork g.C.Origin.is_of) l.shared (slice_index_or l.parts.items j p) × ((slice_index_or l.parts.items j p).number + j + 1 ≡ n))
     × ((k j : ℕ) (h : Homes _ _) (d : Hand _) (p : Part _ _ _) → k + j + 1 ≡ n → j < vec_len l.parts → Begins (slice_index_or l.fn.homes.items k h) (slice_index_or l.fn.hands.items k d) (slice_index_or l.parts.items j p))
+    × ((whole : List (Seats _ _)) → RowsSee n whole l.fn.pairs.items → RowsSee n whole l.pairs.items × PartsSee (vec_len l.parts) n whole l.parts.items)
 
 abbrev pub decreases-loop-one : goal.decreases-loop-one
 decreases-loop-one g l = vec_len l.homes
