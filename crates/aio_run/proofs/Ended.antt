@@ -38,7 +38,7 @@ module _ {C K O : Type 0} (is_of : C → O → Type 0) (does : List (LoopShared 
       let same : last.work.crew.store.origin ≡ origin = sym (crew.of last.work.crew.own (at_place shared last.work.crew.own crew.own) crew.own) ∙ of last.work.crew.own (at_place shared last.work.crew.own crew.own) crew.own in
       subst (is_of co) same (crew.ended_of k co (sym (ap (λ (w : CoWork C K O). slice_index_or w.crew.ended.items k None) runs.is.work_is) ∙ there))
 
-  module _ (homes : List (Homes C O)) (hands : List (Hand (CoWork C K O))) (ends : List (LoopRun C (CoWork C K O) O)) (are : AreRun (CanWork is_of) does shared homes hands ends) where
+  module _ (homes : List (Homes C O)) (hands : List (Hand (CoWork C K O))) (began : Row C O) (ends : List (LoopRun C (CoWork C K O) O)) (are : AreRun (CanWork is_of) does shared homes hands began ends) where
     pub all_ended_of : AllByRecursion (λ run. (k : ℕ) (co : C) → slice_index_or run.work.crew.ended.items k None ≡ Some co → is_of co origin) ends
     all_ended_of =
         all_of_places (λ (run : LoopRun C (CoWork C K O) O). (k : ℕ) (co : C) → slice_index_or run.work.crew.ended.items k None ≡ Some co → is_of co origin) ends

@@ -1,6 +1,10 @@
 pub mod Begun
+pub mod BegunOnce
 pub mod Berthed
 pub mod Ended
-pub mod Posted
+pub mod Entering
 pub mod Lists
+pub mod OwnPosts
+pub mod Posted
+pub mod Served
 pub mod Sharing

@@ -1,18 +1,24 @@
--- A fact of each item of a list.
-use Rattle.std.proofs.Common.{◌≡◌, ◌+◌, List, [], ◌∷◌, ◌++◌, length, refl, arith}
+-- Lists that others are mapped to.
+use Rattle.std.proofs.Common.{◌≡◌, ◌+◌, ◌<◌, ℕ, zero, suc, List, [], ◌∷◌, ◌++◌, length, map, slice_index_or, append_assoc, refl, sym, ap, ◌∙◌, arith}
 use Rattle.std.specs.List.{AllByRecursion}
-
-module _ {A : Type 0} (P : A → Type 0) where
-  -- of one more
-  pub all_pushed : (xs : List A) (x : A) → AllByRecursion P xs → P x → AllByRecursion P (xs ++ x ∷ [])
-  all_pushed [] x each one = (one, tt)
-  all_pushed (y ∷ xs) x each one = (each.0, all_pushed xs x each.1 one)
-
-  -- of one that stands behind others
-  pub all_at : (xs : List A) (x : A) (rest : List A) → AllByRecursion P (xs ++ x ∷ rest) → P x
-  all_at [] x rest each = each.0
-  all_at (y ∷ xs) x rest each = all_at xs x rest each.1
 
 pub length_pushed : {A : Type 0} (xs : List A) (x : A) → length (xs ++ x ∷ []) ≡ length xs + 1
 length_pushed [] x = refl
 length_pushed (y ∷ xs) x = omega (arith, length_pushed xs x)
+
+module _ {A B : Type 0} (f : A → B) where
+  -- a fact of each that a list was mapped to
+  pub all_mapped : (P : B → Type 0) (xs : List A) → AllByRecursion (λ x. P (f x)) xs → AllByRecursion P (map f xs)
+  all_mapped P [] each = tt
+  all_mapped P (x ∷ xs) each = (each.0, all_mapped P xs each.1)
+
+  -- and of the one at a place
+  pub at_mapped : (P : B → Type 0) (xs : List A) (k : ℕ) → k < length xs → ((d : A) → P (f (slice_index_or xs k d))) → (e : B) → P (slice_index_or (map f xs) k e)
+  at_mapped P [] k low here e = absurd (omega arith)
+  at_mapped P (x ∷ xs) zero low here e = here x
+  at_mapped P (x ∷ xs) (suc k) low here e = at_mapped P xs k (omega arith) here e
+
+  -- one is moved from the front of a list to the end of those that it is mapped to
+  pub mapped_more : (ys : List B) (x : A) (xs all : List A) (y : B) (more : List B) (left : List A) → left ≡ x ∷ xs → y ≡ f x → more ≡ ys ++ y ∷ [] → ys ++ map f left ≡ map f all → more ++ map f xs ≡ map f all
+  mapped_more ys x xs all y more left e same pushed was =
+      ap (λ (l : List B). l ++ map f xs) pushed ∙ append_assoc ys (y ∷ []) (map f xs) ∙ ap (λ (z : B). ys ++ z ∷ map f xs) same ∙ ap (λ (l : List A). ys ++ map f l) (sym e) ∙ was

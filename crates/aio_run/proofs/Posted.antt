@@ -1,14 +1,16 @@
 -- What new loops are to those that post to them.
-use Rattle.std.proofs.Common.{◌≡◌, ℕ, zero, suc, ◌<◌, ◌≤◌, List, [], ◌∷◌, length, slice_index, slice_index_or, sym, ap, ◌∙◌, subst, arith}
+use Rattle.std.proofs.Common.{◌≡◌, ℕ, zero, suc, ◌<◌, List, [], ◌∷◌, length, slice_index, slice_index_or, refl, sym, ap, subst, arith}
 use Rattle.std.specs.List.{AllByRecursion}
 use Rattle.aio_model.specs.declared.scripts.Stream.{Stream as StreamLine}
 use Rattle.aio_script.specs.Bounds.{IsAtHome}
 use Rattle.co_loop.specs.Rows.{AreOf}
-use Rattle.co_schedule.specs.Known.{Known}
+use Rattle.table_seats.specs.Seats.{own_entries}
+use Rattle.aio_model.specs.CoroutineHistory.{seat_of}
+use Rattle.co_schedule.specs.Known.{Known, numbers_of}
 use Rattle.loop_rows.specs.declared.opening.Opened.{Opened}
 use Rattle.loop_rows.specs.Opening.{AreNew, IsNewLoop}
 use Rattle.stream_ends.specs.Images.{homes_of}
-use Rattle.aio_run.specs.Posting.{HaveBegun, HaveCoroutines, HaveSizes}
+use Rattle.aio_run.specs.Posting.{HaveBegun, HaveCoroutines, HaveOwn, HaveSizes}
 use Rattle.aio_run.specs.Readiness.{HaveEntered}
 use Rattle.aio_run.proofs.Begun.{at_place}
 
@@ -41,3 +43,9 @@ module _ {C O : Type 0} (loops n : ℕ) (origin : O) (opened : Opened C O) (is :
   pub none_begun : (homes : List ℕ) (many : ℕ) → many ≡ loops → HaveBegun 0 homes many opened.row.seats.items
   none_begun homes many same k s below =
       ap (λ (v : Known). v.mine) (new_at k (omega (arith, below, same)) (at_place opened.shared.items k (omega (arith, below, same, is.long))) (at_place opened.homes.items k (omega (arith, below, same, is.homes_long))) s).coroutines_are.seat_is
+
+  pub own_new : HaveOwn loops opened.row.seats.items
+  own_new k s below =
+      subst (λ (v : Known). v.mine ≡ own_entries seat_of (numbers_of v) v.seen)
+      (sym (new_at k below (at_place opened.shared.items k (omega (arith, below, is.long))) (at_place opened.homes.items k (omega (arith, below, is.homes_long))) s).coroutines_are.seat_is)
+      refl

@@ -5,6 +5,8 @@ use Rattle.aio_core.specs.Known.{Known}
 use Rattle.aio_notify.specs.Settling.{IsEnd}
 use Rattle.co_schedule.specs.Calls.{EndState, AreFree}
 use Rattle.loop_rows.specs.Opening.{loop_sizes}
+use Rattle.loop_threads.specs.declared.ending.LoopRun.{LoopRun}
+use Rattle.aio_run.specs.declared.running.RunEnd.{RunEnd}
 
 -- The loop's history is whole and legal, nothing is pending in it, and no event is set; that of its coroutines is legal, and none is
 -- scheduled and not entered.
@@ -13,3 +15,7 @@ pub record IsOver (coroutines : ℕ) (known : Known) (end : EndState) : Type 0 w
   pub sizes : known.sizes ≡ loop_sizes
   pub legal : IsLegal coroutines end.history
   pub none_left : AreFree coroutines end.history
+
+-- the two histories of a run
+abbrev pub end_of : {C W O : Type 0} → LoopRun C W O → RunEnd C O
+end_of run = record { calls = run.calls; coroutines = run.coroutines }

@@ -3,3 +3,4 @@ pub mod Ends
 pub mod Posting
 pub mod Readiness
 pub mod Runs
+pub mod Serving

@@ -1,7 +1,9 @@
 -- What the posts of a script's streams make on its loops.
 use Rattle.std.specs.Prelude.{◌≡◌, ℕ, zero, suc, ◌<◌, ◌==◌, true, if◌then◌else◌, List, [], ◌∷◌, length, slice_index, slice_index_or}
 use Rattle.aio_model.specs.declared.causes.Cause.TheVariants.{Begin}
-use Rattle.aio_model.specs.CoroutineHistory.{Schedule, Push, History}
+use Rattle.table_seats.specs.Seats.{Numbers, own_entries}
+use Rattle.aio_model.specs.CoroutineHistory.{Schedule, Push, History, seat_of}
+use Rattle.co_schedule.specs.Known.{numbers_of}
 use Rattle.loop_rows.specs.Opening.{loop_sizes}
 use Rattle.loop_rows.specs.declared.seats.Seats.{Seats}
 use Rattle.loop_rows.specs.declared.shared.LoopShared.{LoopShared}
@@ -17,6 +19,20 @@ begun_on (suc co) homes loop =
 abbrev pub HaveBegun : {C O : Type 0} → ℕ → List ℕ → ℕ → List (Seats C O) → Type 0
 HaveBegun {C} {O} many homes loops seats =
     (t : ℕ) (s : Seats C O) → t < loops → (slice_index_or seats t s).coroutines.known.mine ≡ begun_on many homes t
+
+-- the numbers of all seats
+abbrev pub all_numbers : Numbers
+all_numbers = record { first = 0; count = 64 }
+
+-- In what these seats have seen, all seats together have made just these entries of coroutines.
+abbrev pub HaveBegunAlone : {C O : Type 0} → ℕ → List ℕ → ℕ → List (Seats C O) → Type 0
+HaveBegunAlone {C} {O} many homes loops seats =
+    (t : ℕ) (s : Seats C O) → t < loops → own_entries seat_of all_numbers (slice_index_or seats t s).coroutines.known.seen ≡ begun_on many homes t
+
+-- In what these seats have seen of their coroutines, nobody else made an entry under their numbers.
+abbrev pub HaveOwn : {C O : Type 0} → ℕ → List (Seats C O) → Type 0
+HaveOwn {C} {O} loops seats =
+    (t : ℕ) (s : Seats C O) → t < loops → (slice_index_or seats t s).coroutines.known.mine ≡ own_entries seat_of (numbers_of (slice_index_or seats t s).coroutines.known) (slice_index_or seats t s).coroutines.known.seen
 
 -- the tables of all loops are made for so many coroutines
 abbrev pub HaveCoroutines : {C O : Type 0} → ℕ → List (LoopShared C O) → Type 0

@@ -18,7 +18,7 @@ use Rattle.stream_ends.specs.Images.{IsLockFor, homes_of}
 use Rattle.stream_ends.specs.Starts.{IsEndRoom}
 use Rattle.aio_run.specs.declared.opening.Loops.{Loops}
 use Rattle.aio_run.specs.declared.preparing.Prepared.{Prepared}
-use Rattle.aio_run.specs.Posting.{HaveBegun, HaveCoroutines, HaveSizes}
+use Rattle.aio_run.specs.Posting.{HaveBegun, HaveCoroutines, HaveOwn, HaveSizes}
 
 -- how many coroutines the tables of a script's loops are made for
 abbrev pub coroutines_of : Script → ℕ
@@ -57,6 +57,7 @@ module _ {C K O : Type 0} (can_work : CoWork C K O → List (LoopShared C O) →
     pub is_row : IsRow loops.opened.shared.items loops.opened.row
     pub numbers : HasNumbers 0 64 loops.opened.row
     pub begun : HaveBegun (length script.streams) (homes_of script.streams) script.loops loops.opened.row.seats.items
+    pub own : HaveOwn script.loops loops.opened.row.seats.items
     pub rest : HaveHands script loops
 
   -- the device lies behind the lock, and each stream's coroutine is posted

@@ -34,7 +34,7 @@ fn run_loops<C: Co<E> + Drop + Send, E: Sync, K: Clock + Drop + Send, R: Threads
     requires homes { (vec_len homes ≡ length shared.now) × HomesEach (length shared.now) shared.now homes.items }
     requires hands { (vec_len hands ≡ length shared.now) × CanBeginEach (CanWork C.is_of) shared.now homes.items hands.items }
     requires row { IsRow shared.now row × HasNumbers 0 64 row }
-    ensures carried { AreCarried (CanWork C.is_of) (Works E R C.is_of C.resumes K.time) shared.now homes.items hands.items result }
+    ensures carried { AreCarried (CanWork C.is_of) (Works E R C.is_of C.resumes K.time) shared.now homes.items hands.items row result }
     ensures row { IsRow shared.now result.row × HasNumbers 0 64 result.row }
     ensures own { OwnEach (length shared.now) result.row.seats.items }
     ensures members { (vec_len result.members ≡ length shared.now) × MembersEach (length shared.now) shared.now result.members.items }
@@ -64,7 +64,7 @@ pub(crate) fn carry<
     requires homes { (vec_len homes ≡ length shared.items) × HomesEach (length shared.items) shared.items homes.items }
     requires hands { (vec_len hands ≡ length shared.items) × CanBeginEach (CanWork C.is_of) shared.items homes.items hands.items }
     requires row { IsRow shared.items row × HasNumbers 0 64 row }
-    ensures { AreRun (CanWork C.is_of) (Works E R C.is_of C.resumes K.time) shared.items homes.items hands.items result.items }
+    ensures { AreRun (CanWork C.is_of) (Works E R C.is_of C.resumes K.time) shared.items homes.items hands.items row result.items }
 {
     let joined = run_loops(rt, env, &shared, reserved, homes, hands, row);
     joined.end(rt, shared)

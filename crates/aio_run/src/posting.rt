@@ -8,10 +8,10 @@ ghost use Rattle.img_streams.specs.Streams.{IsStreamOf, source};
 ghost use Rattle.loop_rows.specs.declared.shared.LoopShared.{LoopShared};
 ghost use Rattle.loop_rows.specs.declared.seats.Seats.{Seats};
 ghost use Rattle.loop_rows.specs.Rows.{IsRow, HasNumbers};
-ghost use Rattle.loop_rows.specs.Stepping.{OthersStay};
+ghost use Rattle.loop_rows.specs.Stepping.{OthersStay, CoroutinesStay};
 ghost use Rattle.stream_ends.specs.Images.{homes_of};
 ghost use Rattle.stream_ends.specs.Starts.{HaveStarted};
-ghost use Rattle.aio_run.specs.Posting.{HaveBegun, HaveCoroutines};
+ghost use Rattle.aio_run.specs.Posting.{HaveBegun, HaveCoroutines, HaveOwn};
 ghost use Rattle.aio_run.specs.Readiness.{coroutines_of};
 
 use aio_model::{Cause, Script};
@@ -39,6 +39,7 @@ fn post_one<D: Device, R: Wait>(
     ensures row { IsRow shared.now row.new × HasNumbers 0 64 row.new }
     ensures others { OthersStay to row.old.seats.items row.new.seats.items }
     ensures made { (b a : Seats _ _) → (slice_index_or row.new.seats.items to a).coroutines.known.mine ≡ Push co 0 ∷ Schedule co Begin true 0 ∷ (slice_index_or row.old.seats.items to b).coroutines.known.mine }
+    ensures own { (loops : ℕ) → HaveOwn loops row.old.seats.items → HaveOwn loops row.new.seats.items }
 {
     match row.post(rt, shared, to, co, Cause::Begin, Some(stream)) {
         Ok(()) => {}
@@ -74,6 +75,7 @@ pub(crate) fn post_each<D: Device, R: Wait>(
     requires none { HaveBegun 0 (homes_of script.now.streams) (length shared.now) row.old.seats.items }
     ensures row { IsRow shared.now row.new × HasNumbers 0 64 row.new }
     ensures begun { HaveBegun (length script.now.streams) (homes_of script.now.streams) (length shared.now) row.new.seats.items }
+    ensures own { HaveOwn (length shared.now) row.old.seats.items → HaveOwn (length shared.now) row.new.seats.items }
 {
     let _ = lock;
     let mut streams = VecDeque::from_vec(streams);
@@ -89,6 +91,7 @@ pub(crate) fn post_each<D: Device, R: Wait>(
 pub(crate) fn end_each<D: Device>(shared: &[LoopShared<StreamCo<D>>], row: &mut Row<StreamCo<D>>)
     requires row { IsRow shared.now row.old × HasNumbers 0 64 row.old }
     ensures row { IsRow shared.now row.new × HasNumbers 0 64 row.new }
+    ensures coroutines { CoroutinesStay row.old.seats.items row.new.seats.items }
 {
     for to in 0..shared.len() {
         row.set_event(shared, to);

@@ -1,5 +1,5 @@
 //! The run of a script.
-ghost use Rattle.std.specs.Prelude.{◌≡◌, ◌+◌, ◌≤◌, None, length, replicate, vec_len, vec_capacity, []};
+ghost use Rattle.std.specs.Prelude.{◌≡◌, ◌+◌, ◌<◌, ◌≤◌, ℕ, None, length, map, replicate, slice_index_or, vec_len, vec_capacity, []};
 ghost use Rattle.std.specs.List.{AllByRecursion};
 ghost use Rattle.aio_model.specs.SerialHistory.{eios_of};
 ghost use Rattle.aio_script.specs.Bounds.{IsBounded};
@@ -10,14 +10,18 @@ ghost use Rattle.co_loop.specs.Working.{CanWork};
 ghost use Rattle.img_streams.specs.Streams.{IsStreamOf, source};
 ghost use Rattle.loop_rows.specs.Opening.{HomesEach};
 ghost use Rattle.loop_rows.specs.Rows.{IsRow, HasNumbers};
+ghost use Rattle.loop_rows.specs.Stepping.{CoroutinesStay};
+ghost use Rattle.loop_threads.specs.declared.ending.LoopRun.{LoopRun};
 ghost use Rattle.loop_threads.specs.Reserving.{IsReserved};
 ghost use Rattle.loop_threads.specs.Running.{CanBeginEach};
-ghost use Rattle.stream_ends.specs.Images.{device_behind};
+ghost use Rattle.stream_ends.specs.Images.{device_behind, homes_of};
 ghost use Rattle.stream_ends.specs.Stops.{HaveStopped, IsServed};
 ghost use Rattle.aio_run.specs.Berths.{AllOf, AreBerthed};
-ghost use Rattle.aio_run.specs.Ends.{IsOver};
-ghost use Rattle.aio_run.specs.Posting.{HaveCoroutines, HaveSizes};
+ghost use Rattle.aio_run.specs.declared.running.RunEnd.{RunEnd};
+ghost use Rattle.aio_run.specs.Ends.{IsOver, end_of};
+ghost use Rattle.aio_run.specs.Posting.{HaveBegunAlone, HaveCoroutines, HaveSizes};
 ghost use Rattle.aio_run.specs.Readiness.{ArePosted, IsReady, coroutines_of};
+ghost use Rattle.aio_run.specs.Serving.{HasServed};
 
 use crate::carrying::carry;
 use crate::opening::Loops;
@@ -91,7 +95,7 @@ fn end_one<D: Device, K: Drop, R: Wait>(
     requires ended { AllOf D.bytes script.now lock.now run.work.crew.ended.items }
     requires berths { AreBerthed D.bytes script.now lock.now berths.old.items }
     ensures berths { AreBerthed D.bytes script.now lock.now berths.new.items }
-    ensures ends { (result.calls ≡ run.calls) × (result.coroutines ≡ run.coroutines) }
+    ensures ends { result ≡ end_of run }
 {
     let LoopRun {
         calls,
@@ -115,10 +119,9 @@ fn end_loops<D: Device, K: Drop, R: Wait>(
 )
     requires runs { AllByRecursion (λ run. AllOf D.bytes script.now lock.now run.work.crew.ended.items) runs.items }
     requires berths { AreBerthed D.bytes script.now lock.now berths.old.items }
-    requires over { AllByRecursion (λ run. IsOver (coroutines_of script.now) run.calls.known run.coroutines) runs.items }
     requires room { (ends.old.items ≡ []) × (length runs.items ≤ vec_capacity ends.old) }
     ensures berths { AreBerthed D.bytes script.now lock.now berths.new.items }
-    ensures over { (length ends.new.items ≡ length runs.items) × AllByRecursion (λ end. IsOver (coroutines_of script.now) end.calls.known end.coroutines) ends.new.items }
+    ensures kept { ends.new.items ≡ map end_of runs.items }
 {
     let mut runs = VecDeque::from_vec(runs);
     while let Some(run) = runs.pop_front() {
@@ -144,12 +147,11 @@ fn gather<D: Device, K: Drop, R: Wait>(
     mut ends: Vec<RunEnd<StreamCo<D>>>,
 ) -> Gathered<StreamCo<D>>
     requires ended { AllByRecursion (λ run. AllOf D.bytes script.now lock.now run.work.crew.ended.items) runs.items }
-    requires over { AllByRecursion (λ run. IsOver (coroutines_of script.now) run.calls.known run.coroutines) runs.items }
     requires berths { berths.items ≡ replicate (length script.now.streams) None }
     requires streams { (streams.items ≡ []) × (length script.now.streams ≤ vec_capacity streams) }
     requires ends { (ends.items ≡ []) × (length runs.items ≤ vec_capacity ends) }
     ensures streams { HaveStopped D.bytes script.now lock.now result.streams.items }
-    ensures ends { (length result.ends.items ≡ length runs.items) × AllByRecursion (λ end. IsOver (coroutines_of script.now) end.calls.known end.coroutines) result.ends.items }
+    ensures kept { result.ends.items ≡ map end_of runs.items }
 {
     end_loops(rt, lock, script, runs, &mut berths, &mut ends);
     Gathered {
@@ -166,6 +168,7 @@ fn end_if_none<D: Device>(
 )
     requires row { IsRow shared.now row.old × HasNumbers 0 64 row.old }
     ensures row { IsRow shared.now row.new × HasNumbers 0 64 row.new }
+    ensures coroutines { CoroutinesStay row.old.seats.items row.new.seats.items }
 {
     if script.streams.as_slice().is_empty() {
         end_each(shared, row);
@@ -191,9 +194,12 @@ fn carry_streams<
     requires hands { (vec_len hands ≡ length opened.shared.items) × CanBeginEach (CanWork (λ c o. IsStreamOf D.bytes c o)) opened.shared.items opened.homes.items hands.items }
     requires reserved { IsReserved (length opened.shared.items) reserved }
     requires row { IsRow opened.shared.items opened.row × HasNumbers 0 64 opened.row }
+    requires some { 0 < length opened.shared.items }
+    requires begun { HaveBegunAlone (length env.now.script.now.streams) (homes_of env.now.script.now.streams) (length opened.shared.items) opened.row.seats.items }
     ensures long { length result.items ≡ length opened.shared.items }
     ensures ended { AllByRecursion (λ run. AllOf D.bytes env.now.script.now env.now.lock.now run.work.crew.ended.items) result.items }
     ensures over { AllByRecursion (λ run. IsOver (coroutines_of env.now.script.now) run.calls.known run.coroutines) result.items }
+    ensures served { (k : ℕ) (r : LoopRun _ _ _) → k < length result.items → HasServed env.now.script.now k (slice_index_or result.items k r).coroutines.history }
 {
     let Opened { shared, homes, row } = opened;
     carry(env.rt, env, shared, reserved, homes, hands, row)
@@ -210,6 +216,7 @@ fn serve_streams<
     requires posted { ArePosted (CanWork (λ c o. IsStreamOf D.bytes c o)) env.now.script.now (source env.now.lock.now env.now.script.now) loops }
     ensures streams { HaveStopped D.bytes env.now.script.now env.now.lock.now result.streams.items }
     ensures ends { (length result.ends.items ≡ env.now.script.now.loops) × AllByRecursion (λ end. IsOver (coroutines_of env.now.script.now) end.calls.known end.coroutines) result.ends.items }
+    ensures served { (k : ℕ) (end : RunEnd _ _) → k < env.now.script.now.loops → HasServed env.now.script.now k (slice_index_or result.ends.items k end).coroutines.history }
 {
     let Loops {
         mut opened,
@@ -239,6 +246,7 @@ pub fn run<D: Device + Send, K: Clock + Drop + Send, G: Gate + Sync, R: Threads 
     ensures serves { IsServed script.now (D.bytes (device_behind prepared.lock)) (D.bytes result.device) result.served.items }
     ensures few { length result.served.items ≤ 4096 }
     ensures loops { (length result.loops.items ≡ script.now.loops) × AllByRecursion (λ end. IsOver (coroutines_of script.now) end.calls.known end.coroutines) result.loops.items }
+    ensures began { (k : ℕ) (end : RunEnd _ _) → k < script.now.loops → HasServed script.now k (slice_index_or result.loops.items k end).coroutines.history }
 
     // What it came to at the device.
     ensures extent { D.extent result.device ≡ D.extent (device_behind prepared.lock) }

@@ -35,7 +35,7 @@ returns g c =
     let n : length c.deref.result.now ≡ length c.args.shared.items = ap length c.deref.ensures.value in
     record {
       joined = c.run_loops-joined.result;
-      carried = subst (λ (l : List (LoopShared _ _)). AreCarried (CanWork g.C.Origin.is_of) (Works g.row.E.Denot g.row.R.Denot g.C.Origin.is_of g.C.Co.resumes g.K.Clock.time) l c.args.homes.items c.args.hands.items c.run_loops-joined.result) c.deref.ensures.value joined.carried;
+      carried = subst (λ (l : List (LoopShared _ _)). AreCarried (CanWork g.C.Origin.is_of) (Works g.row.E.Denot g.row.R.Denot g.C.Origin.is_of g.C.Co.resumes g.K.Clock.time) l c.args.homes.items c.args.hands.items c.args.row c.run_loops-joined.result) c.deref.ensures.value joined.carried;
       is_row = subst (λ (l : List (LoopShared _ _)). IsRow l c.run_loops-joined.result.row) c.deref.ensures.value joined.row.0;
       members = omega (arith, n, joined.members.0, c.run_loops-joined.result.members.ok.0);
       many = omega (arith, c.end.ensures.0, c.end.result.ok.0, c.args.shared.ok.0);

@@ -1,4 +1,4 @@
-use Rattle.std.proofs.Common.{◌≡◌, ◌∙◌, None, replicate, sym, ap, subst, arith, length, vec_len}
+use Rattle.std.proofs.Common.{◌∙◌, None, replicate, sym, ap, subst, arith}
 use Rattle.loop_rows.specs.Opening.{AreNew, NewEach}
 use Rattle.aio_run.proofs.opening.open_loops.Goals as goal
 

@@ -1,4 +1,4 @@
-use Rattle.std.proofs.Common.{◌≡◌, ◌<◌, ◌≤◌, ◌+◌, ◌∙◌, ℕ, suc, length, max, refl, sym, ap, subst, arith, slice_index_or}
+use Rattle.std.proofs.Common.{◌≡◌, ◌<◌, ◌+◌, ◌∙◌, suc, length, max, sym, ap, subst, arith, slice_index_or}
 use Rattle.co_schedule.specs.Standing.{was_scheduled}
 use Rattle.img_streams.specs.Streams.{IsStreamOf}
 use Rattle.stream_ends.specs.Images.{homes_of}
@@ -52,4 +52,5 @@ loop-number-preserved g c =
       c.post_one.ensures.row.0,
       c.post_one.ensures.row.1,
       begun_more k (k + 1) (homes_of c.args.script.now.streams) (length c.args.shared.now) _ c.loop-number.row.seats.items c.post_one.new.row.seats.items next is c.loop-number.invariant.3 c.post_one.ensures.others c.post_one.ensures.made,
+      (λ own. c.post_one.ensures.own (length c.args.shared.now) (c.loop-number.invariant.4 own)),
     )

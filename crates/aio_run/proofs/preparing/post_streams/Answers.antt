@@ -1,10 +1,10 @@
-use Rattle.std.proofs.Common.{◌≡◌, ◌<◌, ◌≤◌, ◌∙◌, sym, ap, subst, arith, length, slice_index}
+use Rattle.std.proofs.Common.{◌<◌, ◌∙◌, sym, ap, subst, length, slice_index}
 use Rattle.co_loop.specs.Rows.{AreOf}
 use Rattle.loop_rows.specs.Rows.{IsRow}
 use Rattle.stream_ends.specs.Images.{homes_of}
-use Rattle.aio_run.specs.Posting.{HaveBegun, HaveCoroutines}
+use Rattle.aio_run.specs.Posting.{HaveBegun, HaveCoroutines, HaveOwn}
 use Rattle.aio_run.specs.Readiness.{coroutines_of}
-use Rattle.aio_run.proofs.Posted.{homes_below, new_tables, new_of, new_sizes, new_homes, none_begun}
+use Rattle.aio_run.proofs.Posted.{homes_below, new_tables, new_of, new_sizes, new_homes, none_begun, own_new}
 use Rattle.aio_run.proofs.preparing.post_streams.Goals as goal
 
 pub post_each-requires-clause-few : goal.post_each-requires-clause-few
@@ -37,6 +37,7 @@ pub returns : goal.returns
 returns g c =
     let t = c.requires.open.tables in
     let rest = c.requires.open.rest in
+    let long = ap length c.deref.ensures.value ∙ t.long in
     record {
       long = t.long;
       homes_long = t.homes_long;
@@ -48,5 +49,6 @@ returns g c =
       is_row = subst (λ l. IsRow l c.post_each.new.row) c.deref.ensures.value c.post_each.ensures.row.0;
       numbers = c.post_each.ensures.row.1;
       begun = subst (λ n. HaveBegun (length c.args.script.now.streams) (homes_of c.args.script.now.streams) n c.post_each.new.row.seats.items) (ap length c.deref.ensures.value ∙ t.long) c.post_each.ensures.begun;
+      own = subst (λ n. HaveOwn n c.post_each.new.row.seats.items) long (c.post_each.ensures.own (subst (λ n. HaveOwn n c.args.loops.opened.row.seats.items) (sym long) (own_new c.args.script.now.loops (coroutines_of c.args.script.now) _ c.args.loops.opened t)));
       rest = record { hands = rest.hands; begin = rest.begin; reserved = rest.reserved; berths = rest.berths; streams = rest.streams; ends = rest.ends };
     }

@@ -1,0 +1,41 @@
+-- What stands in the history of the coroutines of a loop that served a script.
+use Rattle.std.specs.Prelude.{◌≡◌, ℕ, zero, suc, ◌==◌, if◌then◌else◌, List, [], ◌∷◌, length, slice_index}
+use Rattle.aio_model.specs.declared.causes.Cause.TheVariants.{Begin, Wake, Move}
+use Rattle.aio_model.specs.declared.scripts.Script.{Script}
+use Rattle.aio_model.specs.CoroutineHistory.{Schedule, Push, Enter, History}
+use Rattle.stream_ends.specs.Images.{homes_of}
+
+-- which coroutines were scheduled to begin, the last one first
+abbrev pub begins_of : History → List ℕ
+begins_of [] = []
+begins_of (Schedule c Begin given seat ∷ older) = c ∷ begins_of older
+begins_of (Schedule c Wake given seat ∷ older) = begins_of older
+begins_of (Schedule c Move given seat ∷ older) = begins_of older
+begins_of (Push c seat ∷ older) = begins_of older
+begins_of (Enter c ∷ older) = begins_of older
+
+-- which of the first so many have this loop as their home, the last one first
+abbrev pub beginning_on : ℕ → List ℕ → ℕ → List ℕ
+beginning_on zero homes loop = []
+beginning_on (suc co) homes loop =
+    if slice_index homes co == loop then co ∷ beginning_on co homes loop else beginning_on co homes loop
+
+-- the entries of one coroutine
+abbrev pub entries_for : ℕ → History → History
+entries_for c [] = []
+entries_for c (Schedule d cause given seat ∷ older) =
+    if c == d then Schedule d cause given seat ∷ entries_for c older else entries_for c older
+entries_for c (Push d seat ∷ older) = if c == d then Push d seat ∷ entries_for c older else entries_for c older
+entries_for c (Enter d ∷ older) = if c == d then Enter d ∷ entries_for c older else entries_for c older
+
+-- each time that the coroutine was scheduled, it was pushed once, by the same seat, and entered once, before it was scheduled again
+abbrev pub AreEntered : History → Type 0
+AreEntered [] = Unit {0}
+AreEntered (Enter c ∷ Push d by ∷ Schedule e cause given seat ∷ older) = (by ≡ seat) × AreEntered older
+AreEntered _ = ⊥
+
+-- Each stream that has this loop as its home began here once, and no other coroutine began here. Whatever was scheduled here was pushed
+-- and entered, once for each time.
+pub record HasServed (script : Script) (loop : ℕ) (history : History) : Type 0 where
+  pub began : begins_of history ≡ beginning_on (length script.streams) (homes_of script.streams) loop
+  pub entered : (c : ℕ) → AreEntered (entries_for c history)
