@@ -13,5 +13,7 @@ resume_one-requires g c =
 pub returns : goal.returns
 returns g c =
     let was = c.requires.going.each c.args.place c.index_mut.result.now (at_read c.args.streams.now.items c.args.place c.index_mut.result.now c.requires.inside c.index_mut.ensures.value) in
-    record { going = going_set g.D.Device.bytes c.args.env.now.script.now c.args.env.now.lock.now c.args.streams.now.items c.args.place c.resume_one.new.co c.requires.going
-    (record { of = c.resume_one.ensures.of; number_is = c.resume_one.ensures.same ∙ was.number_is }) }
+    record {
+      going = going_set g.D.Device.bytes c.args.env.now.script.now c.args.env.now.lock.now c.args.streams.now.items c.args.place c.resume_one.new.co c.requires.going
+          (record { of = c.resume_one.ensures.of; number_is = c.resume_one.ensures.same ∙ was.number_is });
+    }
