@@ -42,8 +42,12 @@ fn zeros(alloc: Global, len: u64) -> Result<Vec<u8>, Fail>
     Ok(vec![in alloc; 0; len as usize]?)
 }
 
+/// How many bytes a script may have.
+const LONGEST: usize = 1_048_576;
+
 /// The replies are a serial history of the script over zeros.
 fn assert_lawful(rt: &impl Abort, alloc: Global, text: &[u8], seen: &Seen) -> Result<(), Fail> {
+    assert!(rt; text.len() <= LONGEST);
     let Ok(script) = read_script(alloc, text) else {
         return Err(Fail::from("no script"));
     };

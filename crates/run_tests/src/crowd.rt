@@ -17,6 +17,9 @@ const RUNS: u32 = 100;
 
 const IMAGE: u32 = 4_096;
 
+/// How many bytes a script may have.
+const LONGEST: usize = 1_048_576;
+
 fn zeros(alloc: Global, len: u64) -> Result<Vec<u8>, Fail>
     ensures { IfOk result (λ bytes. length bytes.items ≡ len) }
 {
@@ -47,6 +50,7 @@ fn crowd(alloc: Global) -> Result<String, Fail> {
 fn streams_that_move_at_every_request(rt: HostRuntime) -> Result<(), Fail> {
     let alloc = rt.alloc();
     let text = crowd(alloc)?;
+    assert!(rt; text.len() <= LONGEST);
     let Ok(script) = read_script(alloc, text.as_bytes()) else {
         return Err(Fail::from("no script"));
     };
