@@ -1,3 +1,4 @@
+//! The call of a callback, as that sees it.
 ghost use Rattle.std.specs.Prelude.{◌≡◌, true, false, None};
 
 /// What a callback is lent for one entry. Only a poll makes one, and lends it, so that nobody has one outside a callback.

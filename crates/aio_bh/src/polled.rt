@@ -1,3 +1,5 @@
+//! The answer of a poll.
+
 /// What a poll tells. The counts stay at the greatest u64.
 #[derive(Clone, Copy, Debug, PartialEq, Eq)]
 pub struct Polled {

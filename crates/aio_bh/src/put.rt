@@ -1,3 +1,4 @@
+//! The answer of an enqueue that tries once.
 use aio_core::Announced;
 use aio_model::Flags;
 

@@ -1,3 +1,4 @@
+//! What the user of a loop brings.
 ghost use Rattle.std.specs.Prelude.{◌≡◌, ◌<◌, None, true, option_map};
 ghost use Rattle.aio_model.specs.InFlight.{AtRest};
 ghost use Rattle.aio_model.specs.LoopLegal.{IsLegal};

@@ -1,3 +1,5 @@
+//! The answer of a callback.
+
 /// What a callback answers at the end of an entry.
 #[derive(Clone, Copy, Debug, PartialEq, Eq)]
 pub enum Turn {

@@ -1,3 +1,4 @@
+//! The jobs of one-shots.
 ghost use Rattle.std.specs.Prelude.{◌≡◌};
 
 /// What a one-shot is begun for. Contracts and histories see its number.

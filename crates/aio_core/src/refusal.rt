@@ -1,3 +1,5 @@
+//! What stands in place of a table that was asked for.
+
 /// Why there is no table.
 #[derive(Clone, Copy, Debug, PartialEq, Eq)]
 pub enum BuildRefusal {

@@ -1,3 +1,4 @@
+//! The right of a thread to step on a table.
 ghost use Rattle.std.specs.Prelude.{◌≡◌, ◌<◌, ◌≤◌, ◌+◌, []};
 
 use crate::job::Job;

@@ -1,3 +1,4 @@
+//! The sizes of a table, as its rule is told them.
 use std::marker::Model;
 
 /// How many handles, lots and events a loop has.

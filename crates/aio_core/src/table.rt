@@ -1,3 +1,4 @@
+//! The table itself. Its calls stand in the files beside this one.
 ghost use Rattle.std.specs.Prelude.{◌≡◌, ◌≤◌, ◌+◌};
 ghost use Rattle.aio_core.specs.Words.{index_count, word_count};
 

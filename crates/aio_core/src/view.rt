@@ -1,3 +1,4 @@
+//! What the rule says of each seat.
 use std::marker::Model;
 
 /// What a seat knows. No value of it is ever made: it stands for what proofs say.

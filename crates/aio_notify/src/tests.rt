@@ -1,3 +1,4 @@
+//! How a home commits and what keeps it awake, step by step on one thread.
 ghost use Rattle.std.specs.Prelude.{◌≡◌, ◌<◌, true, [], None};
 ghost use Rattle.aio_model.specs.InFlight.{AtRest, Announced as announced};
 ghost use Rattle.aio_core.specs.Standing.{may_notify};

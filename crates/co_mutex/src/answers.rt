@@ -1,3 +1,4 @@
+//! The answers of the calls that lock.
 use crate::lock::{Guard, Waiting};
 use crate::rule::LockRule;
 use co_state::CoId;

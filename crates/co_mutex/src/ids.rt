@@ -1,4 +1,4 @@
-// A coroutine as the number that names it in a word of the table.
+//! A coroutine as the number that names it in a word of the table.
 ghost use Rattle.std.specs.Prelude.{◌≡◌};
 ghost use Rattle.co_mutex.specs.Calls.{word_of as number_of};
 

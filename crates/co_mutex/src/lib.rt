@@ -9,6 +9,10 @@
 //! up subtracts 1, and has the duty to wake where that was more than 1: it grants the first waiter, or it publishes the
 //! hand-off where nobody was pushed yet, and looks once more. Who takes a published hand-off has the duty.
 //!
+//! A pass is at rest, is counted, is pushed and then queued until it is granted, and holds. The holder has the value: it
+//! moves it out of its slot behind the step by which it found the lock its own, and back before its sub. The list of popped
+//! waiters is with who has the duty, and goes back to its slot before a grant and before a hand-off is published.
+//!
 //! At every moment one of these has the lock to go on with: nobody, an owner, a pass with the duty, or a hand-off that is
 //! published, at which some pass has still to look (`Baton` in `specs/Rule.antt`).
 #![tactic(auto)]

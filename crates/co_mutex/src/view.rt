@@ -1,3 +1,4 @@
+//! What the rule says of each pass.
 use std::marker::{Model, PhantomData};
 
 /// What a pass knows. No value of it is ever made.

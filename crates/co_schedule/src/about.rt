@@ -1,3 +1,4 @@
+//! The sizes of a table, and the origin of its coroutines.
 use chosen::Chosen;
 use co_state::Origin;
 

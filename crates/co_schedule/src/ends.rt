@@ -1,3 +1,4 @@
+//! What a table comes to in the end.
 use crate::built::CoBuilt;
 use crate::plays::Inner;
 use co_state::Origin;

@@ -1,3 +1,4 @@
+//! The right of the home thread to take coroutines and enter them.
 ghost use Rattle.std.specs.Prelude.{◌≡◌, None, [], true};
 ghost use Rattle.co_schedule.specs.Known.{AtRest};
 ghost use Rattle.co_schedule.specs.Calls.{are_within};

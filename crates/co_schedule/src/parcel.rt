@@ -1,3 +1,4 @@
+//! What a schedule hands over.
 use aio_model::Cause;
 
 /// What lies in the slot of a coroutine that was scheduled: why, and the state that came with it.

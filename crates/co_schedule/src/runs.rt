@@ -1,3 +1,4 @@
+//! The run of a home. A walk over the list meets the newest first, so it is filled from its end.
 ghost use Rattle.std.specs.Prelude.{◌≡◌, ◌<◌, ◌≤◌, [], ◌∷◌, length, IfOk, MatchOption};
 
 use aio_model::NoMemory;

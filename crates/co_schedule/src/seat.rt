@@ -1,3 +1,4 @@
+//! The right of a thread to schedule.
 ghost use Rattle.std.specs.Prelude.{◌≡◌, ◌<◌, ◌≤◌, ◌+◌, []};
 ghost use Rattle.co_schedule.specs.Known.{AtRest};
 

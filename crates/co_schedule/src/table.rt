@@ -1,3 +1,4 @@
+//! The table itself. Its calls stand in the files beside this one.
 use crate::about::About;
 use crate::parcel::Parcel;
 use crate::plays::CoRule;

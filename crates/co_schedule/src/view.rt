@@ -1,3 +1,4 @@
+//! What the rule says of each seat.
 use chosen::Chosen;
 use std::marker::Model;
 

@@ -1,3 +1,4 @@
+//! The journal of the image.
 ghost use Rattle.std.specs.Prelude.{◌≡◌, ◌<◌, ◌≤◌, ◌∷◌, [], ◌++◌, sum, length, slice_index, IfOk};
 
 use img_requests::Mark;

@@ -1,3 +1,4 @@
+//! The phases of a stream at the image.
 use img_requests::Present;
 
 /// How far a stream's request is.

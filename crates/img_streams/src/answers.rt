@@ -1,3 +1,4 @@
+//! The answers of a turn at the lock.
 use co_state::CoId;
 
 /// What a stream finds out that waits for its hold.

@@ -1,3 +1,4 @@
+//! The gate before each request.
 ghost use Rattle.std.specs.Prelude.{◌≡◌};
 ghost use Rattle.co_mutex.specs.Passes.{known};
 ghost use Rattle.co_mutex.specs.Places.{AtRest};

@@ -1,3 +1,4 @@
+//! The states of a stream between two resumes.
 use crate::gate::Passed;
 
 /// Where a stream is in its script, and what its next resume does.

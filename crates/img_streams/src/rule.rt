@@ -1,3 +1,4 @@
+//! What the lock of an image notes of each stream.
 use aio_words::Device;
 use co_mutex::LockRule;
 use img_shared::Image;

@@ -1,3 +1,4 @@
+//! The value behind the lock in these tests.
 use crate::rule::LockRule;
 
 /// A number behind a lock, whose note is the same whatever it is.

@@ -1,3 +1,5 @@
+//! The orders in which two rows of steps can be mixed.
+
 /// How many steps of the two may be chosen at most.
 const CHOICES: usize = 32;
 

@@ -1,3 +1,4 @@
+//! The coroutine of these tests.
 use co_state::Origin;
 
 /// A coroutine that carries nothing.
