@@ -1,13 +1,15 @@
 //! Serves a script from standard input and prints the replies as `aioloops` does, but by a coroutine for each stream, all of
-//! them on this thread, to be measured from outside. With a word it does less, or serves in rounds.
+//! them on this thread, to be measured from outside. With a word it does less, or serves in rounds, or one after another.
 #![tactic(auto)]
 
 mod input;
 mod part;
+mod serially;
 mod serving;
 
 use crate::input::script_from;
 use crate::part::Part;
+use crate::serially::count_serially;
 use crate::serving::{count_in_rounds, count_woken, serve_and_print};
 use aio_words::{StdSink, StdSource};
 use std::io::ErrorKind;
@@ -30,6 +32,7 @@ fn main(rt: HostRuntime) -> io::Result<()> {
             println!(rt; "{} resumes", tally.resumes)
         }
         Part::Rounds => println!(rt; "{} served", count_in_rounds(&rt, alloc, &script)?),
+        Part::Serially => println!(rt; "{} served", count_serially(alloc, &script)?),
         Part::All => {
             let Ok(mut sink) = StdSink::output(rt.stdout()) else {
                 return Err(io::Error::from(ErrorKind::OutOfMemory));

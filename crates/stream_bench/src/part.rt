@@ -7,6 +7,8 @@ pub enum Part {
     Serve,
     /// The same, in rounds.
     Rounds,
+    /// Serving the requests one after another, without coroutines.
+    Serially,
     /// Serving by wakes, and printing the replies.
     All,
 }
@@ -18,6 +20,7 @@ impl Part {
             "read" => Part::Read,
             "serve" => Part::Serve,
             "rounds" => Part::Rounds,
+            "serially" => Part::Serially,
             _ => Part::All,
         }
     }

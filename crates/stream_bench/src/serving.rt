@@ -14,7 +14,7 @@ use stream_carrier::{Carried, Tally, serve_by_wakes};
 use stream_ends::serve_in_rounds;
 
 /// A device of zeros, just as large as the script's image.
-fn device_for(alloc: Global, script: &Script) -> io::Result<MemDevice>
+pub(crate) fn device_for(alloc: Global, script: &Script) -> io::Result<MemDevice>
     ensures { IfOk result (λ device. script.now.image ≤ length device.bytes) }
 {
     let Ok(size) = u32::try_from(script.image) else {
