@@ -17,16 +17,16 @@ const RUNS: u32 = 100;
 
 /// What is seen of one loop.
 #[derive(Drop)]
-struct Watch {
+pub(crate) struct Watch {
     /// How often its clock was called, and the time that the clock stands at.
     calls: AtomicU64,
-    time: AtomicU64,
+    pub(crate) time: AtomicU64,
     /// Whether a stream passes the gate there.
     is_passed: AtomicBool,
 }
 
 impl Watch {
-    fn new() -> Watch {
+    pub(crate) fn new() -> Watch {
         Watch {
             calls: AtomicU64::new(0),
             time: AtomicU64::new(0),
@@ -37,7 +37,7 @@ impl Watch {
 
 /// A clock that only its pauses move on, seen by whoever watches its loop.
 #[derive(Drop)]
-struct Watched<'a> {
+pub(crate) struct Watched<'a> {
     now: u64,
     watch: &'a Watch,
 }
@@ -106,7 +106,8 @@ impl Gate for Home {
     }
 }
 
-fn clocks<'a>(alloc: Global, watches: &'a [Watch; 2]) -> Result<Vec<Watched<'a>>, Fail>
+/// Sixteen clocks, which two loops' watches see in turns.
+pub(crate) fn clocks<'a>(alloc: Global, watches: &'a [Watch; 2]) -> Result<Vec<Watched<'a>>, Fail>
     ensures { IfOk result (λ clocks. vec_len clocks ≡ 16) }
 {
     let mut clocks = Vec::new(alloc);

@@ -6,6 +6,8 @@ mod crowd;
 #[cfg(test)]
 mod home;
 #[cfg(test)]
+mod lingering;
+#[cfg(test)]
 mod meeting;
 #[cfg(test)]
 mod stage;
