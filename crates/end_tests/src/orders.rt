@@ -16,7 +16,7 @@ use std::test::Fail;
 use stream_carrier::resume_at;
 use stream_ends::{Begun, Finished};
 
-/// Each request has three pieces, and five resumes where it doesn't wait.
+/// Each request has three pieces. It takes five resumes, besides those that find no hold.
 const SCRIPT: &[u8] =
     b"image 8200\nloops 1\nstream 0 0\nstream 1 0\n0 zero 0 8200\n1 read 0 8200\n";
 

@@ -21,9 +21,10 @@ const SCRIPT: &[u8] = b"image 8192\nloops 1\nstream 0 0\nstream 1 0\n0 zero 0 50
 /// A resume of a stream, what it answers, whom it wakes, in order, and whether it asks its home to quit.
 type Row = (u32, CoStep, &'static [u32], bool);
 
-/// Stream 1 waits for its hold, and doesn't wake itself meanwhile. Stream 0 names it as it leaves. A request of one piece that
-/// doesn't wait takes three resumes.
-const ROWS: [Row; 12] = [
+/// Stream 1 waits for its hold, and doesn't wake itself meanwhile. Its second resume finds no hold; no wake asked for it. Stream 0
+/// names it as it leaves, and the resume that takes up its hold serves the one piece of its request. So it takes three resumes:
+/// to enter, to take up its hold with the piece, and to leave.
+const ROWS: [Row; 11] = [
     (0, CoStep::Yield, &[0], false),
     (1, CoStep::Yield, &[], false),
     (1, CoStep::Yield, &[], false),
@@ -34,7 +35,6 @@ const ROWS: [Row; 12] = [
     (0, CoStep::Done, &[], false),
     (1, CoStep::Yield, &[1], false),
     (0, CoStep::Done, &[], false),
-    (1, CoStep::Yield, &[1], false),
     (1, CoStep::Done, &[], true),
 ];
 

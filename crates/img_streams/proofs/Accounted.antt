@@ -1,30 +1,24 @@
 -- What each call on an image makes of the calling stream's note and account.
-use Rattle.std.proofs.Common.{◌≡◌, ℕ, ◌+◌, ◌<◌, ◌≤◌, Option, Some, None, IfSome, List, [], ◌∷◌, ◌++◌, set, length, refl, sym, ap, ◌∙◌, subst, arith, length-append}
+use Rattle.std.proofs.Common.{◌≡◌, ℕ, ◌+◌, ◌<◌, ◌≤◌, Option, IfSome, List, [], ◌∷◌, ◌++◌, set, length, sym, ap, ◌∙◌, subst, length-append}
 use Rattle.std.proofs.lemmas.List.{length-set}
 use Rattle.aio_model.specs.declared.requests.Request.{Request}
-use Rattle.aio_model.specs.RwTable.{wake_one}
 use Rattle.aio_model.specs.Serving.{end_of}
 use Rattle.co_state.specs.declared.cx.CoId.{CoId}
-use Rattle.img_requests.specs.declared.present.Present.{Present}
 use Rattle.img_requests.specs.declared.answers.Piece.{Piece}
 use Rattle.img_requests.specs.declared.answers.Enter.{Enter}
 use Rattle.img_requests.specs.declared.answers.Enter.TheVariants.{Begun, Queued, Refused}
 use Rattle.img_requests.specs.ImageState.{OnBegun}
 use Rattle.img_requests.specs.Presents.{begun_of}
 use Rattle.img_shared.specs.declared.journal.Entry.{Entry}
-use Rattle.img_shared.specs.declared.phases.Phase.{Phase}
 use Rattle.img_shared.specs.declared.phases.Phase.TheVariants.{Idle, Waiting, Active, Retired}
 use Rattle.img_shared.specs.Calls.{Enters, IsServing, Serves, Leaves}
 use Rattle.img_shared.specs.Images.{ImageState}
-use Rattle.img_shared.specs.Notes.{Note, Placement, entries_from, told_in, note}
-use Rattle.img_shared.specs.Phases.{phase_at, done_in, IsWaiting, CanLeave, taken_up}
+use Rattle.img_shared.specs.Notes.{Note, Placement, entries_from, note}
+use Rattle.img_shared.specs.Phases.{phase_at, done_in, CanLeave}
 use Rattle.img_shared.proofs.Sounds.{phase_set}
-use Rattle.img_join.specs.Accounts.{Account, Doing}
-use Rattle.img_join.proofs.Accounts.{entries_own, account_begun, account_queued, account_granted, account_piece, account_refused, account_left, account_retired}
-use Rattle.img_streams.specs.declared.answers.Grant.{Grant}
-use Rattle.img_streams.specs.declared.answers.Grant.TheVariants.{NotYet, Granted}
-use Rattle.img_streams.specs.ImageCalls.{come_to, TakesUp, OnGranted}
-use Rattle.img_streams.specs.Steps.{IsEntered, IsTakenUp, IsServed, HasLeft, HasRetired}
+use Rattle.img_join.proofs.Accounts.{entries_own, account_begun, account_queued, account_piece, account_refused, account_left, account_retired}
+use Rattle.img_streams.specs.ImageCalls.{come_to}
+use Rattle.img_streams.specs.Steps.{IsEntered, IsServed, HasLeft, HasRetired}
 use Rattle.img_streams.proofs.Owns.{Keeps}
 
 pub came_to : {D : Type 0} → (co : CoId) (g x : ImageState D) → Keeps (come_to co g) x → Keeps g x
@@ -82,35 +76,8 @@ module _ {D : Type 0} (bytes : D → Option (List ℕ)) (s : ℕ) (g x : ImageSt
     rows = ap (λ (i : ImageState D). length i.phases) enters.6;
   }
 
-  -- what taking up a hold makes of it
-  taken_up_so : (co : CoId) → co.co ≡ s → (answer : Grant) → IsWaiting (phase_at g.phases s) → TakesUp co answer g x
-      → OnGranted answer (bytes g.device ≡ bytes g.left)
-      → OnGranted answer (IfSome (bytes g.device) (λ told. g.size ≤ length told))
-      → IsTakenUp bytes s (note bytes g s) answer (note bytes x s)
-  taken_up_so co is NotYet waits takes clean inside = ap (λ (i : ImageState D). note bytes i s) takes.1
-  taken_up_so co is (Granted woken) waits takes clean inside =
-      let next : x ≡ record (come_to co g) { phases = set g.phases s (taken_up (phase_at g.phases s)); access = (wake_one g.access).state } =
-      takes.2 ∙ ap (λ (k : ℕ). record (come_to co g) { phases = set g.phases k (taken_up (phase_at g.phases k)); access = (wake_one g.access).state }) is in (
-        ap (λ (i : ImageState D). phase_at i.phases s) next ∙ phase_set g.phases s (taken_up (phase_at g.phases s)) row,
-        ap (λ (i : ImageState D). entries_from 0 s i.journal) next,
-        λ request buffer within asked id size requests buffers named account.
-            account_granted bytes asked id s size requests (come_to co g) row buffers request named buffer account x waits within next clean inside,
-      )
-
-  pub keeps_taken_up : (co : CoId) (answer : Grant) → TakesUp co answer g x → Keeps g x
-  keeps_taken_up co NotYet takes = record {
-    opening = ap (λ (i : ImageState D). i.opening) takes.1;
-    streams = ap (λ (i : ImageState D). length i.requests) takes.1;
-    rows = ap (λ (i : ImageState D). length i.phases) takes.1;
-  }
-  keeps_taken_up co (Granted woken) takes = record {
-    opening = ap (λ (i : ImageState D). i.opening) takes.2;
-    streams = ap (λ (i : ImageState D). length i.requests) takes.2;
-    rows = ap (λ (i : ImageState D). length i.phases) takes.2 ∙ length-set g.phases co.co _;
-  }
-
   -- what a piece makes of it
-  served : (request : Request) (answer : Piece) (before after : List ℕ)
+  pub served : (request : Request) (answer : Piece) (before after : List ℕ)
       → IsServing (phase_at g.phases s) s request (done_in (phase_at g.phases s))
       → Serves bytes s request (done_in (phase_at g.phases s)) answer g x before after
       → IsServed bytes s request answer (note bytes g s) before (note bytes x s) after
@@ -161,7 +128,7 @@ module _ {D : Type 0} (bytes : D → Option (List ℕ)) (s : ℕ) (g x : ImageSt
   }
 
   module _ (old new : Note D) (found : note bytes g s ≡ old) (left : new ≡ note bytes x s) where
-    along : (P : Note D → Note D → Type 0) → P (note bytes g s) (note bytes x s) → P old new
+    pub along : (P : Note D → Note D → Type 0) → P (note bytes g s) (note bytes x s) → P old new
     along P p = subst (λ (n : Note D). P old n) (sym left) (subst (λ (n : Note D). P n (note bytes x s)) found p)
 
     pub is_entered : (request : Request) (answer : Enter) → old.phase ≡ Idle → Enters g s request answer x
@@ -171,14 +138,6 @@ module _ {D : Type 0} (bytes : D → Option (List ℕ)) (s : ℕ) (g x : ImageSt
     is_entered request answer idle enters clean inside =
         along (λ n m. IsEntered bytes s request n answer m)
         (entered request answer (ap (λ (n : Note D). n.phase) found ∙ idle) enters clean inside)
-
-    pub is_taken_up : (co : CoId) → co.co ≡ s → (answer : Grant) → IsWaiting old.phase → TakesUp co answer g x
-        → OnGranted answer (bytes g.device ≡ bytes g.left)
-        → OnGranted answer (IfSome (bytes g.device) (λ told. g.size ≤ length told))
-        → IsTakenUp bytes s old answer new
-    is_taken_up co is answer waits takes clean inside =
-        along (λ n m. IsTakenUp bytes s n answer m)
-        (taken_up_so co is answer (subst (λ (n : Note D). IsWaiting n.phase) (sym found) waits) takes clean inside)
 
     pub is_served : (request : Request) (answer : Piece) (before after : List ℕ)
         → IsServing old.phase s request (done_in old.phase)

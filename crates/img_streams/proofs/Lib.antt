@@ -1,6 +1,7 @@
 pub mod Turning
 pub mod Owns
 pub mod Accounted
+pub mod Granted
 pub mod LinesAlong
 pub mod Going
 pub mod Entering

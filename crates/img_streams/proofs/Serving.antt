@@ -1,10 +1,10 @@
 -- A stream whose request has its hold.
-use Rattle.std.proofs.Common.{◌≡◌, ℕ, false, Option, List, ◌++◌, map, refl, sym, ap, ◌∙◌, subst, arith}
+use Rattle.std.proofs.Common.{◌≡◌, ℕ, false, Option, List, ◌++◌, length, map, refl, sym, ap, ◌∙◌, subst, arith}
 use Rattle.aio_model.specs.declared.requests.Request.{Request}
 use Rattle.aio_model.specs.declared.scripts.Script.{Script}
 use Rattle.aio_model.specs.declared.scripts.What.TheVariants.{Ask}
 use Rattle.aio_model.specs.Serving.{length_of}
-use Rattle.aio_model.specs.Asked.{asked, requests_of}
+use Rattle.aio_model.specs.Asked.{asked, request_named, requests_of}
 use Rattle.co_state.specs.Asked.{Asked}
 use Rattle.co_state.specs.declared.cx.CoId.{CoId}
 use Rattle.co_state.specs.declared.co.CoStep.TheVariants as step
@@ -13,11 +13,11 @@ use Rattle.co_mutex.specs.declared.lock.Pass.{Pass}
 use Rattle.img_shared.specs.declared.phases.Phase.{Phase}
 use Rattle.img_shared.specs.declared.phases.Phase.TheVariants.{Active}
 use Rattle.img_shared.specs.Images.{ImageState}
-use Rattle.img_shared.specs.Notes.{Note}
+use Rattle.img_shared.specs.Notes.{Note, Placement}
 use Rattle.img_streams.specs.declared.progress.At.{At}
 use Rattle.img_streams.specs.declared.progress.At.TheVariants as at
 use Rattle.img_streams.specs.declared.stream.Stream.{Stream}
-use Rattle.img_streams.specs.Deeds.{Served, woken_by, at_after, itself, IsDeedAt, Does, listed, asks}
+use Rattle.img_streams.specs.Deeds.{Deed, Served, woken_by, at_after, at_after_piece, itself, IsDeedAt, Does, listed, asks}
 use Rattle.img_streams.specs.Lines.{StandsAt, Asks}
 use Rattle.img_streams.specs.Own.{own_note, IsOf, Calls}
 use Rattle.img_streams.specs.Streams.{IsStreamOf, StandsSo, Resumes, MovesOn}
@@ -31,7 +31,7 @@ use Rattle.img_requests.specs.Pieces.{piece_length, done_after, stage_after}
 use Rattle.img_requests.specs.Presents.{present_of}
 use Rattle.img_shared.specs.Calls.{IsServing}
 use Rattle.img_shared.specs.Phases.{done_in, CanLeave}
-use Rattle.img_join.specs.Accounts.{Doing}
+use Rattle.img_join.specs.Accounts.{Account, Doing}
 use Rattle.img_streams.specs.Steps.{IsServed}
 use Rattle.img_streams.proofs.Making.{made_call}
 
@@ -41,14 +41,42 @@ pub served_at : {D : Type 0} → (bytes : D → Option (List ℕ)) (s : ℕ) (re
 served_at bytes s request answer old new lent before given after e f served =
     subst (λ (l : List ℕ). IsServed bytes s request answer old before new l) (sym f) (subst (λ (l : List ℕ). IsServed bytes s request answer old l new given) e served)
 
-pub calls_at : {P D : Type 0} → (bytes : D → Option (List ℕ)) (lock : CoMutex P (ImageState D) (Note D)) (co : CoId) (request : Request) (answer : Piece) (named : Option CoId)
+pub calls_at : {P D : Type 0} → (bytes : D → Option (List ℕ)) (lock : CoMutex P (ImageState D) (Note D)) (co : CoId) (request : Request) (deed : Deed) (named : Option CoId)
     (a b : Pass P (ImageState D) (Note D)) (lent before given after : List ℕ)
     → lent ≡ before → after ≡ given
-    → Calls bytes lock (λ found left. Does bytes co request lent given (Served answer) found left) co named a b
-    → Calls bytes lock (λ found left. Does bytes co request before after (Served answer) found left) co named a b
-calls_at bytes lock co request answer named a b lent before given after e f calls =
-    subst (λ (l : List ℕ). Calls bytes lock (λ found left. Does bytes co request before l (Served answer) found left) co named a b) (sym f)
-    (subst (λ (l : List ℕ). Calls bytes lock (λ found left. Does bytes co request l given (Served answer) found left) co named a b) e calls)
+    → Calls bytes lock (λ found left. Does bytes co request lent given deed found left) co named a b
+    → Calls bytes lock (λ found left. Does bytes co request before after deed found left) co named a b
+calls_at bytes lock co request deed named a b lent before given after e f calls =
+    subst (λ (l : List ℕ). Calls bytes lock (λ found left. Does bytes co request before l deed found left) co named a b) (sym f)
+    (subst (λ (l : List ℕ). Calls bytes lock (λ found left. Does bytes co request l given deed found left) co named a b) e calls)
+
+-- it goes on after a piece, which was served from a note with the same entries
+module _ {P D : Type 0} (bytes : D → Option (List ℕ)) (old : Stream P (ImageState D) (Note D)) (of : CoMutex P (ImageState D) (Note D) × Script)
+    (is : IsStreamOf bytes old of) (request : Request) (line : StandsAt of.1.lines old.id old.line (Ask request))
+    (from : Note D) (same : from.entries ≡ (own_note bytes of.0 old.pass).entries)
+    (mid : Stream P (ImageState D) (Note D)) (pass : Pass P (ImageState D) (Note D)) where
+  stands_served : (answer : Piece)
+      → (own_note bytes of.0 pass).phase ≡ Active (present_of old.co.co request (done_after answer (done_in from.phase) (piece_length (length_of request) (done_in from.phase))) (stage_after answer))
+      → StandsSo of.1.lines old.id old.co.co old.line false (own_note bytes of.0 pass) (at_after_piece answer)
+  stands_served piece.More phase = (
+    present_of old.co.co request (done_after piece.More (done_in from.phase) (piece_length (length_of request) (done_in from.phase))) (stage_after piece.More),
+    phase,
+    refl,
+    (request, line),
+  )
+  stands_served piece.Whole phase = (subst CanLeave (sym phase) tt, (request, line))
+  stands_served piece.Failed phase = (subst CanLeave (sym phase) tt, (request, line))
+
+  pub stays_served : (answer : Piece) → IsOf bytes of.0 pass old.co.co false
+      → Account bytes (asked of.1.lines) old.id old.co.co of.1.image (requests_of old.id of.1.lines) from (map (λ buffer. buffer.items) old.filled.items) old.buffer.items
+      → IsServed bytes old.co.co request answer from old.buffer.items (own_note bytes of.0 pass) mid.buffer.items
+      → IsStreamOf bytes (record old { pass = pass; queued = false; at = at_after_piece answer; buffer = mid.buffer }) of
+  stays_served answer own account served =
+      let n : length from.entries ≡ length (own_note bytes of.0 old.pass).entries = ap (λ (l : List (Placement D)). length l) same in
+      let named = ap (λ (k : ℕ). request_named (asked of.1.lines) old.id k) n ∙ named_now bytes old of is request line in
+      stays bytes old of is (record old { pass = pass; queued = false; at = at_after_piece answer; buffer = mid.buffer }) own (served.entries ∙ same)
+      (served.account (asked of.1.lines) old.id of.1.image (requests_of old.id of.1.lines) (map (λ buffer. buffer.items) old.filled.items) named account)
+      (stands_served answer served.phase) served.long
 
 module _ {P D : Type 0} (bytes : D → Option (List ℕ)) (old : Stream P (ImageState D) (Note D)) (of : CoMutex P (ImageState D) (Note D) × Script)
     (is : IsStreamOf bytes old of) (here : old.at ≡ at.Serving) where
@@ -72,25 +100,13 @@ module _ {P D : Type 0} (bytes : D → Option (List ℕ)) (old : Stream P (Image
 
     -- another buffer with the same length
     module _ (other mid : Stream P (ImageState D) (Note D)) (pass : Pass P (ImageState D) (Note D)) where
-      served_stays : (answer : Piece) → IsOf bytes of.0 pass old.co.co false
-          → IsServed bytes old.co.co request answer (own_note bytes of.0 old.pass) old.buffer.items (own_note bytes of.0 pass) mid.buffer.items
-          → IsStreamOf bytes (record old { pass = pass; queued = false; at = at_after (Served answer); buffer = mid.buffer }) of
-      served_stays answer own served =
-          let account = served.account (asked of.1.lines) old.id of.1.image (requests_of old.id of.1.lines) (map (λ buffer. buffer.items) old.filled.items) (named_now bytes old of is request line) is.account in
-          stays bytes old of is (record old { pass = pass; queued = false; at = at_after (Served answer); buffer = mid.buffer }) own served.entries account (by answer served.phase) served.long
-        where
-          by : (answer : Piece) → (own_note bytes of.0 pass).phase ≡ Active (present_of old.co.co request (done_after answer (done_in (own_note bytes of.0 old.pass).phase) (piece_length (length_of request) (done_in (own_note bytes of.0 old.pass).phase))) (stage_after answer))
-              → StandsSo of.1.lines old.id old.co.co old.line false (own_note bytes of.0 pass) (at_after (Served answer))
-          by piece.More phase = (present_of old.co.co request (done_after piece.More (done_in (own_note bytes of.0 old.pass).phase) (piece_length (length_of request) (done_in (own_note bytes of.0 old.pass).phase))) (stage_after piece.More), phase, refl, (request, line))
-          by piece.Whole phase = (subst CanLeave (sym phase) tt, (request, line))
-          by piece.Failed phase = (subst CanLeave (sym phase) tt, (request, line))
-
       pub served_is : (answer : Piece) → IsOf bytes of.0 pass old.co.co false
           → IsServed bytes old.co.co request answer (own_note bytes of.0 old.pass) old.buffer.items (own_note bytes of.0 pass) mid.buffer.items
           → MovesOn (Served answer) (record old { pass = pass; queued = false; buffer = mid.buffer }) other
           → IsStreamOf bytes other of
       served_is answer own served moves =
-          subst (λ (co : Stream P (ImageState D) (Note D)). IsStreamOf bytes co of) (sym moves) (served_stays answer own served)
+          subst (λ (co : Stream P (ImageState D) (Note D)). IsStreamOf bytes co of) (sym moves)
+          (stays_served bytes old of is request line (own_note bytes of.0 old.pass) refl mid pass answer own is.account served)
 
       pub served_resumes : (answer : Piece) (named : Option CoId) (wants : Asked)
           → Calls bytes of.0 (λ found left. Does bytes old.co request old.buffer.items mid.buffer.items (Served answer) found left) old.co named old.pass pass

@@ -16,7 +16,7 @@ use Rattle.img_streams.specs.declared.progress.At.{At}
 use Rattle.img_streams.specs.declared.progress.At.TheVariants as at
 use Rattle.img_streams.specs.ImageCalls.{come_to, TakesUp, LeavesSo}
 
--- the one call of a resume, with its answer
+-- What a resume does on the image, with its answer. Each is one call, and where a hold is taken up a piece is served too.
 pub data Deed : Type 0 where
   Entered : Enter → Deed
   TookUp : Grant → Deed
@@ -27,9 +27,15 @@ pub data Deed : Type 0 where
 abbrev pub woken_by : Deed → Option CoId
 woken_by (Entered answer) = None
 woken_by (TookUp NotYet) = None
-woken_by (TookUp (Granted woken)) = woken
+woken_by (TookUp (Granted woken first)) = woken
 woken_by (Served answer) = None
 woken_by (Left woken) = woken
+
+-- where the stream is after a piece
+abbrev pub at_after_piece : Piece → At
+at_after_piece piece.More = at.Serving
+at_after_piece piece.Whole = at.Ended
+at_after_piece piece.Failed = at.Ended
 
 -- where the stream is after it
 abbrev pub at_after : Deed → At
@@ -37,10 +43,8 @@ at_after (Entered enter.Begun) = at.Serving
 at_after (Entered enter.Queued) = at.Waiting
 at_after (Entered (enter.Refused place)) = at.Between
 at_after (TookUp NotYet) = at.Waiting
-at_after (TookUp (Granted woken)) = at.Serving
-at_after (Served piece.More) = at.Serving
-at_after (Served piece.Whole) = at.Ended
-at_after (Served piece.Failed) = at.Ended
+at_after (TookUp (Granted woken first)) = at_after_piece first
+at_after (Served answer) = at_after_piece answer
 at_after (Left woken) = at.Between
 
 -- how many lines it has behind it then: the request's own, where that got its reply
@@ -66,11 +70,11 @@ IsDeedAt at.Serving (Served answer) = Unit {0}
 IsDeedAt at.Ended (Left woken) = Unit {0}
 IsDeedAt _ _ = ⊥
 
--- what it does on the image, and what a piece does in the buffer
+-- what it does on the image and in the buffer
 abbrev pub Does : {D : Type 0} → (D → Option (List ℕ)) → CoId → Request → List ℕ → List ℕ → Deed → ImageState D → ImageState D → Type 0
 Does bytes co request before after (Entered answer) found left =
     Enters (come_to co found) co.co request answer left
-Does bytes co request before after (TookUp answer) found left = TakesUp co answer found left
+Does bytes co request before after (TookUp answer) found left = TakesUp bytes co request before after answer found left
 Does bytes co request before after (Served answer) found left =
     Serves bytes co.co request (done_in (phase_at found.phases co.co)) answer (come_to co found) left before after
 Does bytes co request before after (Left woken) found left = LeavesSo co woken found left

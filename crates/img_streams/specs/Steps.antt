@@ -10,7 +10,7 @@ use Rattle.img_requests.specs.Pieces.{HasRoom, piece_length, done_after, stage_a
 use Rattle.img_requests.specs.Presents.{present_of, begun_of}
 use Rattle.img_shared.specs.declared.phases.Phase.TheVariants.{Idle, Waiting, Active, Retired}
 use Rattle.img_shared.specs.Notes.{Note}
-use Rattle.img_shared.specs.Phases.{done_in, taken_up}
+use Rattle.img_shared.specs.Phases.{done_in}
 use Rattle.img_join.specs.Accounts.{Account}
 use Rattle.img_streams.specs.declared.answers.Grant.{Grant}
 use Rattle.img_streams.specs.declared.answers.Grant.TheVariants.{NotYet, Granted}
@@ -53,13 +53,11 @@ module _ {D : Type 0} (bytes : D → Option (List ℕ)) (stream : ℕ) where
   IsEntered request old (Refused place) new =
       (new.phase ≡ Idle) × (length new.entries ≡ length old.entries + 1) × GetsReply request old new
 
-  -- what is left of a stream that waits for its hold
-  abbrev pub IsTakenUp : Note D → Grant → Note D → Type 0
-  IsTakenUp old NotYet new = new ≡ old
-  IsTakenUp old (Granted woken) new =
-      (new.phase ≡ taken_up old.phase)
-      × (new.entries ≡ old.entries)
-      × ((request : Request) (buffer : List ℕ) → end_of request ≤ old.size → GoesOn request old buffer new buffer)
+  -- what taking up a hold leaves
+  pub record IsHeld (request : Request) (old new : Note D) : Type 0 where
+    pub phase : new.phase ≡ Active (begun_of stream request)
+    pub entries : new.entries ≡ old.entries
+    pub account : (buffer : List ℕ) → end_of request ≤ old.size → GoesOn request old buffer new buffer
 
   -- what a piece leaves
   pub record IsServed (request : Request) (answer : Piece) (old : Note D) (before : List ℕ) (new : Note D) (after : List ℕ) : Type 0 where
@@ -67,6 +65,12 @@ module _ {D : Type 0} (bytes : D → Option (List ℕ)) (stream : ℕ) where
     pub entries : new.entries ≡ old.entries
     pub long : length after ≡ length before
     pub account : GoesOn request old before new after
+
+  -- What is left of a stream that waits for its hold. Where it has it, the stream takes it up, and is served a piece.
+  abbrev pub IsTakenUp : Request → Note D → List ℕ → Grant → Note D → List ℕ → Type 0
+  IsTakenUp request old before NotYet new after = (new ≡ old) × (after ≡ before)
+  IsTakenUp request old before (Granted woken first) new after =
+      (held : Note D) × IsHeld request old held × IsServed request first held before new after
 
   -- what `leave` leaves
   pub record HasLeft (old new : Note D) : Type 0 where

@@ -120,8 +120,8 @@ module _ {P D : Type 0} (bytes : D → Option (List ℕ)) where
       pub queued : new.queued ≡ true
       pub wakes : wants ≡ asks (listed named) false
 
-    -- It took the lock once and made one call on the image for the request at hand. It wakes whom its unlock named, whom
-    -- the image named, and itself where it doesn't wait for its hold.
+    -- It took the lock once and did this one deed on the image for the request at hand. It wakes whom its unlock named,
+    -- whom the image named, and itself where it doesn't wait for its hold.
     pub record MakesCall (wants : Asked) (new : Stream P (ImageState D) (Note D)) : Type 0 where
       pub request : Request
       pub line : StandsAt of.1.lines old.id at_hand (Ask request)

@@ -1,13 +1,15 @@
 //! The answers of a turn at the lock.
 use co_state::CoId;
+use img_shared::Piece;
 
 /// What a stream finds out that waits for its hold.
 #[derive(Clone, Copy, Debug, PartialEq, Eq)]
 pub enum Grant {
     /// It waits on.
     NotYet,
-    /// It has its hold now. The stream that is named was granted one too, and is to be woken.
-    Granted(Option<CoId>),
+    /// It took its hold up, and this is what the first piece of its request came to. The stream that is named was granted a
+    /// hold too, and is to be woken.
+    Granted(Option<CoId>, Piece),
 }
 
 /// What came of one turn at the lock.

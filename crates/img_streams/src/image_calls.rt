@@ -7,8 +7,8 @@ ghost use Rattle.img_shared.specs.declared.phases.Phase.TheVariants.{Idle};
 ghost use Rattle.img_shared.specs.Calls.{Enters, IsServing, Serves};
 ghost use Rattle.img_shared.specs.Journals.{entries_of};
 ghost use Rattle.img_shared.specs.Notes.{SameNotes};
-ghost use Rattle.img_shared.specs.Phases.{phase_at, done_in, CanLeave, IsWaiting};
-ghost use Rattle.img_streams.specs.ImageCalls.{come_to, coroutine_of, TakesUp, LeavesSo, Retires, OnGranted};
+ghost use Rattle.img_shared.specs.Phases.{phase_at, done_in, CanLeave};
+ghost use Rattle.img_streams.specs.ImageCalls.{come_to, coroutine_of, IsWaitingFor, TakesUp, LeavesSo, Retires, OnGranted};
 
 use crate::answers::Grant;
 use aio_model::Request;
@@ -45,11 +45,17 @@ pub(crate) fn enter<D: Device>(image: &mut Image<D>, co: CoId, request: &Request
     image.enter(co.co, request)
 }
 
-/// Takes up the stream's hold, if it was granted.
-pub(crate) fn take_up<D: Device>(image: &mut Image<D>, co: CoId) -> Grant
+/// Takes up the stream's hold, if it was granted, and serves the first piece of its request.
+pub(crate) fn take_up<D: Device>(
+    image: &mut Image<D>,
+    co: CoId,
+    request: &Request,
+    buffer: &mut [u8],
+) -> Grant
     requires known { co.co < length image.old.requests }
-    requires waits { IsWaiting (phase_at image.old.phases co.co) }
-    ensures taken { TakesUp co result image.old image.new }
+    requires waits { IsWaitingFor (phase_at image.old.phases co.co) co.co request.now }
+    requires room { HasRoom request.now buffer.old }
+    ensures taken { TakesUp D.bytes co request.now buffer.old buffer.new result image.old image.new }
     ensures clean { OnGranted result (D.bytes image.old.device ≡ D.bytes image.old.left) }
     ensures inside { OnGranted result (IfSome (D.bytes image.old.device) (λ told. image.old.size ≤ length told)) }
     ensures others { SameNotes D.bytes co.co image.old image.new }
@@ -58,8 +64,10 @@ pub(crate) fn take_up<D: Device>(image: &mut Image<D>, co: CoId) -> Grant
     if !image.holds(co.co) {
         return Grant::NotYet;
     }
-    let woken = image.granted(co.co);
-    Grant::Granted(named_in(image, woken))
+    let next = image.granted(co.co);
+    let woken = named_in(image, next);
+    let first = image.piece(co.co, request, buffer);
+    Grant::Granted(woken, first)
 }
 
 /// Serves the next piece of the stream's request.

@@ -6,11 +6,12 @@
 //! What a resume does is told by the stream's state (`At`). Between two lines it looks for the next one: it answers a delay
 //! with Sleep and a move with Move, passes the gate before a request and enters it, and retires where no line is left. A
 //! request that was entered is served, or waits for its hold, or has its reply where it is refused. It is served piece by
-//! piece, one a resume. Then it leaves, and the stream is between two lines again. At the end the stream has gone.
+//! piece, one a resume. If it waited, the resume that takes up its hold serves the first. Then it leaves, and the stream is
+//! between two lines again. At the end the stream has gone.
 //!
 //! To enter, to take up a hold, to serve a piece, to leave and to retire are turns at the lock (`turns`): the pass gets the
-//! lock, makes one call on the image, and gives the lock back. A pass that doesn't get the lock is queued, and the same turn
-//! goes on at the next resume.
+//! lock, makes one call on the image, and gives the lock back. Taking up a hold makes two: the hold is taken up, and the
+//! first piece is served. A pass that doesn't get the lock is queued, and the same turn goes on at the next resume.
 //!
 //! The image is the guard's in a turn, and lies in the lock between turns. The stream's hold lasts from turn to turn.
 //!

@@ -8,9 +8,9 @@ pub enum At {
     Between,
     /// The gate was passed, and the request is to be entered.
     Entering(Passed),
-    /// The request was entered, and waits for its hold.
+    /// The request was entered, and waits for its hold. Where it has it, the hold is taken up and a piece is served.
     Waiting,
-    /// A piece is served.
+    /// The next piece is served.
     Serving,
     /// The request was served whole, or failed, and is to leave.
     Ended,

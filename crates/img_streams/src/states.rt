@@ -55,7 +55,8 @@ impl<P: LockRule> Stream<P> {
         }
     }
 
-    /// Goes on after the hold was looked for. Names whom the image woke, and the coroutine itself where it has its hold.
+    /// Goes on after the hold was looked for, and after the first piece where it was granted. Names whom the image woke, and
+    /// the coroutine itself where it has its hold.
     fn go_on_taken_up(&mut self, answer: Grant) -> (Option<CoId>, Option<CoId>)
         requires at { self.old.at ≡ Waiting }
         ensures moves { MovesOn (TookUp answer) self.old self.new }
@@ -64,10 +65,7 @@ impl<P: LockRule> Stream<P> {
     {
         match answer {
             Grant::NotYet => (None, None),
-            Grant::Granted(woken) => {
-                self.at = At::Serving;
-                (woken, Some(self.co))
-            }
+            Grant::Granted(woken, first) => (woken, self.go_on_served(first)),
         }
     }
 
@@ -124,7 +122,7 @@ impl<D: Device> Stream<ImageRule<D>> {
         }
     }
 
-    /// Looks whether the stream has its hold, and takes it up.
+    /// Looks whether the stream has its hold. Takes it up then, and serves the first piece.
     pub(crate) fn take_up<G: Gate, R: Wait>(
         &mut self,
         env: &ServeEnv<'_, D, G, R>,
@@ -136,7 +134,16 @@ impl<D: Device> Stream<ImageRule<D>> {
         ensures of { IsStreamOf D.bytes self.new (source env.now.lock.now env.now.script.now) }
         ensures resumes { Resumes D.bytes self.old (source env.now.lock.now env.now.script.now) cx.new result self.new }
     {
-        match turns::take_up(env.rt, env.lock, &mut self.pass, self.queued, self.co) {
+        let request = request_at(env.script.lines.as_slice(), self.line);
+        match turns::take_up(
+            env.rt,
+            env.lock,
+            &mut self.pass,
+            self.queued,
+            self.co,
+            request,
+            self.buffer.as_mut_slice(),
+        ) {
             Visit::Waits(named) => {
                 self.queued = true;
                 ask(cx, named, None, None);

@@ -1,11 +1,12 @@
-//! What a stream does in one turn at the lock: it takes the lock, makes one call on the image, and gives the lock back.
+//! What a stream does in one turn at the lock: it takes the lock, makes one call on the image, and gives the lock back. A
+//! stream that takes up its hold is served a piece in the same turn.
 ghost use Rattle.std.specs.Prelude.{◌≡◌, ◌<◌, ◌^◌, length, ℕ, List};
 ghost use Rattle.aio_model.specs.Serving.{length_of};
 ghost use Rattle.img_requests.specs.Pieces.{HasRoom};
 ghost use Rattle.img_shared.specs.declared.phases.Phase.TheVariants.{Idle};
 ghost use Rattle.img_shared.specs.Calls.{Enters, IsServing, Serves};
-ghost use Rattle.img_shared.specs.Phases.{done_in, phase_at, CanLeave, IsWaiting};
-ghost use Rattle.img_streams.specs.ImageCalls.{come_to, TakesUp, LeavesSo, Retires};
+ghost use Rattle.img_shared.specs.Phases.{done_in, phase_at, CanLeave};
+ghost use Rattle.img_streams.specs.ImageCalls.{come_to, IsWaitingFor, TakesUp, LeavesSo, Retires};
 ghost use Rattle.img_streams.specs.Own.{own_note, IsOf, Turned, OnDid, OnWaits};
 ghost use Rattle.img_streams.specs.Steps.{IsEntered, IsTakenUp, IsServed, HasLeft, HasRetired};
 
@@ -49,23 +50,27 @@ pub fn enter<D: Device, R: Wait>(
     }
 }
 
-/// Takes up the stream's hold, if it was granted.
+/// Takes up the stream's hold, if it was granted, and serves the first piece of its request.
 pub fn take_up<D: Device, R: Wait>(
     rt: &R,
     lock: &CoMutex<ImageRule<D>>,
     pass: &mut Pass<ImageRule<D>>,
     queued: bool,
     co: CoId,
+    request: &Request,
+    buffer: &mut [u8],
 ) -> Visit<Grant>
     requires of { IsOf D.bytes lock.now pass.old co.co queued }
-    requires waits { IsWaiting (own_note D.bytes lock.now pass.old).phase }
-    ensures turn { Turned D.bytes lock.now (λ answer found left. TakesUp co answer found left) co queued pass.old result pass.new }
-    ensures taken { OnDid result (λ answer. IsTakenUp D.bytes co.co (own_note D.bytes lock.now pass.old) answer (own_note D.bytes lock.now pass.new)) }
+    requires waits { IsWaitingFor (own_note D.bytes lock.now pass.old).phase co.co request.now }
+    requires room { HasRoom request.now buffer.old }
+    ensures turn { Turned D.bytes lock.now (λ answer found left. TakesUp D.bytes co request.now buffer.old buffer.new answer found left) co queued pass.old result pass.new }
+    ensures same { OnWaits result (buffer.new ≡ buffer.old) }
+    ensures taken { OnDid result (λ answer. IsTakenUp D.bytes co.co request.now (own_note D.bytes lock.now pass.old) buffer.old answer (own_note D.bytes lock.now pass.new) buffer.new) }
 {
     match reach(rt, lock, pass, queued, co) {
         Lock::Queued(named) => Visit::Waits(named),
         Lock::Held(mut guard) => {
-            let answer = image_calls::take_up(guard.value(), co);
+            let answer = image_calls::take_up(guard.value(), co, request, buffer);
             Visit::Did(answer, lock.unlock(rt, pass, guard))
         }
     }

@@ -1,5 +1,5 @@
 use Rattle.std.proofs.Common.{◌≡◌, ◌∙◌, ◌++◌, [], length, true, false, ap, inl, refl, sym, subst, arith}
-use Rattle.img_streams.specs.Deeds.{listed, asks}
+use Rattle.img_streams.specs.Deeds.{Served, listed, asks}
 use Rattle.img_streams.specs.Streams.{source}
 use Rattle.img_streams.proofs.Entering.{line_of, waits_resumes, hand_asks}
 use Rattle.std.specs.Vec.{with_items}
@@ -62,7 +62,7 @@ returns-in-Did-clause-resumes g c =
     let is : (with_items old.buffer c.serve.new.buffer).items ≡ c.serve.new.buffer = with_items_is old.buffer c.serve.new.buffer fits in
     served_resumes g.D.Device.bytes old of c.requires.of c.requires.at request line c.go_on_served-itself.new.self (record old { buffer = with_items old.buffer c.serve.new.buffer }) c.serve.new.pass
     c.in-Did.answer c.in-Did.named c.ask-in-Did.new.cx
-    (calls_at g.D.Device.bytes c.args.env.now.lock.now old.co request c.in-Did.answer c.in-Did.named old.pass c.serve.new.pass
+    (calls_at g.D.Device.bytes c.args.env.now.lock.now old.co request (Served c.in-Did.answer) c.in-Did.named old.pass c.serve.new.pass
     c.as_mut_slice.result.now old.buffer.items c.serve.new.buffer (with_items old.buffer c.serve.new.buffer).items c.as_mut_slice.ensures.value is c.in-Did.ensures.turn)
     c.go_on_served-itself.ensures.moves
     (c.ask-in-Did.ensures ∙ ap (λ (who : _). asks (listed c.in-Did.named ++ [] ++ listed who) false) c.go_on_served-itself.ensures.itself)
