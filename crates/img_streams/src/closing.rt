@@ -22,7 +22,7 @@ pub fn settle<D: Device>(lock: CoMutex<ImageRule<D>>, passes: Vec<Pass<ImageRule
         → ShowsRetired D.bytes lines size ids rows (built_of lock) result }
     ensures untouched { AreUnused passes.items → result ≡ built_of lock }
 {
-    lock.close(passes)
+    lock.close(passes).into_image()
 }
 
 impl<D: Device> Stream<ImageRule<D>> {

@@ -11,6 +11,7 @@ ghost use Rattle.img_shared.specs.Phases.{phase_at, done_in, CanLeave};
 ghost use Rattle.img_streams.specs.ImageCalls.{come_to, coroutine_of, IsWaitingFor, TakesUp, LeavesSo, Retires, OnGranted};
 
 use crate::answers::Grant;
+use crate::boxed::BoxedImage;
 use aio_model::Request;
 use aio_words::Device;
 use co_state::CoId;
@@ -31,7 +32,7 @@ fn named_in<D: Device>(image: &Image<D>, woken: Option<u32>) -> Option<CoId>
 }
 
 /// Enters the stream's next request.
-pub(crate) fn enter<D: Device>(image: &mut Image<D>, co: CoId, request: &Request) -> Enter
+pub(crate) fn enter<D: Device>(image: &mut BoxedImage<D>, co: CoId, request: &Request) -> Enter
     requires known { co.co < length image.old.requests }
     requires free { phase_at image.old.phases co.co ≡ Idle }
     requires due { entries_of co.co image.old.journal < slice_index image.old.requests co.co }
@@ -41,13 +42,13 @@ pub(crate) fn enter<D: Device>(image: &mut Image<D>, co: CoId, request: &Request
     ensures inside { OnBegun result (IfSome (D.bytes image.old.device) (λ told. end_of request.now ≤ length told)) }
     ensures others { SameNotes D.bytes co.co image.old image.new }
 {
-    image.come(co.co, co.home);
-    image.enter(co.co, request)
+    image.image.come(co.co, co.home);
+    image.image.enter(co.co, request)
 }
 
 /// Takes up the stream's hold, if it was granted, and serves the first piece of its request.
 pub(crate) fn take_up<D: Device>(
-    image: &mut Image<D>,
+    image: &mut BoxedImage<D>,
     co: CoId,
     request: &Request,
     buffer: &mut [u8],
@@ -60,19 +61,20 @@ pub(crate) fn take_up<D: Device>(
     ensures inside { OnGranted result (IfSome (D.bytes image.old.device) (λ told. image.old.size ≤ length told)) }
     ensures others { SameNotes D.bytes co.co image.old image.new }
 {
-    image.come(co.co, co.home);
-    if !image.holds(co.co) {
+    let shared = &mut *image.image;
+    shared.come(co.co, co.home);
+    if !shared.holds(co.co) {
         return Grant::NotYet;
     }
-    let next = image.granted(co.co);
-    let woken = named_in(image, next);
-    let first = image.piece(co.co, request, buffer);
+    let next = shared.granted(co.co);
+    let woken = named_in(shared, next);
+    let first = shared.piece(co.co, request, buffer);
     Grant::Granted(woken, first)
 }
 
 /// Serves the next piece of the stream's request.
 pub(crate) fn serve<D: Device>(
-    image: &mut Image<D>,
+    image: &mut BoxedImage<D>,
     co: CoId,
     request: &Request,
     buf: &mut [u8],
@@ -83,30 +85,30 @@ pub(crate) fn serve<D: Device>(
     ensures served { Serves D.bytes co.co request.now (done_in (phase_at image.old.phases co.co)) result (come_to co image.old) image.new buf.old buf.new }
     ensures others { SameNotes D.bytes co.co image.old image.new }
 {
-    image.come(co.co, co.home);
-    image.piece(co.co, request, buf)
+    image.image.come(co.co, co.home);
+    image.image.piece(co.co, request, buf)
 }
 
 /// Gives the stream's request its place, and answers whom to wake.
-pub(crate) fn leave<D: Device>(image: &mut Image<D>, co: CoId) -> Option<CoId>
+pub(crate) fn leave<D: Device>(image: &mut BoxedImage<D>, co: CoId) -> Option<CoId>
     requires known { co.co < length image.old.requests }
     requires ended { CanLeave (phase_at image.old.phases co.co) }
     ensures left { LeavesSo co result image.old image.new }
     ensures others { SameNotes D.bytes co.co image.old image.new }
 {
-    image.come(co.co, co.home);
-    let woken = image.leave(co.co).woken;
-    named_in(image, woken)
+    image.image.come(co.co, co.home);
+    let woken = image.image.leave(co.co).woken;
+    named_in(&image.image, woken)
 }
 
 /// Retires the stream, and answers how many haven't retired yet.
-pub(crate) fn retire<D: Device>(image: &mut Image<D>, co: CoId) -> u32
+pub(crate) fn retire<D: Device>(image: &mut BoxedImage<D>, co: CoId) -> u32
     requires known { co.co < length image.old.requests }
     requires free { phase_at image.old.phases co.co ≡ Idle }
     requires all { entries_of co.co image.old.journal ≡ slice_index image.old.requests co.co }
     ensures retired { Retires co result image.old image.new }
     ensures others { SameNotes D.bytes co.co image.old image.new }
 {
-    image.come(co.co, co.home);
-    image.retire(co.co)
+    image.image.come(co.co, co.home);
+    image.image.retire(co.co)
 }

@@ -20,6 +20,7 @@
 #![tactic(auto)]
 
 mod answers;
+mod boxed;
 mod buffers;
 mod closing;
 mod gate;
@@ -35,6 +36,7 @@ pub mod turns;
 mod wakes;
 
 pub use answers::{Grant, Visit};
+pub use boxed::BoxedImage;
 pub use closing::settle;
 pub use gate::Passed;
 pub use progress::At;

@@ -1,7 +1,7 @@
 //! What the lock of an image notes of each stream.
+use crate::boxed::BoxedImage;
 use aio_words::Device;
 use co_mutex::LockRule;
-use img_shared::Image;
 use std::marker::{Model, PhantomData};
 
 /// What an image says of a stream. No value of it is ever made: only contracts see it.
@@ -28,7 +28,7 @@ pub struct ImageRule<D: Device> {
 impl<D: Device> LockRule for ImageRule<D> {
     ghost use Rattle.img_shared.specs.Notes.{note};
 
-    type Value = Image<D>;
+    type Value = BoxedImage<D>;
 
     type Note = StreamNote<D>;
 

@@ -12,7 +12,7 @@ use aio_words::Device;
 use co_mutex::{CoMutex, LockRule, Pass};
 use co_state::CoId;
 use img_shared::Image;
-use img_streams::{ImageRule, Room, Stream, StreamCo};
+use img_streams::{BoxedImage, ImageRule, Room, Stream, StreamCo};
 use std::alloc::Global;
 use std::collections::VecDeque;
 
@@ -119,11 +119,12 @@ pub fn begin<D: Device>(
         return Err(Unmade { back: device });
     };
     let image = Image::build(alloc, device, script.image, rooms.counts.as_slice())?;
+    let image = BoxedImage::build(alloc, image)?;
     let many = script.streams.as_slice().len() as u32;
     match CoMutex::<ImageRule<D>>::build(alloc, image, many.max(1)) {
         Ok((lock, passes)) => Ok(deal(script, lock, passes, rooms)),
         Err(unmade) => Err(Unmade {
-            back: unmade.back.into_device(),
+            back: unmade.back.into_image().into_device(),
         }),
     }
 }
