@@ -8,7 +8,7 @@ use Rattle.co_mutex.specs.declared.lock.CoMutex.{CoMutex}
 use Rattle.img_shared.specs.Images.{ImageState}
 use Rattle.img_shared.specs.Notes.{Note}
 use Rattle.img_streams.specs.declared.stream.Stream.{Stream}
-use Rattle.img_streams.specs.Streams.{IsStreamOf, source}
+use Rattle.img_streams.specs.Streams.{IsStreamAt, source}
 use Rattle.stream_ends.specs.Stops.{HasStopped}
 use Rattle.aio_run.specs.Berths.{AllOf, AreBerthed}
 
@@ -59,4 +59,4 @@ module _ {P D : Type 0} (bytes : D → Option (List ℕ)) (script : Script) (loc
 
   pub of_unset : (cos : List (Option (Stream P (ImageState D) (Note D)))) (at : ℕ) → at < length cos → AllOf bytes script lock cos → AllOf bytes script lock (slice_set cos at None)
   of_unset cos at below are =
-      there_unset (λ k co. IsStreamOf bytes co (source lock script)) cos at below are
+      there_unset (λ k co. IsStreamAt bytes k co (source lock script)) cos at below are

@@ -27,21 +27,21 @@ all_of_places P [] each = tt
 all_of_places P (x ∷ xs) each =
     (each 0 x (omega arith), all_of_places P xs (λ k d below. each (suc k) d (omega arith)))
 
-module _ {C K O : Type 0} (is_of : C → O → Type 0) (does : List (LoopShared C O) → CoWork C K O → LoopState C O → Bool → CoWork C K O → LoopState C O → Type 0)
+module _ {C K O : Type 0} (is_of : ℕ → C → O → Type 0) (does : List (LoopShared C O) → CoWork C K O → LoopState C O → Bool → CoWork C K O → LoopState C O → Type 0)
     (origin : O) (shared : List (LoopShared C O)) (of : AreOf origin shared) where
   -- the coroutines that have ended on a loop that was carried are of the loops' origin
-  pub ended_of : (row : Row C O) (part : Part C (CoWork C K O) O) (member : Member C (CoWork C K O) O) → Runs (CanWork is_of) does shared row part member → (k : ℕ) (co : C) → slice_index_or member.work.crew.ended.items k None ≡ Some co → is_of co origin
+  pub ended_of : (row : Row C O) (part : Part C (CoWork C K O) O) (member : Member C (CoWork C K O) O) → Runs (CanWork is_of) does shared row part member → (k : ℕ) (co : C) → slice_index_or member.work.crew.ended.items k None ≡ Some co → is_of k co origin
   ended_of row part member runs k co there =
       let last = runs.last in
       let can = runs.carried.comes.part.ready in
       let crew = can.fits.is_crew in
       let same : last.work.crew.store.origin ≡ origin = sym (crew.of last.work.crew.own (at_place shared last.work.crew.own crew.own) crew.own) ∙ of last.work.crew.own (at_place shared last.work.crew.own crew.own) crew.own in
-      subst (is_of co) same (crew.ended_of k co (sym (ap (λ (w : CoWork C K O). slice_index_or w.crew.ended.items k None) runs.is.work_is) ∙ there))
+      subst (is_of k co) same (crew.ended_of k co (sym (ap (λ (w : CoWork C K O). slice_index_or w.crew.ended.items k None) runs.is.work_is) ∙ there))
 
   module _ (homes : List (Homes C O)) (hands : List (Hand (CoWork C K O))) (began : Row C O) (ends : List (LoopRun C (CoWork C K O) O)) (are : AreRun (CanWork is_of) does shared homes hands began ends) where
-    pub all_ended_of : AllByRecursion (λ run. (k : ℕ) (co : C) → slice_index_or run.work.crew.ended.items k None ≡ Some co → is_of co origin) ends
+    pub all_ended_of : AllByRecursion (λ run. (k : ℕ) (co : C) → slice_index_or run.work.crew.ended.items k None ≡ Some co → is_of k co origin) ends
     all_ended_of =
-        all_of_places (λ (run : LoopRun C (CoWork C K O) O). (k : ℕ) (co : C) → slice_index_or run.work.crew.ended.items k None ≡ Some co → is_of co origin) ends
+        all_of_places (λ (run : LoopRun C (CoWork C K O) O). (k : ℕ) (co : C) → slice_index_or run.work.crew.ended.items k None ≡ Some co → is_of k co origin) ends
         (λ k r below j co there.
         let n = length shared in
         let parts = are.carried.parts in

@@ -72,7 +72,7 @@ module _ {C O : Type 0} where
   stands_own part history first count e f made =
       ap (λ (n : Numbers). own_entries seat_of n history) (sym (numbers_are part.coroutines.known first count e f)) ∙ made
 
-module _ {C K O : Type 0} (E R : Type 0) (is_of : C → O → Type 0) (resumes : C → O → Asked → CoStep → C → Type 0) (time : K → ℕ) (shared : List (LoopShared C O)) where
+module _ {C K O : Type 0} (E R : Type 0) (is_of : ℕ → C → O → Type 0) (resumes : C → O → Asked → CoStep → C → Type 0) (time : K → ℕ) (shared : List (LoopShared C O)) where
   turns_keep : (turns : List (Part C (CoWork C K O) O)) (before after : Part C (CoWork C K O) O) → TakesTurns (CanWork is_of) (Works E R is_of resumes time) shared turns before after → map begun_by after.row.seats.items ≡ map begun_by before.row.seats.items
   turns_keep [] before after same = ap (λ (p : Part C (CoWork C K O) O). map begun_by p.row.seats.items) same
   turns_keep (mid ∷ older) before after takes =

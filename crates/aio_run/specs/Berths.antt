@@ -5,14 +5,14 @@ use Rattle.co_mutex.specs.declared.lock.CoMutex.{CoMutex}
 use Rattle.img_shared.specs.Images.{ImageState}
 use Rattle.img_shared.specs.Notes.{Note}
 use Rattle.img_streams.specs.declared.stream.Stream.{Stream}
-use Rattle.img_streams.specs.Streams.{IsStreamOf, source}
+use Rattle.img_streams.specs.Streams.{IsStreamAt, source}
 use Rattle.stream_ends.specs.Stops.{HasStopped}
 
 module _ {P D : Type 0} (bytes : D → Option (List ℕ)) (script : Script) (lock : CoMutex P (ImageState D) (Note D)) where
-  -- each coroutine that is there is of the lock and the script
+  -- each coroutine that is there is of the lock and the script, and has the number of its place
   abbrev pub AllOf : List (Option (Stream P (ImageState D) (Note D))) → Type 0
   AllOf cos =
-      (k : ℕ) (co : Stream P (ImageState D) (Note D)) → slice_index_or cos k None ≡ Some co → IsStreamOf bytes co (source lock script)
+      (k : ℕ) (co : Stream P (ImageState D) (Note D)) → slice_index_or cos k None ≡ Some co → IsStreamAt bytes k co (source lock script)
 
   -- each that has come to its place is that of the stream line of this number, and has retired
   pub record AreBerthed (berths : List (Option (Stream P (ImageState D) (Note D)))) : Type 0 where

@@ -4,7 +4,7 @@ ghost use Rattle.aio_model.specs.declared.causes.Cause.TheVariants.{Begin};
 ghost use Rattle.aio_model.specs.CoroutineHistory.{Schedule, Push};
 ghost use Rattle.co_loop.specs.Rows.{AreOf};
 ghost use Rattle.co_schedule.specs.Standing.{was_scheduled};
-ghost use Rattle.img_streams.specs.Streams.{IsStreamOf, source};
+ghost use Rattle.img_streams.specs.Streams.{IsStreamAt, source};
 ghost use Rattle.loop_rows.specs.declared.shared.LoopShared.{LoopShared};
 ghost use Rattle.loop_rows.specs.declared.seats.Seats.{Seats};
 ghost use Rattle.loop_rows.specs.Rows.{IsRow, HasNumbers};
@@ -34,7 +34,7 @@ fn post_one<D: Device, R: Wait>(
     requires row { IsRow shared.now row.old × HasNumbers 0 64 row.old }
     requires to { to < length shared.now }
     requires below { (t : LoopShared _ _) → co < (slice_index_or shared.now to t).coroutines.coroutines }
-    requires of { (t : LoopShared _ _) → IsStreamOf D.bytes stream (slice_index_or shared.now to t).coroutines.origin }
+    requires of { (t : LoopShared _ _) → IsStreamAt D.bytes co stream (slice_index_or shared.now to t).coroutines.origin }
     requires fresh { (s : Seats _ _) → was_scheduled co (slice_index_or row.old.seats.items to s).coroutines.known.mine ≡ false }
     ensures row { IsRow shared.now row.new × HasNumbers 0 64 row.new }
     ensures others { OthersStay to row.old.seats.items row.new.seats.items }

@@ -2,7 +2,7 @@
 ghost use Rattle.std.specs.Prelude.{◌≡◌, ◌≤◌, IfOk, IfErr, vec_len};
 ghost use Rattle.aio_script.specs.Bounds.{IsBounded};
 ghost use Rattle.co_loop.specs.Working.{CanWork};
-ghost use Rattle.img_streams.specs.Streams.{IsStreamOf, source};
+ghost use Rattle.img_streams.specs.Streams.{IsStreamAt, source};
 ghost use Rattle.stream_ends.specs.Starts.{HaveStarted};
 ghost use Rattle.stream_ends.specs.Images.{device_behind};
 ghost use Rattle.aio_run.specs.Readiness.{AreOpen, ArePosted, IsReady};
@@ -40,8 +40,8 @@ fn post_streams<D: Device, K: Clock + Drop, R: Wait>(
 ) -> Loops<StreamCo<D>, K>
     requires bounded { IsBounded script.now }
     requires started { HaveStarted D.bytes script.now lock.now streams.items }
-    requires open { AreOpen (CanWork (λ c o. IsStreamOf D.bytes c o)) script.now (source lock.now script.now) loops }
-    ensures { ArePosted (CanWork (λ c o. IsStreamOf D.bytes c o)) script.now (source lock.now script.now) result }
+    requires open { AreOpen (CanWork (λ k c o. IsStreamAt D.bytes k c o)) script.now (source lock.now script.now) loops }
+    ensures { ArePosted (CanWork (λ k c o. IsStreamAt D.bytes k c o)) script.now (source lock.now script.now) result }
 {
     let Loops {
         opened,
@@ -79,7 +79,7 @@ pub fn prepare<D: Device + Drop, K: Clock + Drop, R: Wait>(
     requires bounded { IsBounded script.now }
     requires fits { script.now.image ≤ D.extent device }
     requires clocks { vec_len clocks ≡ script.now.loops }
-    ensures ready { IfOk result (λ ready. IsReady (CanWork (λ c o. IsStreamOf D.bytes c o)) script.now (λ lock. source lock script.now) ready) }
+    ensures ready { IfOk result (λ ready. IsReady (CanWork (λ k c o. IsStreamAt D.bytes k c o)) script.now (λ lock. source lock script.now) ready) }
     ensures behind { IfOk result (λ ready. device_behind ready.lock ≡ device) }
     ensures unmade { IfErr result (λ unmade. unmade.back ≡ device) }
 {

@@ -7,7 +7,7 @@ ghost use Rattle.aio_words.specs.Called.{failures_in, sizes_asked};
 ghost use Rattle.aio_words.specs.Faults.{HasRisenBy};
 ghost use Rattle.co_loop.specs.Rows.{AreOf};
 ghost use Rattle.co_loop.specs.Working.{CanWork};
-ghost use Rattle.img_streams.specs.Streams.{IsStreamOf, source};
+ghost use Rattle.img_streams.specs.Streams.{IsStreamAt, source};
 ghost use Rattle.loop_rows.specs.Opening.{HomesEach};
 ghost use Rattle.loop_rows.specs.Rows.{IsRow, HasNumbers};
 ghost use Rattle.loop_rows.specs.Stepping.{CoroutinesStay};
@@ -191,7 +191,7 @@ fn carry_streams<
     requires of { AreOf (source env.now.lock.now env.now.script.now) opened.shared.items }
     requires tables { HaveCoroutines (coroutines_of env.now.script.now) opened.shared.items × HaveSizes opened.shared.items }
     requires homes { (vec_len opened.homes ≡ length opened.shared.items) × HomesEach (length opened.shared.items) opened.shared.items opened.homes.items }
-    requires hands { (vec_len hands ≡ length opened.shared.items) × CanBeginEach (CanWork (λ c o. IsStreamOf D.bytes c o)) opened.shared.items opened.homes.items hands.items }
+    requires hands { (vec_len hands ≡ length opened.shared.items) × CanBeginEach (CanWork (λ k c o. IsStreamAt D.bytes k c o)) opened.shared.items opened.homes.items hands.items }
     requires reserved { IsReserved (length opened.shared.items) reserved }
     requires row { IsRow opened.shared.items opened.row × HasNumbers 0 64 opened.row }
     requires some { 0 < length opened.shared.items }
@@ -213,7 +213,7 @@ fn serve_streams<
     R: Threads + Wait + Sync,
 >(env: &ServeEnv<'_, D, G, R>, loops: Loops<StreamCo<D>, K>) -> Gathered<StreamCo<D>>
     requires bounded { IsBounded env.now.script.now }
-    requires posted { ArePosted (CanWork (λ c o. IsStreamOf D.bytes c o)) env.now.script.now (source env.now.lock.now env.now.script.now) loops }
+    requires posted { ArePosted (CanWork (λ k c o. IsStreamAt D.bytes k c o)) env.now.script.now (source env.now.lock.now env.now.script.now) loops }
     ensures streams { HaveStopped D.bytes env.now.script.now env.now.lock.now result.streams.items }
     ensures ends { (length result.ends.items ≡ env.now.script.now.loops) × AllByRecursion (λ end. IsOver (coroutines_of env.now.script.now) end.calls.known end.coroutines) result.ends.items }
     ensures served { (k : ℕ) (end : RunEnd _ _) → k < env.now.script.now.loops → HasServed env.now.script.now k (slice_index_or result.ends.items k end).coroutines.history }
@@ -242,7 +242,7 @@ pub fn run<D: Device + Send, K: Clock + Drop + Send, G: Gate + Sync, R: Threads 
 ) -> Outcome<D, StreamCo<D>>
     requires bounded { IsBounded script.now }
     requires fits { script.now.image ≤ D.extent (device_behind prepared.lock) }
-    requires ready { IsReady (CanWork (λ c o. IsStreamOf D.bytes c o)) script.now (λ lock. source lock script.now) prepared }
+    requires ready { IsReady (CanWork (λ k c o. IsStreamAt D.bytes k c o)) script.now (λ lock. source lock script.now) prepared }
     ensures serves { IsServed script.now (D.bytes (device_behind prepared.lock)) (D.bytes result.device) result.served.items }
     ensures few { length result.served.items ≤ 4096 }
     ensures loops { (length result.loops.items ≡ script.now.loops) × AllByRecursion (λ end. IsOver (coroutines_of script.now) end.calls.known end.coroutines) result.loops.items }

@@ -20,7 +20,7 @@ impl Countdown {
 impl Origin for Countdown {
     type Source = ();
 
-    ghost is_of = { λ _ _. Unit {0} };
+    ghost is_of = { λ _ _ _. Unit {0} };
 }
 
 impl Co<()> for Countdown {

@@ -25,8 +25,8 @@ not_kept co leaving k left none is =
 
 module _ {C O : Type 0} where
   -- what is the same, and what isn't, of a crew that stays one
-  crew_from : (is_of : C → O → Type 0) (shared : List (LoopShared C O)) (before after : Crew C O) → SameCrew before after → after.woken ≡ before.woken → after.seats ≡ before.seats → after.naps ≡ before.naps → after.leaving ≡ before.leaving → after.store.origin ≡ before.store.origin
-      → AreKept is_of (length shared) after.store before.leaving.items → length after.ended.items ≡ before.coroutines → ((k : ℕ) (co : C) → slice_index_or after.ended.items k None ≡ Some co → is_of co before.store.origin) → IsCrew is_of shared before → IsCrew is_of shared after
+  crew_from : (is_of : ℕ → C → O → Type 0) (shared : List (LoopShared C O)) (before after : Crew C O) → SameCrew before after → after.woken ≡ before.woken → after.seats ≡ before.seats → after.naps ≡ before.naps → after.leaving ≡ before.leaving → after.store.origin ≡ before.store.origin
+      → AreKept is_of (length shared) after.store before.leaving.items → length after.ended.items ≡ before.coroutines → ((k : ℕ) (co : C) → slice_index_or after.ended.items k None ≡ Some co → is_of k co before.store.origin) → IsCrew is_of shared before → IsCrew is_of shared after
   crew_from is_of shared before after same woken seats naps leaving origin kept ended ended_of was =
       let back = sym same.coroutines in
       record {
@@ -39,14 +39,14 @@ module _ {C O : Type 0} where
         leaving = ap (λ (v : _). length v.items) leaving ∙ was.leaving ∙ back;
         ended = ended ∙ back;
         kept = subst (λ (v : _). AreKept is_of (length shared) after.store v.items) (sym leaving) kept;
-        ended_of = λ k co is. subst (is_of co) (sym origin) (ended_of k co is);
+        ended_of = λ k co is. subst (is_of k co) (sym origin) (ended_of k co is);
       }
 
-  ended_set : (is_of : C → O → Type 0) (o : O) (ended : List (Option C)) (co : ℕ) (state : C) → co < length ended → is_of state o → ((k : ℕ) (c : C) → slice_index_or ended k None ≡ Some c → is_of c o) → (k : ℕ) (c : C) → slice_index_or (slice_set ended co (Some state)) k None ≡ Some c → is_of c o
+  ended_set : (is_of : ℕ → C → O → Type 0) (o : O) (ended : List (Option C)) (co : ℕ) (state : C) → co < length ended → is_of co state o → ((k : ℕ) (c : C) → slice_index_or ended k None ≡ Some c → is_of k c o) → (k : ℕ) (c : C) → slice_index_or (slice_set ended co (Some state)) k None ≡ Some c → is_of k c o
   ended_set is_of o ended co state lt of was k =
-      at_set (λ (j : ℕ) (x : Option C). (c : C) → x ≡ Some c → is_of c o) ended co (Some state) lt (λ c h. let same : state ≡ c = cc in subst (λ (x : C). is_of x o) same of) k None (λ _. was k)
+      at_set (λ (j : ℕ) (x : Option C). (c : C) → x ≡ Some c → is_of j c o) ended co (Some state) lt (λ c h. let same : state ≡ c = cc in subst (λ (x : C). is_of co x o) same of) k None (λ _. was k)
 
-  pub crew_admitted : (is_of : C → O → Type 0) (shared : List (LoopShared C O)) (before after : Crew C O) (co : ℕ) (state : C) → co < before.coroutines → is_of state before.store.origin → SameCrew before after → Admits co state (far before) (far after)
+  pub crew_admitted : (is_of : ℕ → C → O → Type 0) (shared : List (LoopShared C O)) (before after : Crew C O) (co : ℕ) (state : C) → co < before.coroutines → is_of co state before.store.origin → SameCrew before after → Admits co state (far before) (far after)
       → after.woken ≡ before.woken → after.seats ≡ before.seats → after.naps ≡ before.naps → after.leaving ≡ before.leaving → IsCrew is_of shared before → IsCrew is_of shared after × (after.store.origin ≡ before.store.origin)
   crew_admitted is_of shared before after co state below of same admits woken seats naps leaving was = by (is_refused co (far before)) refl admits
     where
@@ -58,7 +58,7 @@ module _ {C O : Type 0} where
             crew_from is_of shared before after same woken seats naps leaving origin
                 (subst (λ s. AreKept is_of (length shared) s before.leaving.items) (sym store_is) was.kept)
                 (ap length ended_is ∙ length-set before.ended.items co (Some state) ∙ was.ended)
-                (subst (λ (l : List (Option C)). (k : ℕ) (c : C) → slice_index_or l k None ≡ Some c → is_of c before.store.origin) (sym ended_is) (ended_set is_of before.store.origin before.ended.items co state (subst (λ n. co < n) (sym was.ended) below) of was.ended_of))
+                (subst (λ (l : List (Option C)). (k : ℕ) (c : C) → slice_index_or l k None ≡ Some c → is_of k c before.store.origin) (sym ended_is) (ended_set is_of before.store.origin before.ended.items co state (subst (λ n. co < n) (sym was.ended) below) of was.ended_of))
                 was,
             origin,
           )
@@ -77,7 +77,7 @@ module _ {C O : Type 0} where
                   apart = λ k left h. get_inserted before.store.held co state k ∙ put_apart (eqb k co) (Some state) (map.get before.store.held k) (not_kept co before.leaving.items k left none h) (was.kept.apart k left h);
                 }))
                 (ap length ended_is ∙ was.ended)
-                (subst (λ (l : List (Option C)). (k : ℕ) (c : C) → slice_index_or l k None ≡ Some c → is_of c before.store.origin) (sym ended_is) was.ended_of)
+                (subst (λ (l : List (Option C)). (k : ℕ) (c : C) → slice_index_or l k None ≡ Some c → is_of k c before.store.origin) (sym ended_is) was.ended_of)
                 was,
             origin,
           )

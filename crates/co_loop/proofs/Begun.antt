@@ -9,7 +9,7 @@ use Rattle.co_loop.specs.Crews.{Far}
 use Rattle.co_loop.specs.Drains.{EntersAndDrains}
 use Rattle.co_loop.specs.Begins.{HomeFar, home_far, AdmitsGiven, BeginsOne, BeginsThese}
 
-module _ {C O : Type 0} (is_of : C → O → Type 0) (resumes : C → O → Asked → CoStep → C → Type 0) (own n loops : ℕ) where
+module _ {C O : Type 0} (is_of : ℕ → C → O → Type 0) (resumes : C → O → Asked → CoStep → C → Type 0) (own n loops : ℕ) where
   -- one was begun, and then these
   pub begins_more : (own' n' : ℕ) (now next end : HomeFar C O) → own' ≡ own → n' ≡ n → BeginsOne is_of resumes own' n' loops now next → BeginsThese is_of resumes own n loops next.known.stage.taken next end → BeginsThese is_of resumes own n loops now.known.stage.taken now end
   begins_more own' n' now next end same_own same_n one more =

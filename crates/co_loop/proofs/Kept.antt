@@ -49,28 +49,28 @@ module _ {C : Type 0} where
   kept_is back to state result is holds = subst (λ o. MatchOption o (result ≡ None) (λ co. result ≡ Some (record { to = to; state = co }))) is holds
 
 module _ {C O : Type 0} where
-  pub kept_entered : (is_of : C → O → Type 0) (resumes : C → O → Asked → CoStep → C → Type 0) (loops : ℕ) (before after : Coroutines C O) (leaving : List (Option (Leaving C))) (id : ℕ) (was : C) (asked : Asked) (answer : Entered C) → map.get before.held id ≡ Some was → Enters is_of resumes before after id was asked answer → AreKept is_of loops before leaving → AreKept is_of loops after leaving
+  pub kept_entered : (is_of : ℕ → C → O → Type 0) (resumes : C → O → Asked → CoStep → C → Type 0) (loops : ℕ) (before after : Coroutines C O) (leaving : List (Option (Leaving C))) (id : ℕ) (was : C) (asked : Asked) (answer : Entered C) → map.get before.held id ≡ Some was → Enters is_of resumes before after id was asked answer → AreKept is_of loops before leaving → AreKept is_of loops after leaving
   kept_entered is_of resumes loops before after leaving id was asked answer there enters kept =
       record {
-        of = λ k left is. subst (is_of left.state) (sym (ap (λ (s : Coroutines C O). s.origin) enters.left)) (kept.of k left is);
+        of = λ k left is. subst (is_of k left.state) (sym (ap (λ (s : Coroutines C O). s.origin) enters.left)) (kept.of k left is);
         to = kept.to;
         apart = λ k left is. ap (λ (s : Coroutines C O). map.get s.held k) enters.left ∙ left_none enters.step before.held id was enters.after k there (kept.apart k left is);
       }
 
-  pub one_more_kept : (is_of : C → O → Type 0) (loops : ℕ) (store : Coroutines C O) (leaving : List (Option (Leaving C))) (co to : ℕ) (state : C) (more : Option (Leaving C)) → co < length leaving → to < loops → is_of state store.origin → map.get store.held co ≡ None → more ≡ Some (record { to = to; state = state }) → AreKept is_of loops store leaving → AreKept is_of loops store (slice_set leaving co more)
+  pub one_more_kept : (is_of : ℕ → C → O → Type 0) (loops : ℕ) (store : Coroutines C O) (leaving : List (Option (Leaving C))) (co to : ℕ) (state : C) (more : Option (Leaving C)) → co < length leaving → to < loops → is_of co state store.origin → map.get store.held co ≡ None → more ≡ Some (record { to = to; state = state }) → AreKept is_of loops store leaving → AreKept is_of loops store (slice_set leaving co more)
   one_more_kept is_of loops store leaving co to state more lt there of none is kept =
       record {
-        of = λ k left e. at_set (λ (j : ℕ) (x : Option (Leaving C)). (l : Leaving C) → x ≡ Some l → is_of l.state store.origin) leaving co more lt (λ l h. let same : record { to = to; state = state } ≡ l = cc in subst (λ (x : Leaving C). is_of x.state store.origin) same of) k None (λ _. kept.of k) left e;
+        of = λ k left e. at_set (λ (j : ℕ) (x : Option (Leaving C)). (l : Leaving C) → x ≡ Some l → is_of j l.state store.origin) leaving co more lt (λ l h. let same : record { to = to; state = state } ≡ l = cc in subst (λ (x : Leaving C). is_of co x.state store.origin) same of) k None (λ _. kept.of k) left e;
         to = λ k left e. at_set (λ (j : ℕ) (x : Option (Leaving C)). (l : Leaving C) → x ≡ Some l → l.to < loops) leaving co more lt (λ l h. let same : record { to = to; state = state } ≡ l = cc in subst (λ (x : Leaving C). x.to < loops) same there) k None (λ _. kept.to k) left e;
         apart = λ k left e. at_set (λ (j : ℕ) (x : Option (Leaving C)). (l : Leaving C) → x ≡ Some l → map.get store.held j ≡ None) leaving co more lt (λ l h. none) k None (λ _. kept.apart k) left e;
       }
 
-  pub followable : (is_of : C → O → Type 0) (resumes : C → O → Asked → CoStep → C → Type 0) (before after : Coroutines C O) (id : ℕ) (was : C) (asked : Asked) (answer : Entered C) → Enters is_of resumes before after id was asked answer → IsFollowable is_of id after answer
+  pub followable : (is_of : ℕ → C → O → Type 0) (resumes : C → O → Asked → CoStep → C → Type 0) (before after : Coroutines C O) (id : ℕ) (was : C) (asked : Asked) (answer : Entered C) → Enters is_of resumes before after id was asked answer → IsFollowable is_of id after answer
   followable is_of resumes before after id was asked answer enters =
       subst (IsFollowable is_of id after) (sym enters.answers) (by enters.step (ap (λ (s : Coroutines C O). map.get s.held id) enters.left))
     where
-      of : is_of enters.after after.origin
-      of = subst (is_of enters.after) (sym (ap (λ (s : Coroutines C O). s.origin) enters.left)) enters.of
+      of : is_of id enters.after after.origin
+      of = subst (is_of id enters.after) (sym (ap (λ (s : Coroutines C O). s.origin) enters.left)) enters.of
 
       gone : map.get (map.remove before.held id) id ≡ None
       gone = get_removed before.held id id ∙ ap (λ b. cond b None (map.get before.held id)) (eq-eqb id id refl)

@@ -47,7 +47,7 @@ module _ {C O : Type 0} where
         co_count = ap (λ (s : CoSeatState O). s.known.count) is.same i;
       }
 
-  pub runner_does : (is_of : C → O → Type 0) (resumes : C → O → Asked → CoStep → C → Type 0) (shared : List (LoopShared C O)) (what : LoopEntered) (before after : OnLoop C O) → RunnerDoes is_of resumes shared what before after → numbers after.here.far.seats ≡ numbers before.here.far.seats
+  pub runner_does : (is_of : ℕ → C → O → Type 0) (resumes : C → O → Asked → CoStep → C → Type 0) (shared : List (LoopShared C O)) (what : LoopEntered) (before after : OnLoop C O) → RunnerDoes is_of resumes shared what before after → numbers after.here.far.seats ≡ numbers before.here.far.seats
   runner_does = steps.runner_does numbers_at (λ co. posts co Wake false) (λ co. posts co Move true) finds_marked sets_end
 
   pub posts_each_again : (n : ℕ) (before after : Far C O) → PostsEachAgain n before after → numbers after.seats ≡ numbers before.seats

@@ -66,7 +66,7 @@ pub numbers_by_turn : {R C O : Type 0} (does : R → LoopEntered → R → Type 
 numbers_by_turn {R} does here keeps pool block events n turned time time_after pass pass_after before after turns =
     posts_each_again n _ _ turns.ends.posts ∙ same_by_turn does (λ (r : R). numbers (here r).seats) keeps _ _ _ _ _ _ _ _ before turns.turned_to turns.turns
 
-module _ {C O : Type 0} (is_of : C → O → Type 0) (shared : List (LoopShared C O)) where
+module _ {C O : Type 0} (is_of : ℕ → C → O → Type 0) (shared : List (LoopShared C O)) where
   -- the crew with the row's seats is on the loop, of the origin of what is lent
   pub fits_lent : (source : O) (crew crew_in : Crew C O) (row : Row C O) (home : CoSeatState O) (run : RunState) → AreOf source shared → crew_in ≡ seated crew row → IsOnLoop is_of crew.store.origin shared (seated crew row) home run → IsOnLoop is_of source shared crew_in home run
   fits_lent source crew crew_in row home run lent e fits =
@@ -109,7 +109,7 @@ pub turns_for : {R C O : Type 0} {does : R → LoopEntered → R → Type 0} {he
 turns_for {R} {C} {O} {does} {here} {pool} {block} {events} {n} {m} {turned} {time} {time_after} {pass} {pass_after} {before} {after} e turns =
     subst (λ (k : ℕ). TurnsAndEnds does here pool block events k turned time time_after pass pass_after before after) e turns
 
-module _ {C O : Type 0} (is_of : C → O → Type 0) (origin : O) (shared : List (LoopShared C O)) (loop : LoopState C O) (crew : Crew C O) (run : RunState) where
+module _ {C O : Type 0} (is_of : ℕ → C → O → Type 0) (origin : O) (shared : List (LoopShared C O)) (loop : LoopState C O) (crew : Crew C O) (run : RunState) where
   row_of : CanStart origin shared loop crew run → IsRow crew.coroutines shared loop.row.seats.items
   row_of can =
       let row = can.station.row in

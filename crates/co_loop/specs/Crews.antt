@@ -43,14 +43,14 @@ module _ {C O : Type 0} where
   far crew =
       record { store = crew.store; woken = crew.woken.items; naps = crew.naps.items; leaving = crew.leaving.items; ended = crew.ended.items; done = crew.done; seats = crew.seats.items }
 
-  -- each that is kept is of the origin, for a loop that there is, and isn't in the store
-  pub record AreKept (is_of : C → O → Type 0) (loops : ℕ) (store : Coroutines C O) (leaving : List (Option (Leaving C))) : Type 0 where
-    pub of : (k : ℕ) (left : Leaving C) → slice_index_or leaving k None ≡ Some left → is_of left.state store.origin
+  -- each that is kept is of the origin as its number, for a loop that there is, and isn't in the store
+  pub record AreKept (is_of : ℕ → C → O → Type 0) (loops : ℕ) (store : Coroutines C O) (leaving : List (Option (Leaving C))) : Type 0 where
+    pub of : (k : ℕ) (left : Leaving C) → slice_index_or leaving k None ≡ Some left → is_of k left.state store.origin
     pub to : (k : ℕ) (left : Leaving C) → slice_index_or leaving k None ≡ Some left → left.to < loops
     pub apart : (k : ℕ) (left : Leaving C) → slice_index_or leaving k None ≡ Some left → map.get store.held k ≡ None
 
-  -- the loop is one of these, and all that it keeps has room for the same coroutines, and is of their origin
-  pub record IsCrew (is_of : C → O → Type 0) (shared : List (LoopShared C O)) (crew : Crew C O) : Type 0 where
+  -- the loop is one of these, and all that it keeps has room for the same coroutines, and is of their origin, each as its number
+  pub record IsCrew (is_of : ℕ → C → O → Type 0) (shared : List (LoopShared C O)) (crew : Crew C O) : Type 0 where
     pub own : crew.own < length shared
     pub row : IsRow crew.coroutines shared crew.seats.items
     pub of : AreOf crew.store.origin shared
@@ -60,7 +60,7 @@ module _ {C O : Type 0} where
     pub leaving : length crew.leaving.items ≡ crew.coroutines
     pub ended : length crew.ended.items ≡ crew.coroutines
     pub kept : AreKept is_of (length shared) crew.store crew.leaving.items
-    pub ended_of : (k : ℕ) (co : C) → slice_index_or crew.ended.items k None ≡ Some co → is_of co crew.store.origin
+    pub ended_of : (k : ℕ) (co : C) → slice_index_or crew.ended.items k None ≡ Some co → is_of k co crew.store.origin
 
   -- which loop, and how many coroutines, stay
   pub record SameCrew (before after : Crew C O) : Type 0 where
@@ -92,7 +92,7 @@ module _ {C O : Type 0} where
     pub quits : MatchBool asked.quits (SetsEnds loops woke.seats after.seats × (after ≡ record woke { seats = after.seats })) (after ≡ woke)
 
   -- The coroutine, which was there, was resumed once; what its answer asks for was done, and then what it asked for.
-  pub record Resumes (is_of : C → O → Type 0) (resumes : C → O → Asked → CoStep → C → Type 0) (own n loops co : ℕ) (was : C) (before after : Far C O) : Type 0 where
+  pub record Resumes (is_of : ℕ → C → O → Type 0) (resumes : C → O → Asked → CoStep → C → Type 0) (own n loops co : ℕ) (was : C) (before after : Far C O) : Type 0 where
     pub asked : Asked
     pub answer : Entered C
     pub store : Coroutines C O
@@ -102,6 +102,6 @@ module _ {C O : Type 0} where
     pub carries : CarriesOut own n loops asked stepped after
 
   -- the one that is there was resumed; where none is, nothing was done
-  abbrev pub EntersOne : (C → O → Type 0) → (C → O → Asked → CoStep → C → Type 0) → ℕ → ℕ → ℕ → ℕ → Far C O → Far C O → Type 0
+  abbrev pub EntersOne : (ℕ → C → O → Type 0) → (C → O → Asked → CoStep → C → Type 0) → ℕ → ℕ → ℕ → ℕ → Far C O → Far C O → Type 0
   EntersOne is_of resumes own n loops co before after =
       MatchOption (map.get before.store.held co) (after ≡ before) (λ was. Resumes is_of resumes own n loops co was before after)

@@ -21,7 +21,7 @@ pub record OnLoop (C O : Type 0) : Type 0 where
 module _ {C O : Type 0} where
   -- All of it is of one loop: the home and its run are of that loop's table, with nothing taken that isn't begun, and what is lent is of
   -- the coroutines' origin.
-  pub record IsOnLoop (is_of : C → O → Type 0) (source : O) (shared : List (LoopShared C O)) (crew : Crew C O) (home : SeatState O) (run : RunState) : Type 0 where
+  pub record IsOnLoop (is_of : ℕ → C → O → Type 0) (source : O) (shared : List (LoopShared C O)) (crew : Crew C O) (home : SeatState O) (run : RunState) : Type 0 where
     pub is_crew : IsCrew is_of shared crew
     pub origin : source ≡ crew.store.origin
     pub home_of : (t : LoopShared C O) → IsHomeRun (slice_index_or shared crew.own t).coroutines home run
@@ -37,17 +37,17 @@ module _ {C O : Type 0} where
       record { own = crew.own; coroutines = crew.coroutines; here = home_far (far crew) home.known; is_ended = is_ended }
 
   -- handle 0 takes and begins what was scheduled here, and others do nothing
-  abbrev pub AnswersHandle : (C → O → Type 0) → (C → O → Asked → CoStep → C → Type 0) → ℕ → ℕ → ℕ → ℕ → HomeFar C O → HomeFar C O → Type 0
+  abbrev pub AnswersHandle : (ℕ → C → O → Type 0) → (C → O → Asked → CoStep → C → Type 0) → ℕ → ℕ → ℕ → ℕ → HomeFar C O → HomeFar C O → Type 0
   AnswersHandle is_of resumes own n loops bh before after =
       MatchBool (bh == 0) (TakesAndBegins is_of resumes own n loops before after) (after ≡ before)
 
   -- one that sleeps until this timer is entered, and another isn't touched
-  abbrev pub ExpiresFor : (C → O → Type 0) → (C → O → Asked → CoStep → C → Type 0) → ℕ → ℕ → ℕ → ℕ → Far C O → Far C O → Type 0
+  abbrev pub ExpiresFor : (ℕ → C → O → Type 0) → (C → O → Asked → CoStep → C → Type 0) → ℕ → ℕ → ℕ → ℕ → Far C O → Far C O → Type 0
   ExpiresFor is_of resumes own n loops co before after =
       MatchBool (is_armed before.naps co) (EntersAndDrains is_of resumes own n loops co before after) (after ≡ before)
 
   -- what an entry for this does
-  abbrev pub DoesFor : (C → O → Type 0) → (C → O → Asked → CoStep → C → Type 0) → ℕ → LoopLent → OnLoop C O → OnLoop C O → Type 0
+  abbrev pub DoesFor : (ℕ → C → O → Type 0) → (C → O → Asked → CoStep → C → Type 0) → ℕ → LoopLent → OnLoop C O → OnLoop C O → Type 0
   DoesFor is_of resumes loops (ForBottom lent answer) before after =
       AnswersHandle is_of resumes before.own before.coroutines loops lent.bh before.here after.here × (after.is_ended ≡ before.is_ended)
   DoesFor is_of resumes loops (ForReady ready) before after =
@@ -56,7 +56,7 @@ module _ {C O : Type 0} where
       ExpiresFor is_of resumes before.own before.coroutines loops id.number before.here.far after.here.far × (after.here.known ≡ before.here.known) × (after.is_ended ≡ before.is_ended)
 
   -- An entry makes nothing through the lent seat, and changes no handler and no timer.
-  pub record RunnerDoes (is_of : C → O → Type 0) (resumes : C → O → Asked → CoStep → C → Type 0) (shared : List (LoopShared C O)) (entered : LoopEntered) (before after : OnLoop C O) : Type 0 where
+  pub record RunnerDoes (is_of : ℕ → C → O → Type 0) (resumes : C → O → Asked → CoStep → C → Type 0) (shared : List (LoopShared C O)) (entered : LoopEntered) (before after : OnLoop C O) : Type 0 where
     pub makes_none : entered.made ≡ []
     pub handlers : entered.on_handlers ≡ []
     pub timers : entered.on_timers ≡ []

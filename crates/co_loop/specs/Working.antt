@@ -24,7 +24,7 @@ abbrev pub seated : {C O : Type 0} → Crew C O → Row C O → Crew C O
 seated crew row = record crew { seats = row.seats }
 
 -- With the seats of its thread's row the crew fits the loop, and each coroutine has a timer.
-pub record CanWork {C K O : Type 0} (is_of : C → O → Type 0) (work : CoWork C K O) (shared : List (LoopShared C O)) (loop : LoopState C O) : Type 0 where
+pub record CanWork {C K O : Type 0} (is_of : ℕ → C → O → Type 0) (work : CoWork C K O) (shared : List (LoopShared C O)) (loop : LoopState C O) : Type 0 where
   pub fits : IsOnLoop is_of work.crew.store.origin shared (seated work.crew loop.row) loop.coroutines work.run
   pub own : work.crew.own ≡ loop.number
   pub timers : work.crew.coroutines ≤ loop.side.timers.made
@@ -50,7 +50,7 @@ pub record IsRunnerOf {C E W K O : Type 0} (work : CoWork C K O) (loop : LoopSta
 
 -- The work was done by one turn of the loop with its coroutines. The loop's run has ended where event 0 was found set, in this turn or
 -- before, the turn found nothing to do, and no coroutine is kept for another loop.
-pub record Works (E W : Type 0) {C K O : Type 0} (is_of : C → O → Type 0) (resumes : C → O → Asked → CoStep → C → Type 0) (time : K → ℕ) (shared : List (LoopShared C O)) (work : CoWork C K O) (loop : LoopState C O) (ended : Bool) (work_after : CoWork C K O) (loop_after : LoopState C O) : Type 0 where
+pub record Works (E W : Type 0) {C K O : Type 0} (is_of : ℕ → C → O → Type 0) (resumes : C → O → Asked → CoStep → C → Type 0) (time : K → ℕ) (shared : List (LoopShared C O)) (work : CoWork C K O) (loop : LoopState C O) (ended : Bool) (work_after : CoWork C K O) (loop_after : LoopState C O) : Type 0 where
   pub runner : CoLoop C E W O
   pub runner_is : IsRunnerOf work loop runner
   pub runner_after : CoLoop C E W O

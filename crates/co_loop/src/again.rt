@@ -24,7 +24,7 @@ fn take_kept<C: Origin + Drop>(
     ensures store { crew.new.store ≡ crew.old.store }
     ensures taken { result ≡ slice_index_or crew.old.leaving.items co None }
     ensures left { far crew.new ≡ record (far crew.old) { leaving = slice_set crew.old.leaving.items co None } }
-    ensures fits { MatchOption result (Unit {0}) (λ left. C.is_of left.state crew.new.store.origin × (left.to < length shared.now) × (map.get crew.new.store.held co ≡ None)) }
+    ensures fits { MatchOption result (Unit {0}) (λ left. C.is_of co left.state crew.new.store.origin × (left.to < length shared.now) × (map.get crew.new.store.held co ≡ None)) }
 {
     let _shared = shared;
     crew.leaving[co as usize].take()

@@ -19,7 +19,7 @@ use std::sync::Wait;
 fn admit<C: Origin + Drop>(crew: &mut Crew<C>, co: u32, state: C)
     requires below { co < length crew.old.leaving.items }
     requires within { co < length crew.old.ended.items }
-    requires of { C.is_of state crew.old.store.origin }
+    requires of { C.is_of co state crew.old.store.origin }
     ensures same { SameCrew crew.old crew.new }
     ensures admits { Admits co state (far crew.old) (far crew.new) }
     ensures others { (crew.new.woken ≡ crew.old.woken) × (crew.new.seats ≡ crew.old.seats) × (crew.new.naps ≡ crew.old.naps) × (crew.new.leaving ≡ crew.old.leaving) }
@@ -42,7 +42,7 @@ fn admit_given<C: Origin + Drop>(
 )
     requires crew { IsCrew C.is_of shared.now crew.old }
     requires below { co < crew.old.coroutines }
-    requires of { IsStateOf C.is_of crew.old.store.origin given }
+    requires of { IsStateOf C.is_of co crew.old.store.origin given }
     ensures crew { IsCrew C.is_of shared.now crew.new }
     ensures same { SameCrew crew.old crew.new }
     ensures origin { crew.new.store.origin ≡ crew.old.store.origin }

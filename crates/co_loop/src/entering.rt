@@ -43,7 +43,7 @@ pub(crate) fn send_on<C: Origin + Drop, W: Wait>(
     requires crew { IsCrew C.is_of shared.now crew.old }
     requires below { co < crew.old.coroutines }
     requires to { to < length shared.now }
-    requires of { C.is_of state crew.old.store.origin }
+    requires of { C.is_of co state crew.old.store.origin }
     requires apart { map.get crew.old.store.held co ≡ None }
     ensures crew { IsCrew C.is_of shared.now crew.new }
     ensures same { SameCrew crew.old crew.new }

@@ -24,7 +24,7 @@ pub(crate) fn post_to<C: Origin + Drop, W: Wait>(
     requires row { IsRow coroutines shared.now seats.old.items }
     requires to { to < length shared.now }
     requires below { co < coroutines }
-    requires state { IsStateAt C.is_of shared.now to state }
+    requires state { IsStateAt C.is_of shared.now to co state }
     ensures row { IsRow coroutines shared.now seats.new.items }
     ensures posts { MatchResult result (λ _. ChangesOne to (Posts co cause (has_some state)) seats.old.items seats.new.items) (λ already. (already.state ≡ state) × ChangesOne to (FindsMarked co already.mark) seats.old.items seats.new.items) }
 {

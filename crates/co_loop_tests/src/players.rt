@@ -42,7 +42,7 @@ impl Player {
 impl Origin for Player {
     type Source = ();
 
-    ghost is_of = { λ _ _. Unit {0} };
+    ghost is_of = { λ _ _ _. Unit {0} };
 }
 
 impl Co<Stage> for Player {

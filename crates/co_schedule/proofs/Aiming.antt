@@ -90,7 +90,7 @@ module _ (n : ℕ) (h : History) (words : List ℕ) (views : List Known) (id : �
             (λ own. walks_kept words words' stand.taken u.stage in_taken) k);
       }
 
-module _ {S : Type 0} (given_in : S → Bool) (IsOf : S → Type 0) where
+module _ {S : Type 0} (given_in : S → Bool) (IsOf : ℕ → S → Type 0) where
   pub head_load_allowed : (n slots id c : ℕ) (given : Bool) (me : Me S Known) → 0 < me.0.count → me.0.phase ≡ Marked c given → Allows (Kept given_in IsOf n) slots id me head_at (λ k. k) (head_loaded (step slots head_at 0 0 none) me)
   head_load_allowed n slots id c given me numbered phase s kept long at fits =
       let h = kept.0 in

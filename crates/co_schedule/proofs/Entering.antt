@@ -91,7 +91,7 @@ module _ (n : ℕ) (h : History) (words : List ℕ) (views : List Known) (id : �
           let place = first_is_pushed n h c stand.legal (ap head_of first.1) in
           (place_else d (Enter c) h (λ (q : d ≡ c). let both : Pushed place.0 place.1 ≡ Scheduled u.first given = sym place.2 ∙ ap (λ k. place_of k h) (sym q) ∙ owed in cc) ∙ owed, read_else words (mark_at c) (next_at d) 0 (λ q. omega arith))
 
-module _ {S : Type 0} (given_in : S → Bool) (IsOf : S → Type 0) where
+module _ {S : Type 0} (given_in : S → Bool) (IsOf : ℕ → S → Type 0) where
   at_hand_here : (c : ℕ) (stage : Stage) (given : Bool) (at : _) → stage.hand ≡ Some c → stage.given ≡ given → Holds given_in IsOf c stage given at
   at_hand_here c stage given at hand is =
       let same : eqb c c ≡ true = eq-eqb c c refl in
@@ -104,7 +104,7 @@ module _ {S : Type 0} (given_in : S → Bool) (IsOf : S → Type 0) where
       let here : is_at_hand c stage.hand ≡ true = ap (is_at_hand c) hand ∙ same in
       rw here at holds
 
-  state_at_home : (c : ℕ) (stage : Stage) (given : Bool) (at : _) → stage.hand ≡ None → Holds given_in IsOf c stage given at → HasState given_in IsOf given at
+  state_at_home : (c : ℕ) (stage : Stage) (given : Bool) (at : _) → stage.hand ≡ None → Holds given_in IsOf c stage given at → HasState given_in IsOf c given at
   state_at_home c stage given at hand holds = rw hand at holds
 
   same_given : (s t : ℕ) (a b : Bool) → Pushed s a ≡ Pushed t b → a ≡ b
@@ -144,7 +144,7 @@ module _ {S : Type 0} (given_in : S → Bool) (IsOf : S → Type 0) where
         (h, now, slots_now),
         λ d others eq.
             let index : c ≡ d = same_first c d more others (sym run ∙ eq) in
-            (x, state.3, ap (λ k. (k, x) ∷ me.1) index, subst (λ k. Opens k found (given_in x) v w) index told),
+            (x, subst (λ k. IsOf k x) index state.3, ap (λ k. (k, x) ∷ me.1) index, subst (λ k. Opens k found (given_in x) v w) index told),
       )
 
   -- the first of the run is entered, and its slot comes back with no state

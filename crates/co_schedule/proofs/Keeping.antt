@@ -104,7 +104,7 @@ load_stands n h words views id k v w stand at same seen mine knows =
 
 -- The slots.
 
-module _ {S : Type 0} (given_in : S → Bool) (IsOf : S → Type 0) where
+module _ {S : Type 0} (given_in : S → Bool) (IsOf : ℕ → S → Type 0) where
   -- one slot's facts are given, and the others' stay
   pub slots_change : (n : ℕ) (h g : History) (homes other : List (mathlib.Core.Option.Option S)) (views : List Known) (id : ℕ) (v w : Known) (c0 : ℕ) → SlotsStand given_in IsOf n h homes views → get_elem? views id ≡ some v → numbers_of w ≡ numbers_of v
       → ((c : ℕ) → c ≢ c0 → (place_of c g ≡ place_of c h) × (get_elem? other c ≡ get_elem? homes c) × (is_at_hand c w.stage.hand ≡ is_at_hand c v.stage.hand) × (is_at_hand c v.stage.hand ≡ true → w.stage.given ≡ v.stage.given))
@@ -120,7 +120,7 @@ module _ {S : Type 0} (given_in : S → Bool) (IsOf : S → Type 0) where
       moved_to : (c : ℕ) (a b : Stage) (given : Bool) (p q : _) → is_at_hand c b.hand ≡ is_at_hand c a.hand → (is_at_hand c a.hand ≡ true → b.given ≡ a.given) → q ≡ p → Holds given_in IsOf c a given p → Holds given_in IsOf c b given q
       moved_to c a b given p q hands gave place has = by (is_at_hand c a.hand) gave has (is_at_hand c b.hand) hands
         where
-          by : (x : Bool) → (x ≡ true → b.given ≡ a.given) → MatchBool x (a.given ≡ given) (HasState given_in IsOf given p) → (y : Bool) → y ≡ x → MatchBool y (b.given ≡ given) (HasState given_in IsOf given q)
+          by : (x : Bool) → (x ≡ true → b.given ≡ a.given) → MatchBool x (a.given ≡ given) (HasState given_in IsOf c given p) → (y : Bool) → y ≡ x → MatchBool y (b.given ≡ given) (HasState given_in IsOf c given q)
           by true k m true e = k refl ∙ m
           by false k m false e = (m.0, place ∙ m.1, m.2, m.3)
           by true k m false e = absurd cc

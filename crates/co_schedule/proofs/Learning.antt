@@ -15,7 +15,7 @@ use Rattle.co_schedule.specs.Slots.{SlotsStand, Kept}
 use Rattle.aio_model.proofs.Coroutines.{legal_cut}
 use Rattle.co_schedule.proofs.Keeping.{loaded_words}
 
-module _ {S : Type 0} (given_in : S → Bool) (IsOf : S → Type 0) where
+module _ {S : Type 0} (given_in : S → Bool) (IsOf : ℕ → S → Type 0) where
   pub learn_allowed : (n slots id : ℕ) (me : Me S Known) → 0 < me.0.count → Allows (Kept given_in IsOf n) slots id me head_at (λ k. k) (learned (step slots head_at 0 0 none) me)
   learn_allowed n slots id me numbered s kept long at fits =
       let h = kept.0 in

@@ -15,7 +15,7 @@ use Rattle.co_schedule.proofs.Keeping.{load_stands, slots_kept}
 abbrev pub after_mark_look : Known → ℕ → ℕ → Known
 after_mark_look v word found = record v { did = done MarkLoad word found ∷ v.did }
 
-module _ {S : Type 0} (given_in : S → Bool) (IsOf : S → Type 0) where
+module _ {S : Type 0} (given_in : S → Bool) (IsOf : ℕ → S → Type 0) where
   pub mark_look_allowed : (n slots id c : ℕ) (me : Me S Known) → c < n → numbers_of me.0 ≡ everyone → Allows (Kept given_in IsOf n) slots id me (mark_at c) (λ k. k) (mark_seen (step slots (mark_at c) 0 0 none) me)
   mark_look_allowed n slots id c me low all s kept long at fits =
       let h = kept.0 in

@@ -81,14 +81,14 @@ not_at_hand words taken stage c walks away = by stage.hand walks.held
     by None held = refl
     by (Some d) held = ne_eqb c d (subst (Each (λ d. c ≢ d)) held.1 in_run).0
 
-module _ {S : Type 0} (given_in : S → Bool) (IsOf : S → Type 0) where
-  has_here : (c : ℕ) (stage : Stage) (given : Bool) (x : S) (at : _) → is_at_hand c stage.hand ≡ false → at ≡ some (some x) → given_in x ≡ given → IsOf x → Holds given_in IsOf c stage given at
+module _ {S : Type 0} (given_in : S → Bool) (IsOf : ℕ → S → Type 0) where
+  has_here : (c : ℕ) (stage : Stage) (given : Bool) (x : S) (at : _) → is_at_hand c stage.hand ≡ false → at ≡ some (some x) → given_in x ≡ given → IsOf c x → Holds given_in IsOf c stage given at
   has_here c stage given x at away place gave of = rw away (x, place, gave, of)
 
   same_given : (s t : ℕ) (a b : Bool) → Pushed s a ≡ Pushed t b → a ≡ b
   same_given s t a b e = cc
 
-  module _ (n slots id c : ℕ) (given : Bool) (head : ℕ) (x : S) (v : Known) (more : List (ℕ × S)) (room : slots ≡ n) (numbered : 0 < v.count) (phase : v.phase ≡ Linked c given head) (gave : given_in x ≡ given) (of : IsOf x) (s : State S Known) (kept : Kept given_in IsOf n s) (long : length s.homes ≡ slots) (at : get_elem? s.views id ≡ some v) where
+  module _ (n slots id c : ℕ) (given : Bool) (head : ℕ) (x : S) (v : Known) (more : List (ℕ × S)) (room : slots ≡ n) (numbered : 0 < v.count) (phase : v.phase ≡ Linked c given head) (gave : given_in x ≡ given) (of : IsOf c x) (s : State S Known) (kept : Kept given_in IsOf n s) (long : length s.homes ≡ slots) (at : get_elem? s.views id ≡ some v) where
     abbrev found_now : ℕ
     found_now = slice_index s.words head_at
 
@@ -149,11 +149,11 @@ module _ {S : Type 0} (given_in : S → Bool) (IsOf : S → Type 0) where
               subst (λ k. MatchBool (eqb found_now k) (Pushes d found_now v w × ((c, x) ∷ more ≡ more)) (Misses d b found_now v w × ((c, x) ∷ more ≡ (c, x) ∷ more))) loaded (rw is (subst (λ k. Misses k b found_now v w) index (subst (λ k. Misses c k found_now v w) gives_it told), refl)),
         )
 
-  pub head_compare_allowed : (n slots id c : ℕ) (given : Bool) (head : ℕ) (x : S) (v : Known) (more : List (ℕ × S)) → slots ≡ n → 0 < v.count → v.phase ≡ Linked c given head → given_in x ≡ given → IsOf x → Allows (Kept given_in IsOf n) slots id (v, (c, x) ∷ more) head_at (λ k. either (eqb k head) (c + 1) k) (head_compared (step slots head_at head (c + 1) none) (v, (c, x) ∷ more))
+  pub head_compare_allowed : (n slots id c : ℕ) (given : Bool) (head : ℕ) (x : S) (v : Known) (more : List (ℕ × S)) → slots ≡ n → 0 < v.count → v.phase ≡ Linked c given head → given_in x ≡ given → IsOf c x → Allows (Kept given_in IsOf n) slots id (v, (c, x) ∷ more) head_at (λ k. either (eqb k head) (c + 1) k) (head_compared (step slots head_at head (c + 1) none) (v, (c, x) ∷ more))
   head_compare_allowed n slots id c given head x v more room numbered phase gave of s kept long at fits =
       compared n slots id c given head x v more room numbered phase gave of s kept long at (eqb (slice_index s.words head_at) head) refl
 
   -- the same, for whatever the seat holds
-  pub head_compare_of : (n slots id c : ℕ) (given : Bool) (head : ℕ) (x : S) (me : Me S Known) (more : List (ℕ × S)) → me.1 ≡ (c, x) ∷ more → slots ≡ n → 0 < me.0.count → me.0.phase ≡ Linked c given head → given_in x ≡ given → IsOf x → Allows (Kept given_in IsOf n) slots id me head_at (λ k. either (eqb k head) (c + 1) k) (head_compared (step slots head_at head (c + 1) none) me)
+  pub head_compare_of : (n slots id c : ℕ) (given : Bool) (head : ℕ) (x : S) (me : Me S Known) (more : List (ℕ × S)) → me.1 ≡ (c, x) ∷ more → slots ≡ n → 0 < me.0.count → me.0.phase ≡ Linked c given head → given_in x ≡ given → IsOf c x → Allows (Kept given_in IsOf n) slots id me head_at (λ k. either (eqb k head) (c + 1) k) (head_compared (step slots head_at head (c + 1) none) me)
   head_compare_of n slots id c given head x me more held room numbered phase gave of =
       subst (λ l. Allows (Kept given_in IsOf n) slots id (me.0, l) head_at (λ k. either (eqb k head) (c + 1) k) (head_compared (step slots head_at head (c + 1) none) (me.0, l))) (sym held) (head_compare_allowed n slots id c given head x me.0 more room numbered phase gave of)

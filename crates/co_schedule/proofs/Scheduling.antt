@@ -71,7 +71,7 @@ module _ (n : ℕ) (h : History) (words : List ℕ) (views : List Known) (id : �
             (λ own. walks_kept words words' stand.taken u.stage (each_all _ stand.taken same_next)));
       }
 
-module _ {S : Type 0} (cause_in : S → Cause) (given_in : S → Bool) (IsOf : S → Type 0) where
+module _ {S : Type 0} (cause_in : S → Cause) (given_in : S → Bool) (IsOf : ℕ → S → Type 0) where
   module _ (n slots id c : ℕ) (y : S) (me : Me S Known) (low : c < n) (numbered : 0 < me.0.count) (seat : me.0.first < 64) (rest : me.0.phase ≡ AtRest) (s : State S Known) (kept : Kept given_in IsOf n s) (at : get_elem? s.views id ≡ some me.0) where
     abbrev word_now : ℕ
     word_now = slice_index s.words (mark_at c)

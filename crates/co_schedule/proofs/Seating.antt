@@ -13,7 +13,7 @@ use Rattle.co_schedule.specs.Rule.{Walks, Knows}
 use Rattle.co_schedule.specs.Slots.{Holds, HoldsAll, Kept}
 use Rattle.co_schedule.specs.Seating.{front_known, back_known, joined_known, spent_known}
 
-module _ {S : Type 0} (given_in : S → Bool) (IsOf : S → Type 0) where
+module _ {S : Type 0} (given_in : S → Bool) (IsOf : ℕ → S → Type 0) where
   pub split_allowed : (n id cut : ℕ) (v : Known) → 0 < cut → cut ≤ v.count → Splits (Kept given_in IsOf n) id v (front_known cut v) (back_known cut v)
   split_allowed n id cut v full low s kept at =
       let h = kept.0 in

@@ -104,7 +104,7 @@ walks_on words taken stage c walks word hand =
     let first = first_of_chain (next_in words) c walks.rest (subst (λ k. IsChain (next_in words) k walks.rest) word walks.chain) in
     (first.0, first.2, walks.whole ∙ ap (λ (l : List ℕ). reverse l ++ stage.run) first.1 ∙ ap (λ (l : List ℕ). l ++ stage.run) (reverse-step c first.0) ∙ append_assoc (reverse first.0) (c ∷ []) stage.run)
 
-module _ {S : Type 0} (given_in : S → Bool) (IsOf : S → Type 0) where
+module _ {S : Type 0} (given_in : S → Bool) (IsOf : ℕ → S → Type 0) where
   pub take_allowed : (n slots id : ℕ) (me : Me S Known) → 0 < me.0.count → owns (numbers_of me.0) home ≡ true → me.0.stage.word ≡ 0 → me.0.stage.run ≡ [] → me.0.stage.hand ≡ None → Allows (Kept given_in IsOf n) slots id me head_at (λ _. 0) (taken (step slots head_at 0 0 none) me)
   take_allowed n slots id me numbered is_home over no_run hand s kept long at fits =
       let h = kept.0 in

@@ -51,8 +51,8 @@ module _ {S : Type 0} (cause_in : S → Cause) (given_in : S → Bool) where
   marked step before found after =
       (y : S) (c : ℕ) → step.said ≡ some y → step.word ≡ mark_at c → MatchBool (found == 0) (Schedules c (cause_in y) (given_in y) before.0 after.0 × ((x : S) × (given_in x ≡ false) × (after.1 ≡ (c, x) ∷ before.1))) (Looks MarkCompare step.word found before.0 after.0 × IsMarkOf c found before.0 × (after.1 ≡ before.1))
 
-module _ {S : Type 0} (given_in : S → Bool) (IsOf : S → Type 0) where
+module _ {S : Type 0} (given_in : S → Bool) (IsOf : ℕ → S → Type 0) where
   -- the load takes the slot of the first one
   abbrev pub opened : Step S → Me S Known → ℕ → Me S Known → Type 0
   opened step before found after =
-      (c : ℕ) (more : List ℕ) → before.0.stage.run ≡ c ∷ more → (x : S) × IsOf x × (after.1 ≡ (c, x) ∷ before.1) × Opens c found (given_in x) before.0 after.0
+      (c : ℕ) (more : List ℕ) → before.0.stage.run ≡ c ∷ more → (x : S) × IsOf c x × (after.1 ≡ (c, x) ∷ before.1) × Opens c found (given_in x) before.0 after.0

@@ -13,21 +13,21 @@ abbrev pub is_at_hand : ℕ → Option ℕ → Bool
 is_at_hand c None = false
 is_at_hand c (Some d) = c == d
 
--- `given_in`: whether what lies in a slot has a state; `IsOf`: what it has is of the table's origin
-module _ {S : Type 0} (given_in : S → Bool) (IsOf : S → Type 0) where
+-- `given_in`: whether what lies in a slot has a state; `IsOf`: what it has is of the table's origin, as that number
+module _ {S : Type 0} (given_in : S → Bool) (IsOf : ℕ → S → Type 0) where
   abbrev pub Slot : Type 0
   Slot = mathlib.Core.Option.Option (mathlib.Core.Option.Option S)
 
   abbrev pub IsVacant : Slot → Type 0
   IsVacant at = (x : S) × (at ≡ some (some x)) × (given_in x ≡ false)
 
-  abbrev pub HasState : Bool → Slot → Type 0
-  HasState given at = (x : S) × (at ≡ some (some x)) × (given_in x ≡ given) × IsOf x
+  abbrev pub HasState : ℕ → Bool → Slot → Type 0
+  HasState c given at = (x : S) × (at ≡ some (some x)) × (given_in x ≡ given) × IsOf c x
 
   -- what home's view says of the slot of a coroutine that was pushed
   abbrev pub Holds : ℕ → Stage → Bool → Slot → Type 0
   Holds c stage given at =
-      MatchBool (is_at_hand c stage.hand) (stage.given ≡ given) (HasState given at)
+      MatchBool (is_at_hand c stage.hand) (stage.given ≡ given) (HasState c given at)
 
   abbrev pub HoldsAll : ℕ → History → List (mathlib.Core.Option.Option S) → Known → Type 0
   HoldsAll n history homes known =

@@ -36,7 +36,7 @@ impl<C: Origin + Drop> CoTable<C> {
     ) -> Result<(), Already<C>>
         requires seat { IsSeatOf self.now seat.old }
         requires below { co < self.now.coroutines }
-        requires state { IsStateOf C.is_of self.now.origin state }
+        requires state { IsStateOf C.is_of co self.now.origin state }
         requires bh_seat { IsLoopSeatOf table.now bh_seat.old }
         requires bh_rest { bh_seat.old.known.phase ≡ AtRest }
         requires handle { 0 < table.now.sizes.handles }

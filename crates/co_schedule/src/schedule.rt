@@ -50,7 +50,7 @@ impl<C: Origin + Drop> CoTable<C> {
         requires numbers { 0 < inner.old.me.0.known.count }
         requires below { co < self.now.coroutines }
         requires phase { inner.old.me.0.known.phase ≡ Marked co given }
-        requires slot { (x : Option (Parcel C)) × (inner.old.me.1 ≡ (co, x) ∷ []) × (given_in x ≡ given) × IsOf C.is_of self.now.origin x }
+        requires slot { (x : Option (Parcel C)) × (inner.old.me.1 ≡ (co, x) ∷ []) × (given_in x ≡ given) × IsOf C.is_of self.now.origin co x }
         ensures seat { (inner.new.table_id ≡ inner.old.table_id) × (inner.new.id ≡ inner.old.id) × (inner.new.me.0.origin ≡ inner.old.me.0.origin) }
         ensures step { MatchBool result (PushesOnce co inner.old.me.0.known inner.new.me.0.known × (inner.new.me.1 ≡ [])) (MissesOnce co inner.old.me.0.known inner.new.me.0.known × (inner.new.me.1 ≡ inner.old.me.1)) }
     {
@@ -65,7 +65,7 @@ impl<C: Origin + Drop> CoTable<C> {
         requires numbers { 0 < inner.old.me.0.known.count }
         requires below { co < self.now.coroutines }
         requires phase { inner.old.me.0.known.phase ≡ Marked co given }
-        requires slot { (x : Option (Parcel C)) × (inner.old.me.1 ≡ (co, x) ∷ []) × (given_in x ≡ given) × IsOf C.is_of self.now.origin x }
+        requires slot { (x : Option (Parcel C)) × (inner.old.me.1 ≡ (co, x) ∷ []) × (given_in x ≡ given) × IsOf C.is_of self.now.origin co x }
         ensures seat { (inner.new.table_id ≡ inner.old.table_id) × (inner.new.id ≡ inner.old.id) × (inner.new.me.0.origin ≡ inner.old.me.0.origin) × (inner.new.me.1 ≡ []) }
         ensures pushed { PushesAtLast co inner.old.me.0.known inner.new.me.0.known }
     {
@@ -93,7 +93,7 @@ impl<C: Origin + Drop> CoTable<C> {
         requires below { co < self.now.coroutines }
         requires rest { inner.old.me.0.known.phase ≡ AtRest }
         requires slots { inner.old.me.1 ≡ [] }
-        requires state { IsStateOf C.is_of self.now.origin state }
+        requires state { IsStateOf C.is_of co self.now.origin state }
         ensures seat { (inner.new.table_id ≡ inner.old.table_id) × (inner.new.id ≡ inner.old.id) × (inner.new.me.0.origin ≡ inner.old.me.0.origin) × (inner.new.me.1 ≡ []) }
         ensures scheduled { MatchResult result (λ _. HasScheduled co cause (has_some state) inner.old.me.0.known inner.new.me.0.known) (λ already. (already.mark ≢ 0) × (already.state ≡ state) × Looks MarkCompare (mark_at co) already.mark inner.old.me.0.known inner.new.me.0.known × IsMarkOf co already.mark inner.old.me.0.known) }
     {
@@ -124,7 +124,7 @@ impl<C: Origin + Drop> CoTable<C> {
     ) -> Result<(), Already<C>>
         requires seat { IsSeatOf self.now seat.old }
         requires below { co < self.now.coroutines }
-        requires state { IsStateOf C.is_of self.now.origin state }
+        requires state { IsStateOf C.is_of co self.now.origin state }
         ensures seat { IsSeatOf self.now seat.new }
         ensures scheduled { MatchResult result (λ _. HasScheduled co cause (has_some state) seat.old.known seat.new.known) (λ already. (already.mark ≢ 0) × (already.state ≡ state) × Looks MarkCompare (mark_at co) already.mark seat.old.known seat.new.known × IsMarkOf co already.mark seat.old.known) }
     {

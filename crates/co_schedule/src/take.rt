@@ -54,7 +54,7 @@ impl<C: Origin + Drop> CoTable<C> {
         requires origin { inner.old.me.0.origin ≡ Some self.now.origin }
         requires slots { inner.old.me.1 ≡ [] }
         ensures seat { (inner.new.table_id ≡ inner.old.table_id) × (inner.new.id ≡ inner.old.id) × (inner.new.me.0.origin ≡ inner.old.me.0.origin) × (inner.new.me.1 ≡ []) }
-        ensures of { IsStateOf C.is_of self.now.origin result }
+        ensures of { IsStateOf C.is_of co self.now.origin result }
         ensures begun { HasBegun co (has_some result) inner.old.me.0.known inner.new.me.0.known }
         ensures over { (inner.new.me.0.known.stage.word ≡ 0) × (inner.new.me.0.known.stage.hand ≡ None) × (inner.new.me.0.known.stage.run ≡ inner.new.me.0.known.stage.taken) }
         ensures within { are_within inner.new.me.0.known.coroutines inner.new.me.0.known.stage.taken ≡ true }
@@ -88,7 +88,7 @@ impl<C: Origin + Drop> CoTable<C> {
         requires run { run.old.cos ≡ home.old.known.stage.taken }
         ensures home { IsSeatOf self.now home.new }
         ensures run { run.new ≡ record run.old { cos = home.new.known.stage.taken } }
-        ensures begun { MatchOption result ((home.old.known.stage.taken ≡ []) × (home.new ≡ home.old)) (λ begun. (begun.0 < self.now.coroutines) × HasBegun begun.0 (has_some begun.1) home.old.known home.new.known × IsStateOf C.is_of self.now.origin begun.1) }
+        ensures begun { MatchOption result ((home.old.known.stage.taken ≡ []) × (home.new ≡ home.old)) (λ begun. (begun.0 < self.now.coroutines) × HasBegun begun.0 (has_some begun.1) home.old.known home.new.known × IsStateOf C.is_of begun.0 self.now.origin begun.1) }
     {
         let co = run.pop()?;
         let state = self.begin_first(&mut home.inner, co);

@@ -1,6 +1,6 @@
 -- The coroutines by number, seen as a map, after a slot is written, filled or emptied.
 use Rattle.std.proofs.Common.{◌≡◌, inl, inr, ℕ, suc, ◌+◌, Bool, true, false, cond, ◌||◌, nat_cmp, List, [], ◌∷◌, length, Option, Some, None, is_some, IsSome, refl, sym, ap, ◌∙◌, subst, arith, ne_eqb, eq-eqb, eqb}
-use Rattle.std.proofs.lemmas.Bool.{cases_eq, cases_Bool, or_left, or_right}
+use Rattle.std.proofs.lemmas.Bool.{cases_eq, cases_Bool, eqb-true, or_left, or_right}
 use Rattle.std.specs.Cmp.{nat_cmp_total, unsigned_tied}
 use Rattle.std.specs.FinMap.{nat_cmp-IsAntisymmetric}
 use Rattle.std.specs.FinMap as map
@@ -29,21 +29,24 @@ module _ {C : Type 0} where
   pub remove-insert : (held : map.FinMap nat_cmp C) (id : ℕ) (co : C) → map.remove (map.insert held id co) id ≡ map.remove held id
   remove-insert held id co = same_held _ _ (λ q. get_removed (map.insert held id co) id q ∙ ap (cond (eqb q id) None) (get_inserted held id co q) ∙ sym (at_once (eqb q id) None (Some co) (map.get held q)) ∙ sym (get_removed held id q))
 
-  chosen_by : (O : Type 0) (is_of : C → O → Type 0) (o : O) (b : Bool) (x y : Option C) (co : C) → ((c : C) → x ≡ Some c → is_of c o) → ((c : C) → y ≡ Some c → is_of c o) → cond b x y ≡ Some co → is_of co o
-  chosen_by O is_of o true x y co first other found = first co found
-  chosen_by O is_of o false x y co first other found = other co found
+  chosen_by : (P : C → Type 0) (b : Bool) (x y : Option C) (co : C) → ((c : C) → b ≡ true → x ≡ Some c → P c) → ((c : C) → y ≡ Some c → P c) → cond b x y ≡ Some co → P co
+  chosen_by P true x y co first other found = first co refl found
+  chosen_by P false x y co first other found = other co found
 
-  pub all_of-insert : {O : Type 0} (is_of : C → O → Type 0) (o : O) (held : map.FinMap nat_cmp C) (id : ℕ) (co : C) → is_of co o → AllOf is_of held o → AllOf is_of (map.insert held id co) o
+  pub all_of-insert : {O : Type 0} (is_of : ℕ → C → O → Type 0) (o : O) (held : map.FinMap nat_cmp C) (id : ℕ) (co : C) → is_of id co o → AllOf is_of held o → AllOf is_of (map.insert held id co) o
   all_of-insert {O} is_of o held id co here all q c found =
-      chosen_by O is_of o (eqb q id) (Some co) (map.get held q) c
-      (λ d e. let same : co ≡ d = cc in subst (λ x. is_of x o) same here)
+      chosen_by (λ d. is_of q d o) (eqb q id) (Some co) (map.get held q) c
+      (λ d yes e.
+      let same : co ≡ d = cc in
+      let at : id ≡ q = sym (eqb-true q id yes) in
+      subst (λ x. is_of q x o) same (subst (λ n. is_of n co o) at here))
       (λ d e. all q d e)
       (sym (get_inserted held id co q) ∙ found)
 
-  pub all_of-remove : {O : Type 0} (is_of : C → O → Type 0) (o : O) (held : map.FinMap nat_cmp C) (id : ℕ) → AllOf is_of held o → AllOf is_of (map.remove held id) o
+  pub all_of-remove : {O : Type 0} (is_of : ℕ → C → O → Type 0) (o : O) (held : map.FinMap nat_cmp C) (id : ℕ) → AllOf is_of held o → AllOf is_of (map.remove held id) o
   all_of-remove {O} is_of o held id all q c found =
-      chosen_by O is_of o (eqb q id) None (map.get held q) c
-      (λ d e. absurd (cc))
+      chosen_by (λ d. is_of q d o) (eqb q id) None (map.get held q) c
+      (λ d yes e. absurd (cc))
       (λ d e. all q d e)
       (sym (get_removed held id q) ∙ found)
 

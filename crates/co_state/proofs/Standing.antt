@@ -5,7 +5,7 @@ use Rattle.std.proofs.lemmas.List.Sums.{sum_by-set}
 use Rattle.std.specs.FinMap as map
 use Rattle.slab.specs.Slab.{Slab, get, slab_len, Updates, with_value}
 use Rattle.slab.proofs.SlabLemmas.{Updates-with_value, ContainsKey-within}
-use Rattle.co_state.specs.Coroutines.{Coroutines}
+use Rattle.co_state.specs.Coroutines.{Coroutines, AllOf}
 use Rattle.co_state.specs.Lookup.{Table, shape, AreListed}
 use Rattle.co_state.specs.Kept.{coroutine_of, under, AreNumbered, collected, key_for, ids_of, held_in, AreKept}
 use Rattle.co_state.specs.declared.store.Slot.{Slot}
@@ -202,6 +202,11 @@ module _ {C : Type 0} where
 
   pub held_present : (d : Table) (s : Slab (Slot C)) (id key : ℕ) (slot : Slot C) → key_for d id ≡ Some key → get s key ≡ Some slot → map.get (held_in d s) id ≡ Some slot.co
   held_present d s id key slot found there = get-held d s id ∙ ap (under s) found ∙ ap coroutine_of there
+
+  -- and it is of the origin of all, as its number
+  pub of_there : {O : Type 0} (is_of : ℕ → C → O → Type 0) (id key : ℕ) (slot : Slot C) (d : Table) (s : Slab (Slot C)) (origin : O) → AllOf is_of (held_in d s) origin → key_for d id ≡ Some key → get s key ≡ Some slot → is_of id slot.co origin
+  of_there is_of id key slot d s origin all found there =
+      all id slot.co (held_present d s id key slot found there)
 
   present_by : (d : Table) (s : Slab (Slot C)) (id : ℕ) (o : Option ℕ) → AreNumbered s (key_for d) → key_for d id ≡ o → IsSome o → is_some (under s o) ≡ true
   present_by d s id None numbered e some = absurd (cc)

@@ -19,6 +19,6 @@ coroutines_code {C} {O} coroutine origin =
     (λ p. record { room = p.0; held = p.1.0; origin = p.1.1 })
     (λ _. refl)
 
--- each coroutine that is there is of the origin
-abbrev pub AllOf : {C O : Type 0} → (C → O → Type 0) → map.FinMap nat_cmp C → O → Type 0
-AllOf {C} is_of held origin = (id : ℕ) (co : C) → map.get held id ≡ Some co → is_of co origin
+-- each coroutine that is there is of the origin, as its number
+abbrev pub AllOf : {C O : Type 0} → (ℕ → C → O → Type 0) → map.FinMap nat_cmp C → O → Type 0
+AllOf {C} is_of held origin = (id : ℕ) (co : C) → map.get held id ≡ Some co → is_of id co origin

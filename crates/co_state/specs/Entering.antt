@@ -25,10 +25,10 @@ module _ {C : Type 0} where
   left_by (step.Move home) held id co = map.remove held id
 
 -- the coroutine of the number was resumed once, and nothing else changed
-pub record Enters {C O : Type 0} (is_of : C → O → Type 0) (resumes : C → O → Asked → CoStep → C → Type 0) (old new : Coroutines C O) (id : ℕ) (co : C) (asked : Asked) (answer : Entered C) : Type 0 where
+pub record Enters {C O : Type 0} (is_of : ℕ → C → O → Type 0) (resumes : C → O → Asked → CoStep → C → Type 0) (old new : Coroutines C O) (id : ℕ) (co : C) (asked : Asked) (answer : Entered C) : Type 0 where
   pub step : CoStep
   pub after : C
-  pub of : is_of after old.origin
+  pub of : is_of id after old.origin
   pub resumed : resumes co old.origin asked step after
   pub answers : answer ≡ answer_of step after
   pub left : new ≡ record old { held = left_by step old.held id after }

@@ -2,22 +2,24 @@ use crate::cx::Cx;
 
 /// Where a coroutine's facts come from, such as which lock it waits for. Only contracts see it.
 pub trait Origin {
+    ghost use Rattle.std.specs.Prelude.{ℕ};
+
     type Source;
 
-    /// The coroutine is of this origin.
-    ghost is_of: { Self → Self.Source → Type 0 };
+    /// The coroutine, under this number, is of this origin.
+    ghost is_of: { ℕ → Self → Self.Source → Type 0 };
 }
 
 impl Origin for () {
     type Source = ();
 
-    ghost is_of = { λ _ _. Unit {0} };
+    ghost is_of = { λ _ _ _. Unit {0} };
 }
 
 impl Origin for u64 {
     type Source = ();
 
-    ghost is_of = { λ _ _. Unit {0} };
+    ghost is_of = { λ _ _ _. Unit {0} };
 }
 
 /// What a coroutine wants after a resume.
@@ -34,7 +36,7 @@ pub enum CoStep {
 
 /// A coroutine that may be lent an `E` at each resume.
 pub trait Co<E>: Origin {
-    ghost use Rattle.std.specs.Prelude.{◌≡◌};
+    ghost use Rattle.std.specs.Prelude.{◌≡◌, ℕ};
     ghost use Rattle.co_state.specs.Asked.{Asked, nothing_asked};
     ghost use Rattle.co_state.specs.declared.co.CoStep.{CoStep};
 
@@ -46,8 +48,8 @@ pub trait Co<E>: Origin {
     ghost resumes: { Self → Self.Source → Asked → CoStep → Self → Type 0 };
 
     fn resume(&mut self, env: &E, cx: &mut Cx) -> CoStep
-        requires of { Self.is_of self.old (source_of env.now) }
+        requires of { (number : ℕ) × Self.is_of number self.old (source_of env.now) }
         requires fresh { cx.old ≡ nothing_asked }
-        ensures of { Self.is_of self.new (source_of env.now) }
+        ensures of { (number : ℕ) → Self.is_of number self.old (source_of env.now) → Self.is_of number self.new (source_of env.now) }
         ensures resumes { resumes self.old (source_of env.now) cx.new result self.new };
 }

@@ -79,7 +79,7 @@ impl<C: Origin> CoStore<C> {
 
     /// Puts a coroutine in; `Err` hands it back.
     pub fn put(&mut self, id: u32, co: C) -> Result<(), C>
-        requires { C.is_of co self.old.origin }
+        requires { C.is_of id co self.old.origin }
         ensures refused { is_err result ≡ (map.contains_key self.old.held id || nat_le self.old.room (map.len self.old.held)) }
         ensures put { OnOk result (self.new ≡ record self.old { held = map.insert self.old.held id co }) }
         ensures back { IfErr result (λ back. back ≡ co) }

@@ -107,6 +107,10 @@ module _ {P D : Type 0} (bytes : D → Option (List ℕ)) where
     pub later : length co.later.items + length (own_note bytes of.0 co.pass).entries ≡ requests_of co.id of.1.lines
     pub room : HaveRoom (asked of.1.lines) co.id (length (own_note bytes of.0 co.pass).entries) (co.buffer.items ∷ map (λ buffer. buffer.items) co.later.items)
 
+  -- and it has this number
+  abbrev pub IsStreamAt : ℕ → Stream P (ImageState D) (Note D) → CoMutex P (ImageState D) (Note D) × Script → Type 0
+  IsStreamAt number co of = IsStreamOf co of × (co.co.co ≡ number)
+
   module _ (old : Stream P (ImageState D) (Note D)) (of : CoMutex P (ImageState D) (Note D) × Script) where
     -- the stream's line at hand
     abbrev pub at_hand : ℕ

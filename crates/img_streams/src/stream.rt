@@ -124,11 +124,11 @@ pub struct ServeEnv<'a, D: Device, G: Gate, R: Wait> {
 }
 
 impl<D: Device> Origin for Stream<ImageRule<D>> {
-    ghost use Rattle.img_streams.specs.Streams.{IsStreamOf};
+    ghost use Rattle.img_streams.specs.Streams.{IsStreamAt};
 
     type Source = (CoMutex<ImageRule<D>>, Script);
 
-    ghost is_of = { λ c o. IsStreamOf D.bytes c o };
+    ghost is_of = { λ number c o. IsStreamAt D.bytes number c o };
 }
 
 impl<'a, D: Device, G: Gate, R: Wait> Co<ServeEnv<'a, D, G, R>> for Stream<ImageRule<D>> {

@@ -24,10 +24,10 @@ module _ {C O : Type 0} where
     pub co_first : after.coroutines.known.first ≡ before.coroutines.known.first
     pub co_count : after.coroutines.known.count ≡ before.coroutines.known.count
 
-  -- the state, if there is one, is of the origin of this loop's coroutines
-  abbrev pub IsStateAt : (C → O → Type 0) → List (LoopShared C O) → ℕ → Option C → Type 0
-  IsStateAt is_of shared to state =
-      (t : LoopShared C O) → IsStateOf is_of (slice_index_or shared to t).coroutines.origin state
+  -- the state, if there is one, is of the origin of this loop's coroutines, as that number
+  abbrev pub IsStateAt : (ℕ → C → O → Type 0) → List (LoopShared C O) → ℕ → ℕ → Option C → Type 0
+  IsStateAt is_of shared to co state =
+      (t : LoopShared C O) → IsStateOf is_of co (slice_index_or shared to t).coroutines.origin state
 
   -- the coroutine was scheduled, and then handle 0 of its loop
   pub record Posts (co : ℕ) (cause : Cause) (given : Bool) (before after : Seats C O) : Type 0 where

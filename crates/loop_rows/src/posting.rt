@@ -27,7 +27,7 @@ impl<C: Origin + Drop> LoopShared<C> {
     ) -> Result<(), Already<C>>
         requires seats { IsSeated self.now seats.old }
         requires below { co < self.now.coroutines.coroutines }
-        requires state { IsStateOf C.is_of self.now.coroutines.origin state }
+        requires state { IsStateOf C.is_of co self.now.coroutines.origin state }
         ensures seats { IsSeated self.now seats.new }
         ensures numbers { SameNumbers seats.old seats.new }
         ensures posts { MatchResult result (λ _. Posts co cause (has_some state) seats.old seats.new) (λ already. (already.state ≡ state) × FindsMarked co already.mark seats.old seats.new) }
@@ -58,7 +58,7 @@ impl<C: Origin + Drop> Row<C> {
         requires row { IsRow shared.now self.old }
         requires to { to < length shared.now }
         requires below { (t : LoopShared C C.Source) → co < (slice_index_or shared.now to t).coroutines.coroutines }
-        requires state { IsStateAt C.is_of shared.now to state }
+        requires state { IsStateAt C.is_of shared.now to co state }
         ensures row { IsRow shared.now self.new × HasNumbers self.old.first self.old.count self.new }
         ensures others { OthersStay to self.old.seats.items self.new.seats.items }
         ensures posts { MatchResult result (λ _. DoesAt to (Posts co cause (has_some state)) self.old.seats.items self.new.seats.items) (λ already. (already.state ≡ state) × DoesAt to (FindsMarked co already.mark) self.old.seats.items self.new.seats.items) }

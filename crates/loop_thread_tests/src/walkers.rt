@@ -26,7 +26,7 @@ fn next(at: u32, loops: u32) -> u32 {
 impl Origin for Walker {
     type Source = ();
 
-    ghost is_of = { λ _ _. Unit {0} };
+    ghost is_of = { λ _ _ _. Unit {0} };
 }
 
 impl Co<Ring> for Walker {

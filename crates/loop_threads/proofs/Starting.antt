@@ -39,7 +39,7 @@ module _ {C K O : Type 0} (coroutines : ℕ) (origin : O) (shared : List (LoopSh
         timers = omega (arith, work.coroutines_are, new.timers, ap (λ (x : Side). x.timers.made) side);
       }
 
-  pub hands_begin : (is_of : C → O → Type 0) (loops : ℕ) (clocks : List K) (hands : List (Hand (CoWork C K O))) → AreNewHands loops coroutines origin clocks hands → length shared ≡ loops → NewEach loops coroutines origin shared homes seats → CanBeginEach (CanWork is_of) shared homes hands
+  pub hands_begin : (is_of : ℕ → C → O → Type 0) (loops : ℕ) (clocks : List K) (hands : List (Hand (CoWork C K O))) → AreNewHands loops coroutines origin clocks hands → length shared ≡ loops → NewEach loops coroutines origin shared homes seats → CanBeginEach (CanWork is_of) shared homes hands
   hands_begin is_of loops clocks hands new long each k h d lt =
       let hand = slice_index_or hands k d in
       let clock = slice_index_or clocks k d.work.clock in

@@ -8,5 +8,5 @@ pub(crate) struct Sleeper;
 impl Origin for Sleeper {
     type Source = ();
 
-    ghost is_of = { λ _ _. Unit {0} };
+    ghost is_of = { λ _ _ _. Unit {0} };
 }

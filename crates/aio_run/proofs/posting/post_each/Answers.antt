@@ -1,6 +1,6 @@
 use Rattle.std.proofs.Common.{◌≡◌, ◌<◌, ◌+◌, ◌∙◌, suc, length, max, sym, ap, subst, arith, slice_index_or}
 use Rattle.co_schedule.specs.Standing.{was_scheduled}
-use Rattle.img_streams.specs.Streams.{IsStreamOf}
+use Rattle.img_streams.specs.Streams.{IsStreamAt}
 use Rattle.stream_ends.specs.Images.{homes_of}
 use Rattle.aio_run.proofs.Begun.{begun_more, never_yet, home_at, first_left, others_left}
 use Rattle.aio_run.proofs.posting.post_each.Goals as goal
@@ -32,7 +32,8 @@ post_one-requires-clause-of g c t =
     let is = home_at c.as_slice-lines.result.now c.args.script.now.streams k (record { id = 0; home = 0 }) c.as_slice-lines.ensures low in
     let there = subst (λ n. n < length c.args.shared.now) is (c.requires.homes k (omega (arith, low, ap length c.as_slice-lines.ensures))) in
     let at = first_left c.args.streams.items k c.take_first-stream.result c.take_first-stream.new.queue.items (sym c.take_first-stream.ensures ∙ c.loop-number.invariant.0) in
-    subst (λ o. IsStreamOf g.D.Device.bytes c.take_first-stream.result o) (sym (c.requires.of _ t there)) (c.requires.started.each k c.take_first-stream.result at).of
+    let started = c.requires.started.each k c.take_first-stream.result at in
+    subst (λ o. IsStreamAt g.D.Device.bytes k c.take_first-stream.result o) (sym (c.requires.of _ t there)) (started.of, ap (λ id. id.co) started.co_is)
 
 pub post_one-requires-clause-fresh : goal.post_one-requires-clause-fresh
 post_one-requires-clause-fresh g c s =

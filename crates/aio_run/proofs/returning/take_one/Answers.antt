@@ -6,8 +6,8 @@ use Rattle.aio_run.proofs.returning.take_one.Goals as goal
 
 pub berth-requires-clause-of : goal.berth-requires-clause-of
 berth-requires-clause-of g c =
-    c.requires.ended c.args.at c.in-Some.stream
-    (get_or_default c.args.ended.now.items c.args.at None c.index_mut.result.now c.requires.at ∙ sym c.index_mut.ensures.value ∙ sym c.take.ensures.value ∙ c.in-Some.is)
+    (c.requires.ended c.args.at c.in-Some.stream
+    (get_or_default c.args.ended.now.items c.args.at None c.index_mut.result.now c.requires.at ∙ sym c.index_mut.ensures.value ∙ sym c.take.ensures.value ∙ c.in-Some.is)).0
 
 pub returns-in-Some-clause-ended : goal.returns-in-Some-clause-ended
 returns-in-Some-clause-ended g c = (

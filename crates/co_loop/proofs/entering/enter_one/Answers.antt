@@ -23,7 +23,7 @@ follow-requires g c =
         leaving = was.leaving;
         ended = was.ended;
         kept = kept_entered g.C.Origin.is_of g.C.Co.resumes (length c.args.shared.now) c.args.crew.now.store c.enter-entered.new.self c.args.crew.now.leaving.items c.args.co found.0 c.enter-entered.new.cx c.enter-entered.result found.1 found.2 was.kept;
-        ended_of = λ k co is. subst (g.C.Origin.is_of co) (sym origin_is) (was.ended_of k co is);
+        ended_of = λ k co is. subst (g.C.Origin.is_of k co) (sym origin_is) (was.ended_of k co is);
       };
       below = c.requires.below;
       of = followable g.C.Origin.is_of g.C.Co.resumes c.args.crew.now.store c.enter-entered.new.self c.args.co found.0 c.enter-entered.new.cx c.enter-entered.result found.2;

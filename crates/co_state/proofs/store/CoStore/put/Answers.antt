@@ -11,7 +11,7 @@ invariant_of-self g c =
     let inside = c.self.inside in
     let free : length (ids_of inside.directory) < inside.room = omega (arith, c.if-len-self.false, c.len.ensures.len) in
     let after = put_in inside.room inside.directory c.insert.new.self inside.slots c.insert_reserved-key.new.self c.args.id c.insert_reserved-key.result c.args.co c.self.invariant.0 free c.insert_reserved-key.ensures.was_vacant c.insert_reserved-key.ensures.updates c.insert_reserved-key.ensures.len c.insert_reserved-key.ensures.capacity c.insert.ensures.keys c.insert.ensures.len c.insert.ensures.room in
-    let of = subst (λ s. g.C.Origin.is_of c.args.co s.origin) (sym c.self.view_is) c.requires in
+    let of = subst (λ s. g.C.Origin.is_of c.args.id c.args.co s.origin) (sym c.self.view_is) c.requires in
     (after.kept, subst (λ m. AllOf g.C.Origin.is_of m inside.origin.value) (sym after.is) (all_of-insert g.C.Origin.is_of _ _ c.args.id c.args.co of c.self.invariant.1))
 
 pub returns-clause-put : goal.returns-clause-put

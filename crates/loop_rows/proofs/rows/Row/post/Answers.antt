@@ -20,7 +20,7 @@ post-requires-clause-below g c =
 
 pub post-requires-clause-state : goal.post-requires-clause-state
 post-requires-clause-state g c =
-    subst (λ (x : LoopShared g.row.C.Denot g.row.C-Source.Denot). IsStateOf g.C.Origin.is_of x.coroutines.origin c.args.state) (sym c.index-shared-to.is) (c.requires.state c.index-shared-to.result)
+    subst (λ (x : LoopShared g.row.C.Denot g.row.C-Source.Denot). IsStateOf g.C.Origin.is_of c.args.co x.coroutines.origin c.args.state) (sym c.index-shared-to.is) (c.requires.state c.index-shared-to.result)
 
 pub returns-clause-row : goal.returns-clause-row
 returns-clause-row g c =
