@@ -10,6 +10,7 @@ use Rattle.aio_run.specs.declared.running.RunEnd.{RunEnd}
 use Rattle.aio_run.specs.Ends.{IsOver}
 use Rattle.aio_run.specs.Readiness.{coroutines_of}
 use Rattle.aio_run.specs.Serving.{HasServed}
+use Rattle.aio_run.specs.Turned.{HasTurned}
 use Rattle.aio_cli.specs.Reading.{Says}
 
 -- A whole run. The text was all that the source had left, the script is the one that it says, its requests were
@@ -21,11 +22,13 @@ pub record Runs (left_before left_now bytes_before bytes_now : Option (List ℕ)
   pub serves : IsServed script bytes_before bytes_now served
   pub writes : Writes (printed_text (asked script.lines) served)
 
--- These are a script's loops in their order, each carried to its end. Just the streams of its home began on each, once.
+-- These are a script's loops in their order, each carried to its end. Just the streams of its home began on each, once, and its own
+-- history says that they were called, and that its run was ended.
 pub record HaveCarried {C O : Type 0} (script : Script) (loops : List (RunEnd C O)) : Type 0 where
   pub many : length loops ≡ script.loops
   pub over : AllByRecursion (λ end. IsOver (coroutines_of script) end.calls.known end.coroutines) loops
   pub began : (k : ℕ) (end : RunEnd C O) → k < script.loops → HasServed script k (slice_index_or loops k end).coroutines.history
+  pub turned : (k : ℕ) (end : RunEnd C O) → k < script.loops → HasTurned script k (slice_index_or loops k end).calls.known.seen
 
 -- The same run at its loops: they carried the script that the text says, and its requests were served.
 pub record RunsOnLoops {C O : Type 0} (left_before left_now bytes_before bytes_now : Option (List ℕ)) (served : List Placed) (loops : List (RunEnd C O))

@@ -3,8 +3,14 @@ pub mod BegunOnce
 pub mod Berthed
 pub mod Ended
 pub mod Entering
+pub mod EventCleared
+pub mod FoundSet
+pub mod HandleCalled
+pub mod HomeGrows
+pub mod HomeTurns
 pub mod Lists
 pub mod OwnPosts
 pub mod Posted
 pub mod Served
 pub mod Sharing
+pub mod Turned

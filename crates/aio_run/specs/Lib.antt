@@ -4,3 +4,5 @@ pub mod Posting
 pub mod Readiness
 pub mod Runs
 pub mod Serving
+pub mod Setting
+pub mod Turned

@@ -4,9 +4,11 @@ use Rattle.aio_model.specs.declared.causes.Cause.TheVariants.{Begin}
 use Rattle.table_seats.specs.Seats.{Numbers, own_entries}
 use Rattle.aio_model.specs.CoroutineHistory.{Schedule, Push, History, seat_of}
 use Rattle.co_schedule.specs.Known.{numbers_of}
+use Rattle.aio_model.specs.LoopLaws.{some_entry}
 use Rattle.loop_rows.specs.Opening.{loop_sizes}
 use Rattle.loop_rows.specs.declared.seats.Seats.{Seats}
 use Rattle.loop_rows.specs.declared.shared.LoopShared.{LoopShared}
+use Rattle.aio_run.specs.Setting.{sets}
 
 -- Of the first so many coroutines each was scheduled and pushed on the loop that is its home, with its state, by the seat of number 0.
 -- These are the entries on one loop, newest first.
@@ -43,3 +45,8 @@ HaveCoroutines {C} {O} many shared =
 abbrev pub HaveSizes : {C O : Type 0} → List (LoopShared C O) → Type 0
 HaveSizes {C} {O} shared =
     (k : ℕ) (t : LoopShared C O) → k < length shared → (slice_index_or shared k t).bottoms.sizes ≡ loop_sizes
+
+-- the seats of so many loops have seen event 0 set
+abbrev pub HaveSet : {C O : Type 0} → ℕ → List (Seats C O) → Type 0
+HaveSet {C} {O} loops seats =
+    (t : ℕ) (s : Seats C O) → t < loops → some_entry (sets 0) (slice_index_or seats t s).bottoms.known.seen ≡ true

@@ -1,5 +1,5 @@
 -- What a run of a script begins with.
-use Rattle.std.specs.Prelude.{◌≡◌, ℕ, ◌<◌, ◌≤◌, max, List, [], None, length, replicate, slice_index_or, vec_len, vec_capacity}
+use Rattle.std.specs.Prelude.{◌≡◌, ℕ, ◌<◌, ◌≤◌, max, false, List, [], None, length, replicate, slice_index_or, vec_len, vec_capacity}
 use Rattle.aio_model.specs.declared.scripts.Script.{Script}
 use Rattle.co_loop.specs.declared.working.CoWork.{CoWork}
 use Rattle.co_loop.specs.Rows.{AreOf}
@@ -12,6 +12,7 @@ use Rattle.loop_rows.specs.declared.opening.Homes.{Homes}
 use Rattle.loop_rows.specs.LoopStates.{LoopState}
 use Rattle.loop_rows.specs.Opening.{AreNew, HomesEach}
 use Rattle.loop_rows.specs.Rows.{IsRow, HasNumbers}
+use Rattle.loop_threads.specs.declared.hands.Hand.{Hand}
 use Rattle.loop_threads.specs.Reserving.{IsReserved}
 use Rattle.loop_threads.specs.Running.{CanBeginEach}
 use Rattle.stream_ends.specs.Images.{IsLockFor, homes_of}
@@ -29,11 +30,17 @@ abbrev pub HaveEntered : {C O : Type 0} → ℕ → ℕ → List (Homes C O) →
 HaveEntered {C} {O} loops coroutines homes =
     (k : ℕ) (h : Homes C O) → k < loops → (slice_index_or homes k h).coroutines.known ≡ new_known coroutines 64 1
 
+-- on none of them event 0 was found set
+abbrev pub AreQuiet : {C K O : Type 0} → ℕ → List (Hand (CoWork C K O)) → Type 0
+AreQuiet {C} {K} {O} loops hands =
+    (k : ℕ) (d : Hand (CoWork C K O)) → k < loops → (slice_index_or hands k d).work.is_ended ≡ false
+
 module _ {C K O : Type 0} (can_work : CoWork C K O → List (LoopShared C O) → LoopState C O → Type 0) where
-  -- what is to be done on each loop can begin, and there is room for a run, for all streams that end, and for the ends of the loops
+  -- what is to be done on each loop can begin, with no event found set, and there is room for a run, for all streams that end, and for the ends of the loops
   pub record HaveHands (script : Script) (loops : Loops C K O) : Type 0 where
     pub hands : vec_len loops.hands ≡ script.loops
     pub begin : CanBeginEach can_work loops.opened.shared.items loops.opened.homes.items loops.hands.items
+    pub quiet : AreQuiet script.loops loops.hands.items
     pub reserved : IsReserved script.loops loops.reserved
     pub berths : loops.berths.items ≡ replicate (length script.streams) None
     pub streams : (loops.streams.items ≡ []) × (length script.streams ≤ vec_capacity loops.streams)

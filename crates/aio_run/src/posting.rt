@@ -11,7 +11,7 @@ ghost use Rattle.loop_rows.specs.Rows.{IsRow, HasNumbers};
 ghost use Rattle.loop_rows.specs.Stepping.{OthersStay, CoroutinesStay};
 ghost use Rattle.stream_ends.specs.Images.{homes_of};
 ghost use Rattle.stream_ends.specs.Starts.{HaveStarted};
-ghost use Rattle.aio_run.specs.Posting.{HaveBegun, HaveCoroutines, HaveOwn};
+ghost use Rattle.aio_run.specs.Posting.{HaveBegun, HaveCoroutines, HaveOwn, HaveSet};
 ghost use Rattle.aio_run.specs.Readiness.{coroutines_of};
 
 use aio_model::{Cause, Script};
@@ -92,6 +92,7 @@ pub(crate) fn end_each<D: Device>(shared: &[LoopShared<StreamCo<D>>], row: &mut 
     requires row { IsRow shared.now row.old × HasNumbers 0 64 row.old }
     ensures row { IsRow shared.now row.new × HasNumbers 0 64 row.new }
     ensures coroutines { CoroutinesStay row.old.seats.items row.new.seats.items }
+    ensures set { HaveSet (length shared.now) row.new.seats.items }
 {
     for to in 0..shared.len() {
         row.set_event(shared, to);

@@ -19,9 +19,10 @@ ghost use Rattle.stream_ends.specs.Stops.{HaveStopped, IsServed};
 ghost use Rattle.aio_run.specs.Berths.{AllOf, AreBerthed};
 ghost use Rattle.aio_run.specs.declared.running.RunEnd.{RunEnd};
 ghost use Rattle.aio_run.specs.Ends.{IsOver, end_of};
-ghost use Rattle.aio_run.specs.Posting.{HaveBegunAlone, HaveCoroutines, HaveSizes};
-ghost use Rattle.aio_run.specs.Readiness.{ArePosted, IsReady, coroutines_of};
+ghost use Rattle.aio_run.specs.Posting.{HaveBegunAlone, HaveCoroutines, HaveSet, HaveSizes};
+ghost use Rattle.aio_run.specs.Readiness.{AreQuiet, ArePosted, HaveEntered, IsReady, coroutines_of};
 ghost use Rattle.aio_run.specs.Serving.{HasServed};
+ghost use Rattle.aio_run.specs.Turned.{HasTurned};
 
 use crate::carrying::carry;
 use crate::opening::Loops;
@@ -169,6 +170,7 @@ fn end_if_none<D: Device>(
     requires row { IsRow shared.now row.old × HasNumbers 0 64 row.old }
     ensures row { IsRow shared.now row.new × HasNumbers 0 64 row.new }
     ensures coroutines { CoroutinesStay row.old.seats.items row.new.seats.items }
+    ensures set { length script.now.streams ≡ 0 → HaveSet (length shared.now) row.new.seats.items }
 {
     if script.streams.as_slice().is_empty() {
         end_each(shared, row);
@@ -192,14 +194,18 @@ fn carry_streams<
     requires tables { HaveCoroutines (coroutines_of env.now.script.now) opened.shared.items × HaveSizes opened.shared.items }
     requires homes { (vec_len opened.homes ≡ length opened.shared.items) × HomesEach (length opened.shared.items) opened.shared.items opened.homes.items }
     requires hands { (vec_len hands ≡ length opened.shared.items) × CanBeginEach (CanWork (λ k c o. IsStreamAt D.bytes k c o)) opened.shared.items opened.homes.items hands.items }
+    requires none_entered { HaveEntered (length opened.shared.items) (coroutines_of env.now.script.now) opened.homes.items }
+    requires quiet { AreQuiet (length opened.shared.items) hands.items }
     requires reserved { IsReserved (length opened.shared.items) reserved }
     requires row { IsRow opened.shared.items opened.row × HasNumbers 0 64 opened.row }
     requires some { 0 < length opened.shared.items }
     requires begun { HaveBegunAlone (length env.now.script.now.streams) (homes_of env.now.script.now.streams) (length opened.shared.items) opened.row.seats.items }
+    requires set { length env.now.script.now.streams ≡ 0 → HaveSet (length opened.shared.items) opened.row.seats.items }
     ensures long { length result.items ≡ length opened.shared.items }
     ensures ended { AllByRecursion (λ run. AllOf D.bytes env.now.script.now env.now.lock.now run.work.crew.ended.items) result.items }
     ensures over { AllByRecursion (λ run. IsOver (coroutines_of env.now.script.now) run.calls.known run.coroutines) result.items }
     ensures served { (k : ℕ) (r : LoopRun _ _ _) → k < length result.items → HasServed env.now.script.now k (slice_index_or result.items k r).coroutines.history }
+    ensures turned { (k : ℕ) (r : LoopRun _ _ _) → k < length result.items → HasTurned env.now.script.now k (slice_index_or result.items k r).calls.known.seen }
 {
     let Opened { shared, homes, row } = opened;
     carry(env.rt, env, shared, reserved, homes, hands, row)
@@ -217,6 +223,7 @@ fn serve_streams<
     ensures streams { HaveStopped D.bytes env.now.script.now env.now.lock.now result.streams.items }
     ensures ends { (length result.ends.items ≡ env.now.script.now.loops) × AllByRecursion (λ end. IsOver (coroutines_of env.now.script.now) end.calls.known end.coroutines) result.ends.items }
     ensures served { (k : ℕ) (end : RunEnd _ _) → k < env.now.script.now.loops → HasServed env.now.script.now k (slice_index_or result.ends.items k end).coroutines.history }
+    ensures turned { (k : ℕ) (end : RunEnd _ _) → k < env.now.script.now.loops → HasTurned env.now.script.now k (slice_index_or result.ends.items k end).calls.known.seen }
 {
     let Loops {
         mut opened,
@@ -247,6 +254,7 @@ pub fn run<D: Device + Send, K: Clock + Drop + Send, G: Gate + Sync, R: Threads 
     ensures few { length result.served.items ≤ 4096 }
     ensures loops { (length result.loops.items ≡ script.now.loops) × AllByRecursion (λ end. IsOver (coroutines_of script.now) end.calls.known end.coroutines) result.loops.items }
     ensures began { (k : ℕ) (end : RunEnd _ _) → k < script.now.loops → HasServed script.now k (slice_index_or result.loops.items k end).coroutines.history }
+    ensures turned { (k : ℕ) (end : RunEnd _ _) → k < script.now.loops → HasTurned script.now k (slice_index_or result.loops.items k end).calls.known.seen }
 
     // What it came to at the device.
     ensures extent { D.extent result.device ≡ D.extent (device_behind prepared.lock) }

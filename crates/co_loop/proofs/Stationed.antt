@@ -61,9 +61,9 @@ row_again {C} {O} shared row after n was now same first count =
     }
 
 -- a turn, with what is left to do behind it, leaves each seat its numbers where each entry of its runner does
-pub numbers_by_turn : {R C O : Type 0} (does : R → LoopEntered → R → Type 0) (here : R → Far C O) (keeps : (a : R) (e : LoopEntered) (b : R) → does a e b → numbers (here b).seats ≡ numbers (here a).seats)
-    (pool : PoolState) (block : Bool) (events n : ℕ) (turned : Turned) (time time_after : ℕ) (pass pass_after : PassState) (before after : LoopFar R) → TurnsAndEnds does here pool block events n turned time time_after pass pass_after before after → numbers (here after.runner).seats ≡ numbers (here before.runner).seats
-numbers_by_turn {R} does here keeps pool block events n turned time time_after pass pass_after before after turns =
+pub numbers_by_turn : {R C O : Type 0} (does : R → LoopEntered → R → Type 0) (here : R → Far C O) (same : R → R → Type 0) (keeps : (a : R) (e : LoopEntered) (b : R) → does a e b → numbers (here b).seats ≡ numbers (here a).seats)
+    (pool : PoolState) (block : Bool) (events n : ℕ) (turned : Turned) (time time_after : ℕ) (pass pass_after : PassState) (before after : LoopFar R) → TurnsAndEnds does here same pool block events n turned time time_after pass pass_after before after → numbers (here after.runner).seats ≡ numbers (here before.runner).seats
+numbers_by_turn {R} does here same keeps pool block events n turned time time_after pass pass_after before after turns =
     posts_each_again n _ _ turns.ends.posts ∙ same_by_turn does (λ (r : R). numbers (here r).seats) keeps _ _ _ _ _ _ _ _ before turns.turned_to turns.turns
 
 module _ {C O : Type 0} (is_of : ℕ → C → O → Type 0) (shared : List (LoopShared C O)) where
@@ -105,9 +105,9 @@ module _ {C O : Type 0} (is_of : ℕ → C → O → Type 0) (shared : List (Loo
       subst (λ (k : Crew C O). IsOnLoop is_of k.store.origin shared k home run) (sym e)
       (record { is_crew = fits.is_crew; origin = refl; home_of = fits.home_of; idle = fits.idle })
 
-pub turns_for : {R C O : Type 0} {does : R → LoopEntered → R → Type 0} {here : R → Far C O} {pool : PoolState} {block : Bool} {events n m : ℕ} {turned : Turned} {time time_after : ℕ} {pass pass_after : PassState} {before after : LoopFar R} → n ≡ m → TurnsAndEnds does here pool block events n turned time time_after pass pass_after before after → TurnsAndEnds does here pool block events m turned time time_after pass pass_after before after
-turns_for {R} {C} {O} {does} {here} {pool} {block} {events} {n} {m} {turned} {time} {time_after} {pass} {pass_after} {before} {after} e turns =
-    subst (λ (k : ℕ). TurnsAndEnds does here pool block events k turned time time_after pass pass_after before after) e turns
+pub turns_for : {R C O : Type 0} {does : R → LoopEntered → R → Type 0} {here : R → Far C O} {same : R → R → Type 0} {pool : PoolState} {block : Bool} {events n m : ℕ} {turned : Turned} {time time_after : ℕ} {pass pass_after : PassState} {before after : LoopFar R} → n ≡ m → TurnsAndEnds does here same pool block events n turned time time_after pass pass_after before after → TurnsAndEnds does here same pool block events m turned time time_after pass pass_after before after
+turns_for {R} {C} {O} {does} {here} {same} {pool} {block} {events} {n} {m} {turned} {time} {time_after} {pass} {pass_after} {before} {after} e turns =
+    subst (λ (k : ℕ). TurnsAndEnds does here same pool block events k turned time time_after pass pass_after before after) e turns
 
 module _ {C O : Type 0} (is_of : ℕ → C → O → Type 0) (origin : O) (shared : List (LoopShared C O)) (loop : LoopState C O) (crew : Crew C O) (run : RunState) where
   row_of : CanStart origin shared loop crew run → IsRow crew.coroutines shared loop.row.seats.items

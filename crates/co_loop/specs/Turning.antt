@@ -18,11 +18,12 @@ pub record EndsTurn {C O : Type 0} (time time_after n : ℕ) (before : Far C O) 
   pub timers_are : timers_after ≡ armed.timers
   pub posts : PostsEachAgain n (record before { naps = armed.naps }) after
 
--- A turn by this runner, and behind it what is left to do: home and the handlers are as the turn left them.
-pub record TurnsAndEnds {R C O : Type 0} (does : R → LoopEntered → R → Type 0) (here : R → Far C O) (pool : PoolState) (block : Bool) (events n : ℕ) (turned : Turned) (time time_after : ℕ) (pass pass_after : PassState) (before after : LoopFar R) : Type 0 where
+-- A turn by this runner, and behind it what is left to do: home, the handlers and this of the runner are as the turn left them.
+pub record TurnsAndEnds {R C O : Type 0} (does : R → LoopEntered → R → Type 0) (here : R → Far C O) (same : R → R → Type 0) (pool : PoolState) (block : Bool) (events n : ℕ) (turned : Turned) (time time_after : ℕ) (pass pass_after : PassState) (before after : LoopFar R) : Type 0 where
   pub turned_to : LoopFar R
   pub time_turned : ℕ
   pub turns : Turns does pool block events turned time time_turned pass pass_after before turned_to
   pub ends : EndsTurn time_turned time_after n (here turned_to.runner) turned_to.side.timers (here after.runner) after.side.timers
   pub handlers : after.side.handlers ≡ turned_to.side.handlers
   pub known : after.known ≡ turned_to.known
+  pub keeps : same turned_to.runner after.runner

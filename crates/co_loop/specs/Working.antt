@@ -61,5 +61,5 @@ pub record Works (E W : Type 0) {C K O : Type 0} (is_of : ℕ → C → O → Ty
   pub events_are : (t : LoopShared C O) → events ≡ (slice_index_or shared loop.number t).bottoms.sizes.events
   pub block : Bool
   pub turned : Turned
-  pub turns : TurnsAndEnds (λ before entered after. (after.shared ≡ before.shared) × (after.env ≡ before.env) × RunnerDoes is_of resumes before.shared.now entered (on_loop before.crew before.home before.is_ended) (on_loop after.crew after.home after.is_ended)) (λ (e : CoLoop C E W O). far e.crew) pool block events work.crew.coroutines turned (time work.clock) (time work_after.clock) loop.lots loop_after.lots (loop_far loop.home.known loop.side runner) (loop_far loop_after.home.known loop_after.side runner_after)
+  pub turns : TurnsAndEnds (λ before entered after. (after.shared ≡ before.shared) × (after.env ≡ before.env) × RunnerDoes is_of resumes before.shared.now entered (on_loop before.crew before.home before.is_ended) (on_loop after.crew after.home after.is_ended)) (λ (e : CoLoop C E W O). far e.crew) (λ (turned_to after : CoLoop C E W O). (after.home ≡ turned_to.home) × (after.is_ended ≡ turned_to.is_ended)) pool block events work.crew.coroutines turned (time work.clock) (time work_after.clock) loop.lots loop_after.lots (loop_far loop.home.known loop.side runner) (loop_far loop_after.home.known loop_after.side runner_after)
   pub ended_is : ended ≡ (work_after.is_ended && (not turned.progress && not (is_kept work_after.crew.leaving.items)))

@@ -68,7 +68,7 @@ impl<'a, C: Co<E> + Drop, E, W: Wait> CoLoop<'a, C, E, W> {
         ensures legal { IsLegal aio.old.table.now.sizes aio.new.home.seat.known.seen }
         ensures walking { IsFalse aio.new.side.handlers.walking }
         ensures place { (self.new.shared ≡ self.old.shared) × (self.new.env ≡ self.old.env) × SameCrew self.old.crew self.new.crew }
-        ensures turns { TurnsAndEnds (λ before entered after. (after.shared ≡ before.shared) × (after.env ≡ before.env) × RunnerDoes C.is_of C.resumes before.shared.now entered (on_loop before.crew before.home before.is_ended) (on_loop after.crew after.home after.is_ended)) (λ e. far e.crew) aio.old.pool.now (block && not (is_kept self.old.crew.leaving.items)) aio.old.table.now.sizes.events self.old.crew.coroutines result (K.time clock.old) (K.time clock.new) aio.old.lot_pass aio.new.lot_pass (loop_far aio.old.home.seat.known aio.old.side self.old) (loop_far aio.new.home.seat.known aio.new.side self.new) }
+        ensures turns { TurnsAndEnds (λ before entered after. (after.shared ≡ before.shared) × (after.env ≡ before.env) × RunnerDoes C.is_of C.resumes before.shared.now entered (on_loop before.crew before.home before.is_ended) (on_loop after.crew after.home after.is_ended)) (λ e. far e.crew) (λ turned_to after. (after.home ≡ turned_to.home) × (after.is_ended ≡ turned_to.is_ended)) aio.old.pool.now (block && not (is_kept self.old.crew.leaving.items)) aio.old.table.now.sizes.events self.old.crew.coroutines result (K.time clock.old) (K.time clock.new) aio.old.lot_pass aio.new.lot_pass (loop_far aio.old.home.seat.known aio.old.side self.old) (loop_far aio.new.home.seat.known aio.new.side self.new) }
     {
         let rt = self.rt;
         let block = block & self.may_block();

@@ -1,5 +1,5 @@
 -- A run of loops.
-use Rattle.std.specs.Prelude.{◌≡◌, ℕ, ◌<◌, ◌≤◌, ◌+◌, ◌-◌, ◌*◌, IsFalse, Bool, List, length, slice_index_or, vec_len, vec_capacity}
+use Rattle.std.specs.Prelude.{◌≡◌, ℕ, ◌<◌, ◌≤◌, ◌+◌, ◌-◌, ◌*◌, IsFalse, Bool, false, List, length, slice_index_or, vec_len, vec_capacity}
 use Rattle.loop_rows.specs.declared.shared.LoopShared.{LoopShared}
 use Rattle.loop_rows.specs.declared.rows.Row.{Row}
 use Rattle.loop_rows.specs.declared.seats.Seats.{Seats}
@@ -15,13 +15,14 @@ use Rattle.loop_rows.specs.Rows.{IsRow, HasNumbers}
 use Rattle.loop_threads.specs.Parts.{AllParts, InReverse, IsCarried}
 use Rattle.loop_threads.specs.Members.{IsOfPart}
 
--- a part as it begins: the homes and the hand of its loop
+-- a part as it begins: the homes and the hand of its loop, whose run hasn't ended
 pub record Begins {C W O : Type 0} (homes : Homes C O) (hand : Hand W) (part : Part C W O) : Type 0 where
   pub home_is : part.home ≡ homes.home
   pub lots_are : part.lot_pass ≡ homes.lot_pass
   pub coroutines_are : part.coroutines ≡ homes.coroutines
   pub side_is : part.side ≡ hand.side
   pub work_is : part.work ≡ hand.work
+  pub not_ended : part.carried ≡ false
 
 -- the last of so many begins as the first of the homes and hands, and so on
 abbrev pub BeginEach : {C W O : Type 0} → ℕ → List (Homes C O) → List (Hand W) → List (Part C W O) → Type 0

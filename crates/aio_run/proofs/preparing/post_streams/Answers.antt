@@ -50,5 +50,5 @@ returns g c =
       numbers = c.post_each.ensures.row.1;
       begun = subst (λ n. HaveBegun (length c.args.script.now.streams) (homes_of c.args.script.now.streams) n c.post_each.new.row.seats.items) (ap length c.deref.ensures.value ∙ t.long) c.post_each.ensures.begun;
       own = subst (λ n. HaveOwn n c.post_each.new.row.seats.items) long (c.post_each.ensures.own (subst (λ n. HaveOwn n c.args.loops.opened.row.seats.items) (sym long) (own_new c.args.script.now.loops (coroutines_of c.args.script.now) _ c.args.loops.opened t)));
-      rest = record { hands = rest.hands; begin = rest.begin; reserved = rest.reserved; berths = rest.berths; streams = rest.streams; ends = rest.ends };
+      rest = record { hands = rest.hands; begin = rest.begin; quiet = rest.quiet; reserved = rest.reserved; berths = rest.berths; streams = rest.streams; ends = rest.ends };
     }

@@ -1,13 +1,16 @@
 use denote.Exit.{no}
 use denote.Param.Send.{param_sync, arg_sync}
-use Rattle.std.proofs.Common.{◌<◌, arith, length}
+use Rattle.std.proofs.Common.{◌≡◌, ◌<◌, arith, length}
 use Rattle.img_streams.specs.Streams.{IsStreamAt, source}
 use Rattle.stream_ends.specs.Images.{homes_of}
 use Rattle.aio_run.specs.Readiness.{coroutines_of}
 use Rattle.aio_run.proofs.Begun.{at_place}
 use Rattle.aio_run.proofs.Ended.{all_ended_of, all_over}
+use Rattle.aio_run.proofs.EventCleared.{event_cleared}
+use Rattle.aio_run.proofs.FoundSet.{set_before, event_found}
 use Rattle.aio_run.proofs.Served.{began_there, entered_there}
 use Rattle.aio_run.proofs.Sharing.{env_sync}
+use Rattle.aio_run.proofs.Turned.{called_where_began}
 use Rattle.aio_run.proofs.running.carry_streams.Goals as goal
 
 pub carry-requires-sync-E : goal.carry-requires-sync-E
@@ -31,4 +34,22 @@ returns-clause-served g c k r low =
     record {
       began = began_there _ _ (λ k co o. IsStreamAt g.D.Device.bytes k co o) _ _ c.args.opened.shared.items c.args.opened.homes.items c.args.hands.items c.args.opened.row c.carry.result.items c.carry.ensures c.requires.some c.requires.few (length c.args.env.now.script.now.streams) (homes_of c.args.env.now.script.now.streams) k r here (at_place c.args.opened.row.seats.items k (omega (arith, here, c.requires.row.0.long))) (c.requires.begun k _ here);
       entered = entered_there _ _ (λ k co o. IsStreamAt g.D.Device.bytes k co o) _ _ c.args.opened.shared.items c.args.opened.homes.items c.args.hands.items c.args.opened.row c.carry.result.items c.carry.ensures c.requires.some c.requires.few k r here;
+    }
+
+pub returns-clause-turned : goal.returns-clause-turned
+returns-clause-turned g c k r low =
+    let script = c.args.env.now.script.now in
+    let shared = c.args.opened.shared.items in
+    let homes = c.args.opened.homes in
+    let hands = c.args.hands in
+    let row = c.args.opened.row in
+    let ends = c.carry.result.items in
+    let here : k < length shared = omega (arith, low, c.carry.ensures.many) in
+    let served = returns-clause-served g c k r low in
+    let homes_long : length homes.items ≡ length shared = omega (arith, c.requires.homes.0, homes.ok.0) in
+    let hands_long : length hands.items ≡ length shared = omega (arith, c.requires.hands.0, hands.ok.0) in
+    record {
+      called = called_where_began _ _ (λ k co o. IsStreamAt g.D.Device.bytes k co o) _ _ shared c.requires.tables.1 homes.items hands.items row ends c.carry.ensures homes_long hands_long c.requires.quiet k r here (coroutines_of script) c.requires.none_entered (length script.streams) (homes_of script.streams) served.began served.entered;
+      cleared = event_cleared _ _ (λ k co o. IsStreamAt g.D.Device.bytes k co o) _ _ shared c.requires.tables.1 homes.items hands.items row ends c.carry.ensures homes_long hands_long c.requires.quiet k r here;
+      found = λ none. event_found _ _ shared homes.items hands.items row ends c.carry.ensures k r here c.requires.tables.1 (set_before _ _ shared homes.items hands.items row ends c.carry.ensures k r here c.requires.some (c.requires.set none));
     }

@@ -8,9 +8,10 @@ use Rattle.loop_threads.specs.Reserving.{IsReserved}
 use Rattle.stream_ends.specs.Images.{homes_of}
 use Rattle.aio_run.specs.declared.running.RunEnd.{RunEnd}
 use Rattle.aio_run.specs.Ends.{IsOver, end_of}
-use Rattle.aio_run.specs.Posting.{HaveBegun, HaveOwn}
-use Rattle.aio_run.specs.Readiness.{coroutines_of}
+use Rattle.aio_run.specs.Posting.{HaveBegun, HaveOwn, HaveSet}
+use Rattle.aio_run.specs.Readiness.{AreQuiet, HaveEntered, coroutines_of}
 use Rattle.aio_run.specs.Serving.{HasServed}
+use Rattle.aio_run.specs.Turned.{HasTurned}
 use Rattle.aio_run.proofs.Lists.{all_mapped, at_mapped}
 use Rattle.aio_run.proofs.Served.{begun_alone}
 use Rattle.aio_run.proofs.running.serve_streams.Goals as goal
@@ -46,6 +47,18 @@ carry_streams-runs-requires-clause-begun g c κs within =
     (subst (λ n. HaveOwn n opened.row.seats.items) (sym posted.long) posted.own)
     c.end_if_none.ensures.coroutines
 
+pub carry_streams-runs-requires-clause-none_entered : goal.carry_streams-runs-requires-clause-none_entered
+carry_streams-runs-requires-clause-none_entered g c κs within =
+    subst (λ n. HaveEntered n (coroutines_of c.args.env.now.script.now) c.args.loops.opened.homes.items) (sym c.requires.posted.long) c.requires.posted.none_entered
+
+pub carry_streams-runs-requires-clause-quiet : goal.carry_streams-runs-requires-clause-quiet
+carry_streams-runs-requires-clause-quiet g c κs within =
+    subst (λ n. AreQuiet n c.args.loops.hands.items) (sym c.requires.posted.long) c.requires.posted.rest.quiet
+
+pub carry_streams-runs-requires-clause-set : goal.carry_streams-runs-requires-clause-set
+carry_streams-runs-requires-clause-set g c κs within none =
+    subst (λ (l : List (LoopShared _ _)). HaveSet (length l) c.end_if_none.new.row.seats.items) c.deref.ensures.value (c.end_if_none.ensures.set none)
+
 pub returns-clause-ends : goal.returns-clause-ends
 returns-clause-ends g c =
     let script = c.args.env.now.script.now in
@@ -63,3 +76,11 @@ returns-clause-served g c k end low =
     let here : k < length runs = omega (arith, low, c.carry_streams-runs.ensures.long, c.requires.posted.long) in
     subst (λ (l : List (RunEnd _ _)). HasServed script k (slice_index_or l k end).coroutines.history) (sym c.gather.ensures.kept)
     (at_mapped end_of (λ (e : RunEnd _ _). HasServed script k e.coroutines.history) runs k here (λ r. c.carry_streams-runs.ensures.served k r here) end)
+
+pub returns-clause-turned : goal.returns-clause-turned
+returns-clause-turned g c k end low =
+    let script = c.args.env.now.script.now in
+    let runs = c.carry_streams-runs.result.items in
+    let here : k < length runs = omega (arith, low, c.carry_streams-runs.ensures.long, c.requires.posted.long) in
+    subst (λ (l : List (RunEnd _ _)). HasTurned script k (slice_index_or l k end).calls.known.seen) (sym c.gather.ensures.kept)
+    (at_mapped end_of (λ (e : RunEnd _ _). HasTurned script k e.calls.known.seen) runs k here (λ r. c.carry_streams-runs.ensures.turned k r here) end)

@@ -61,7 +61,7 @@ loop-one-preserved g c =
           (at_push (λ (i : ℕ) (x : Part _ _ _). IsPart (CanWork g.C.Origin.is_of) T x × (x.number + i + 1 ≡ length T)) parts.items (length parts.items) made refl (is, omega (arith, nl, was.1, nh, H.ok.0, parts.ok.0)) j p (omega (arith, low, pushed.len, parts.ok.0)) (λ less. was.7 j p (omega (arith, less, parts.ok.0))))),
       (λ k j h d p at low. subst (λ (xs : List (Part _ _ _)). Begins (slice_index_or c.args.homes.items k h) (slice_index_or c.args.hands.items k d) (slice_index_or xs j p)) (sym pushed.items)
           (begin_more (λ (x : Homes _ _) (y : Hand _) (z : Part _ _ _). Begins x y z) c.args.homes.items H.items hr.items c.args.hands.items D.items dr.items parts.items one hand made (length T) eh ed (omega (arith, was.0, H.ok.0, D.ok.0)) (omega (arith, was.1, H.ok.0, parts.ok.0))
-          (omega (arith, c.requires.homes.0, c.args.homes.ok.0)) (omega (arith, c.requires.hands.0, c.args.hands.ok.0)) sh sd (record { home_is = refl; lots_are = refl; coroutines_are = refl; side_is = refl; work_is = refl })
+          (omega (arith, c.requires.homes.0, c.args.homes.ok.0)) (omega (arith, c.requires.hands.0, c.args.hands.ok.0)) sh sd (record { home_is = refl; lots_are = refl; coroutines_are = refl; side_is = refl; work_is = refl; not_ended = refl })
           (λ a b x y z f less. was.8 a b x y z f (omega (arith, less, parts.ok.0))) k j h d p at (omega (arith, low, pushed.len, parts.ok.0)))),
       (λ whole see.
           let seen = was.9 whole see in

@@ -21,4 +21,4 @@ pub returns-clause-turns : goal.returns-clause-turns
 returns-clause-turns g c =
     let turns = c.turn-turned.ensures.turns in
     let same = same_by_turn _ (λ (e : CoLoop g.row.C.Denot g.row.E.Denot g.row.W.Denot g.row.C-Source.Denot). e.crew.coroutines) (λ a e b d. d.2.coroutines) _ _ _ _ _ _ _ _ _ _ turns in
-    turns_and_ends _ (λ (e : CoLoop g.row.C.Denot g.row.E.Denot g.row.W.Denot g.row.C-Source.Denot). far e.crew) _ _ _ _ _ _ _ _ _ _ _ _ _ _ _ (ap (λ b. c.args.block && b) c.may_block.ensures) same turns c.end_turn.ensures.ends c.end_turn.ensures.handlers refl
+    turns_and_ends _ (λ (e : CoLoop g.row.C.Denot g.row.E.Denot g.row.W.Denot g.row.C-Source.Denot). far e.crew) _ _ _ _ _ _ _ _ _ _ _ _ _ _ _ _ (ap (λ b. c.args.block && b) c.may_block.ensures) same turns c.end_turn.ensures.ends c.end_turn.ensures.handlers refl (c.end_turn.ensures.same.2, c.end_turn.ensures.same.3)

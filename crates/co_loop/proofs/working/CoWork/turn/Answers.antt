@@ -44,7 +44,7 @@ returns-clause-station g c =
       row = row_again c.args.shared.now c.args.station.row row_end after.crew.coroutines c.requires.station.row
           (subst (λ (v : Vec (Seats g.row.C.Denot g.row.C-Source.Denot) Global). IsRow after.crew.coroutines c.args.shared.now v.items) (sym seats_are) fits.is_crew.row)
           (ap (λ (v : Vec (Seats g.row.C.Denot g.row.C-Source.Denot) Global). numbers v.items) seats_are
-          ∙ numbers_by_turn _ (λ (e : CoLoop g.row.C.Denot g.row.E.Denot g.row.R.Denot g.row.C-Source.Denot). far e.crew) (λ a e b d. runner_does g.C.Origin.is_of g.C.Co.resumes a.shared.now e (on_loop a.crew a.home a.is_ended) (on_loop b.crew b.home b.is_ended) d.2) _ _ _ _ _ _ _ _ _ _ _ c.turn-turned.ensures.turns
+          ∙ numbers_by_turn _ (λ (e : CoLoop g.row.C.Denot g.row.E.Denot g.row.R.Denot g.row.C-Source.Denot). far e.crew) _ (λ a e b d. runner_does g.C.Origin.is_of g.C.Co.resumes a.shared.now e (on_loop a.crew a.home a.is_ended) (on_loop b.crew b.home b.is_ended) d.2) _ _ _ _ _ _ _ _ _ _ _ c.turn-turned.ensures.turns
           ∙ ap (λ (k : Crew g.row.C.Denot g.row.C-Source.Denot). numbers k.seats.items) c.exchange_seats.ensures.crew)
           (ap (λ (r : Row g.row.C.Denot g.row.C-Source.Denot). r.first) c.exchange_seats-2.ensures.row ∙ ap (λ (r : Row g.row.C.Denot g.row.C-Source.Denot). r.first) c.exchange_seats.ensures.row)
           (ap (λ (r : Row g.row.C.Denot g.row.C-Source.Denot). r.count) c.exchange_seats-2.ensures.row ∙ ap (λ (r : Row g.row.C.Denot g.row.C-Source.Denot). r.count) c.exchange_seats.ensures.row);
