@@ -64,7 +64,7 @@ module _ {C K O : Type 0} (E R : Type 0) (is_of : ℕ → C → O → Type 0) (r
         let t = at_place shared k low in
         let s = at_place are.joined.row.seats.items k (omega (arith, low, are.is_row.long)) in
         tells_whole (slice_index_or homes k h) (slice_index_or hands k d) first (slice_index_or are.joined.members.items k m) are.joined.row (slice_index_or shared k t) (slice_index_or are.joined.row.seats.items k s) (slice_index_or ends k r)
-        (are.carried.begins k j h d part (omega (arith, low))) (are.carried.parts_are j part (omega (arith, low, are.carried.many))).station.within (quiet k d low) (are.carried.runs k j part m (omega (arith, low))) (are.ends k t m s r low)
+        (are.carried.begins k j h d part (omega (arith, low))) (are.carried.parts_are j part (omega (arith, low, are.carried.many))).station.within (quiet k d low).0 (are.carried.runs k j part m (omega (arith, low))) (are.ends k t m s r low)
 
     pub event_cleared : some_entry (clears 0) (slice_index_or ends k r).calls.known.seen ≡ true
     event_cleared =

@@ -1,3 +1,4 @@
+pub mod AskedToEnd
 pub mod Begun
 pub mod BegunOnce
 pub mod Berthed

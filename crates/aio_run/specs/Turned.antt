@@ -12,8 +12,8 @@ calls i (Dequeue j ran) = (i == j) && ran
 calls i _ = false
 
 -- Where a stream has this loop as its home, handle 0 was dequeued here and called. Event 0 was cleared here, for the handler that ends the
--- loop's run; where there is no stream, it was found set.
+-- loop's run, and it was found set.
 pub record HasTurned (script : Script) (loop : ℕ) (history : History) : Type 0 where
   pub called : (co : ℕ) → co < length script.streams → slice_index (homes_of script.streams) co ≡ loop → some_entry (calls 0) history ≡ true
   pub cleared : some_entry (clears 0) history ≡ true
-  pub found : length script.streams ≡ 0 → some_entry (finds_set 0) history ≡ true
+  pub found : some_entry (finds_set 0) history ≡ true

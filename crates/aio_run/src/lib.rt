@@ -14,7 +14,7 @@
 //!
 //! The last stream that retires has event 0 of each loop set. Where the script has no stream, `run` sets it before the
 //! threads are started. Once they are joined, `run` puts each coroutine at the place of its stream line, and `stream_ends`
-//! makes the replies of them. Where one hadn't come back, it would wait for ever.
+//! makes the replies of them. Where one hadn't come back, or none had asked for the loops' end, it would wait for ever.
 #![tactic(auto)]
 
 mod carrying;

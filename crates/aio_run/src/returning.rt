@@ -1,13 +1,17 @@
-//! The coroutines of streams that have ended come back from the loops.
-ghost use Rattle.std.specs.Prelude.{◌≡◌, ◌<◌, ◌≤◌, IsTrue, [], length, vec_capacity};
+//! What comes back from the loops: the coroutines of streams that have ended, and whether one of them asked that the loops end.
+ghost use Rattle.std.specs.Prelude.{◌≡◌, ◌<◌, ◌≤◌, ◌||◌, ◌==◌, true, IsTrue, [], length, vec_capacity};
 ghost use Rattle.img_streams.specs.Streams.{HasGone, IsStreamOf, source};
 ghost use Rattle.stream_ends.specs.Stops.{HasStopped, HaveStopped};
 ghost use Rattle.aio_run.specs.Berths.{AllOf, AreBerthed};
+ghost use Rattle.aio_run.specs.Ends.{has_asked};
 
 use aio_model::Script;
 use aio_words::Device;
+use co_loop::CoWork;
 use co_mutex::CoMutex;
+use co_state::Origin;
 use img_streams::{ImageRule, StreamCo};
+use loop_threads::LoopRun;
 use std::sync::Wait;
 
 /// Whether the coroutine has retired, and there is such a stream line.
@@ -118,4 +122,25 @@ pub(crate) fn all_back<D: Device, R: Wait>(
         streams.push_reserved(back(rt, lock, script, &mut berths, number));
     }
     streams
+}
+
+/// Whether a coroutine of some loop has asked that the loops end.
+fn has_asked<C: Origin, K>(runs: &[LoopRun<C, CoWork<C, K>>]) -> bool
+    ensures { result ≡ has_asked runs.now }
+{
+    runs.iter().any(|run| run.work.crew.quits)
+}
+
+/// Comes back where the script has no stream, and where a coroutine has asked that the loops end. Else it waits for ever.
+pub(crate) fn see_asked<C: Origin, K, R: Wait>(
+    rt: &R,
+    script: &Script,
+    runs: &[LoopRun<C, CoWork<C, K>>],
+)
+    ensures { (length script.now.streams == 0 || has_asked runs.now) ≡ true }
+{
+    if !script.streams.as_slice().is_empty() && !has_asked(runs) {
+        for _ in rt.forever() {}
+        unreachable!()
+    }
 }

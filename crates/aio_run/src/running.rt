@@ -28,7 +28,7 @@ use crate::carrying::carry;
 use crate::opening::Loops;
 use crate::posting::end_each;
 use crate::preparing::{Prepared, ScriptRun};
-use crate::returning::{all_back, take_back};
+use crate::returning::{all_back, see_asked, take_back};
 use aio_model::{Placed, Script};
 use aio_notify::LoopEnd;
 use aio_words::{Clock, Device, Gate};
@@ -80,6 +80,7 @@ fn ended_in<C: Origin + Drop, K: Drop>(work: CoWork<C, K>) -> Vec<Option<C>>
         leaving: _,
         ended,
         done: _,
+        quits: _,
         seats: _,
     } = crew;
     ended
@@ -177,7 +178,8 @@ fn end_if_none<D: Device>(
     }
 }
 
-/// Carries the loops of a script, until all streams have ended and each loop is quiet.
+/// Carries the loops of a script, until all streams have ended and each loop is quiet. It waits for ever where no stream asked that
+/// the loops end, and there are streams.
 fn carry_streams<
     D: Device + Send,
     K: Clock + Drop + Send,
@@ -208,7 +210,9 @@ fn carry_streams<
     ensures turned { (k : ℕ) (r : LoopRun _ _ _) → k < length result.items → HasTurned env.now.script.now k (slice_index_or result.items k r).calls.known.seen }
 {
     let Opened { shared, homes, row } = opened;
-    carry(env.rt, env, shared, reserved, homes, hands, row)
+    let runs = carry(env.rt, env, shared, reserved, homes, hands, row);
+    see_asked(env.rt, env.script, &runs);
+    runs
 }
 
 /// Runs the loops of a script, and takes all streams back.

@@ -93,6 +93,6 @@ module _ {C O : Type 0} where
   pub carries_store : (own n loops : ℕ) (asked : Asked) (before after : Far C O) → CarriesOut own n loops asked before after → after.store ≡ before.store
   carries_store own n loops asked before after is = by asked.quits is.quits ∙ ap (λ (f : Far C O). f.store) is.only
     where
-      by : (b : Bool) → MatchBool b (SetsEnds loops is.woke.seats after.seats × (after ≡ record is.woke { seats = after.seats })) (after ≡ is.woke) → after.store ≡ is.woke.store
+      by : (b : Bool) → MatchBool b (SetsEnds loops is.woke.seats after.seats × (after ≡ record is.woke { quits = true; seats = after.seats })) (after ≡ is.woke) → after.store ≡ is.woke.store
       by true quits = ap (λ (f : Far C O). f.store) quits.1
       by false quits = ap (λ (f : Far C O). f.store) quits

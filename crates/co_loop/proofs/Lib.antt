@@ -9,6 +9,7 @@ pub mod Numbered
 pub mod Posted
 pub mod Rowed
 pub mod SeatSteps
+pub mod Sent
 pub mod Turned
 pub mod Unchanged
 pub mod Woken

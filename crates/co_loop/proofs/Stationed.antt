@@ -125,7 +125,7 @@ module _ {C O : Type 0} (is_of : ℕ → C → O → Type 0) (origin : O) (share
   pub nobody_works : CanStart origin shared loop crew run → IsOnLoop is_of crew.store.origin shared (seated crew loop.row) loop.coroutines run
   nobody_works can =
       let new = can.crew_is in
-      let seated_new : IsNewCrew origin (seated crew loop.row) = record { store = new.store; woken = new.woken; naps = new.naps; leaving = new.leaving; ended = new.ended; done = new.done } in
+      let seated_new : IsNewCrew origin (seated crew loop.row) = record { store = new.store; woken = new.woken; naps = new.naps; leaving = new.leaving; ended = new.ended; done = new.done; quits = new.quits } in
       let own : crew.own < length shared = subst (λ k. k < length shared) (sym can.own) can.station.within in
       let cos : run.cos ≡ [] = ap (λ (r : RunState). r.cos) can.run_is in
       record {

@@ -1,5 +1,5 @@
 -- What a loop keeps of coroutines.
-use Rattle.std.specs.Prelude.{◌≡◌, ℕ, ◌<◌, ◌+◌, true, min, nat_lt, if◌then◌else◌, ◌^◌, ◌-◌, ◌⊎◌, MatchBool, MatchOption, Option, None, Some, List, length, slice_index_or, slice_set}
+use Rattle.std.specs.Prelude.{◌≡◌, ℕ, ◌<◌, ◌+◌, Bool, true, min, nat_lt, if◌then◌else◌, ◌^◌, ◌-◌, ◌⊎◌, MatchBool, MatchOption, Option, None, Some, List, length, slice_index_or, slice_set}
 use Rattle.std.specs.FinMap as map
 use Rattle.aio_model.specs.declared.causes.Cause.TheVariants.{Move}
 use Rattle.co_state.specs.Asked.{Asked}
@@ -28,6 +28,7 @@ pub record Far (C O : Type 0) : Type 0 where
   pub leaving : List (Option (Leaving C))
   pub ended : List (Option C)
   pub done : ℕ
+  pub quits : Bool
   pub seats : List (Seats C O)
 
 -- one more, up to the greatest u64
@@ -41,7 +42,7 @@ destination own loops to = if nat_lt to loops then to else own
 module _ {C O : Type 0} where
   abbrev pub far : Crew C O → Far C O
   far crew =
-      record { store = crew.store; woken = crew.woken.items; naps = crew.naps.items; leaving = crew.leaving.items; ended = crew.ended.items; done = crew.done; seats = crew.seats.items }
+      record { store = crew.store; woken = crew.woken.items; naps = crew.naps.items; leaving = crew.leaving.items; ended = crew.ended.items; done = crew.done; quits = crew.quits; seats = crew.seats.items }
 
   -- each that is kept is of the origin as its number, for a loop that there is, and isn't in the store
   pub record AreKept (is_of : ℕ → C → O → Type 0) (loops : ℕ) (store : Coroutines C O) (leaving : List (Option (Leaving C))) : Type 0 where
@@ -84,12 +85,12 @@ module _ {C O : Type 0} where
       SendsOn (destination own loops to) co state before after
   Follows own loops co entered.Absent before after = after ≡ before
 
-  -- the wakes that it asked for, in order, and then the quit mark
+  -- the wakes that it asked for, in order, and then the quit mark, which is noted
   pub record CarriesOut (own n loops : ℕ) (asked : Asked) (before after : Far C O) : Type 0 where
     pub woke : Far C O
     pub wakes : WakesEach own n loops asked.wakes (reach before.woken before.seats) (reach woke.woken woke.seats)
     pub only : woke ≡ record before { woken = woke.woken; seats = woke.seats }
-    pub quits : MatchBool asked.quits (SetsEnds loops woke.seats after.seats × (after ≡ record woke { seats = after.seats })) (after ≡ woke)
+    pub quits : MatchBool asked.quits (SetsEnds loops woke.seats after.seats × (after ≡ record woke { quits = true; seats = after.seats })) (after ≡ woke)
 
   -- The coroutine, which was there, was resumed once; what its answer asks for was done, and then what it asked for.
   pub record Resumes (is_of : ℕ → C → O → Type 0) (resumes : C → O → Asked → CoStep → C → Type 0) (own n loops co : ℕ) (was : C) (before after : Far C O) : Type 0 where

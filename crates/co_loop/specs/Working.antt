@@ -53,6 +53,7 @@ pub record IsRunnerOf {C E W K O : Type 0} (work : CoWork C K O) (loop : LoopSta
 pub record Works (E W : Type 0) {C K O : Type 0} (is_of : ℕ → C → O → Type 0) (resumes : C → O → Asked → CoStep → C → Type 0) (time : K → ℕ) (shared : List (LoopShared C O)) (work : CoWork C K O) (loop : LoopState C O) (ended : Bool) (work_after : CoWork C K O) (loop_after : LoopState C O) : Type 0 where
   pub runner : CoLoop C E W O
   pub runner_is : IsRunnerOf work loop runner
+  pub shared_is : runner.shared.now ≡ shared
   pub runner_after : CoLoop C E W O
   pub after_is : IsRunnerOf work_after loop_after runner_after
   pub pool : PoolState

@@ -82,6 +82,7 @@ impl<C: Origin + Drop> Crew<C> {
             leaving,
             ended,
             done: 0,
+            quits: false,
             seats,
         })
     }

@@ -22,6 +22,8 @@ pub struct Crew<C: Origin> {
     pub ended: Vec<Option<C>>,
     /// How many are done. It stays at the greatest u64.
     pub done: u64,
+    /// Whether one of them has asked, here, that all loops end.
+    pub quits: bool,
     /// A seat of each loop, in their order.
     pub seats: Vec<Seats<C>>,
 }

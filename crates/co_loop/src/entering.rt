@@ -115,6 +115,7 @@ fn carry_out<C: Origin + Drop, W: Wait>(
     );
     if cx.quits() {
         set_ends(shared, &mut crew.seats, crew.coroutines);
+        crew.quits = true;
     }
 }
 

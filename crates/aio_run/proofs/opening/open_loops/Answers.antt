@@ -11,7 +11,9 @@ returns g c =
         hands = c.in_ok-hands.ensures.hands.0 ∙ c.requires.1.1.1.1.1.1;
         begin = c.in_ok-hands.ensures.begins c.in_ok-opened.opened.shared.items c.in_ok-opened.opened.homes.items c.in_ok-opened.opened.row.seats.items (t.long ∙ sym c.requires.1.1.1.1.1.1)
             (subst (λ n. NewEach n c.coroutines_for-coroutines.result g.origin c.in_ok-opened.opened.shared.items c.in_ok-opened.opened.homes.items c.in_ok-opened.opened.row.seats.items) (sym c.requires.1.1.1.1.1.1) t.each);
-        quiet = λ k d below. (c.in_ok-hands.ensures.hands.1 k d.work.clock d (omega (arith, below, c.requires.1.1.1.1.1.1))).work.is_ended;
+        quiet = λ k d below.
+            let new = c.in_ok-hands.ensures.hands.1 k d.work.clock d (omega (arith, below, c.requires.1.1.1.1.1.1)) in
+            (new.work.is_ended, new.work.crew.quits);
         reserved = c.in_ok-reserve.ensures;
         berths = c.in_ok-empty_berths.ensures ∙ ap (λ n. replicate n None) c.streams_in-many.ensures;
         streams = (c.in_ok-room.ensures.0, omega (arith, c.in_ok-room.ensures.1, c.streams_in-many.ensures));

@@ -70,6 +70,7 @@ returns-clause-does g c =
     record {
       runner = record { rt = c.args.rt; env = c.args.env; shared = c.args.shared; crew = c.exchange_seats.new.crew; home = c.args.station.coroutines; run = c.args.self.run; is_ended = c.args.self.is_ended };
       runner_is = record { crew = c.exchange_seats.ensures.crew; home = refl; run = refl; is_ended = refl };
+      shared_is = refl;
       runner_after = after;
       after_is = record {
         crew = sym (together g.C.Origin.is_of c.args.shared.now after.crew c.exchange_seats-2.new.crew c.exchange_seats.new.row c.exchange_seats-2.new.row c.exchange_seats-2.ensures.crew c.exchange_seats-2.ensures.row);
