@@ -10,3 +10,4 @@ pub mod Held
 pub mod Seating
 pub mod Posting
 pub mod Closing
+pub mod States

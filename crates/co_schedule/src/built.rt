@@ -3,6 +3,7 @@ ghost use Rattle.std.specs.Prelude.{◌≡◌, ◌≤◌, None, [], Some, true, 
 ghost use Rattle.co_schedule.specs.Known.{first_known, AtRest};
 ghost use Rattle.co_schedule.specs.Seating.{front_known, back_known};
 ghost use Rattle.co_schedule.specs.Calls.{are_within, IsSeatOf, IsNew};
+ghost use Rattle.co_schedule.specs.States.{counted, states_taken};
 
 use crate::about::About;
 use crate::homes::CoHome;
@@ -39,8 +40,8 @@ impl<C: Origin + Drop> CoTable<C> {
         Ok((CoTable { table, coroutines }, seat))
     }
 
-    /// Cuts the home's number off from a seat that has all.
-    pub(crate) fn open(self, mut inner: Inner<C>) -> CoBuilt<C>
+    /// Cuts the home's number off from a seat that has all. So many coroutines were entered with a state.
+    pub(crate) fn open(self, mut inner: Inner<C>, states: u64) -> CoBuilt<C>
         requires table { inner.table_id ≡ self.table }
         requires sized { inner.me.0.known.coroutines ≡ self.coroutines }
         requires origin { inner.me.0.origin ≡ Some self.origin }
@@ -48,6 +49,7 @@ impl<C: Origin + Drop> CoTable<C> {
         requires rest { (inner.me.0.known.phase ≡ AtRest) × (inner.me.1 ≡ []) }
         requires over { (inner.me.0.known.stage.word ≡ 0) × (inner.me.0.known.stage.hand ≡ None) × (inner.me.0.known.stage.run ≡ inner.me.0.known.stage.taken) }
         requires within { are_within inner.me.0.known.coroutines inner.me.0.known.stage.taken ≡ true }
+        requires states { states ≡ counted (states_taken inner.me.0.known.seen) }
         ensures table { result.table ≡ self }
         ensures home { IsSeatOf self result.home × (result.home.known ≡ back_known 64 inner.me.0.known) }
         ensures seat { IsSeatOf self result.seat × (result.seat.known ≡ front_known 64 inner.me.0.known) }
@@ -55,7 +57,7 @@ impl<C: Origin + Drop> CoTable<C> {
         let home = self.table.shared.split_seat::<CutHome>(&mut inner);
         CoBuilt {
             table: self,
-            home: CoHome::of(home),
+            home: CoHome::of(home, states),
             seat: CoSeat::of(inner, 0, 64),
         }
     }
@@ -70,6 +72,6 @@ impl<C: Origin + Drop> CoTable<C> {
         let Ok((table, seat)) = CoTable::lay(alloc, coroutines) else {
             return Err(NoMemory);
         };
-        Ok(table.open(seat))
+        Ok(table.open(seat, 0))
     }
 }

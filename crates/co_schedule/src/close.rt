@@ -8,6 +8,7 @@ ghost use Rattle.co_schedule.specs.Standing.{Looks};
 ghost use Rattle.co_schedule.specs.Seating.{joined_known, told_by};
 ghost use Rattle.co_schedule.specs.Calls.{IsSeatOf, AreFree, Ends, Leaves};
 ghost use Rattle.co_schedule.specs.Closing.{ClosesAs};
+ghost use Rattle.co_schedule.specs.States.{counted, states_taken};
 
 use crate::built::CoBuilt;
 use crate::ends::{CoClosed, CoEnd};
@@ -49,23 +50,27 @@ impl<C: Origin + Drop> CoTable<C> {
         None
     }
 
-    /// Unites all seats in one.
-    fn gather(&self, home: CoHome<C>, seat: CoSeat<C>) -> Inner<C>
+    /// Unites all seats in one, and tells how many coroutines were entered with a state.
+    fn gather(&self, home: CoHome<C>, seat: CoSeat<C>) -> (Inner<C>, u64)
         requires home { IsSeatOf self.now home }
         requires seat { IsSeatOf self.now seat }
         requires numbers { (seat.known.first ≡ 0) × (seat.known.count ≡ 64) }
-        ensures known { result.me.0.known ≡ joined_known seat.known home.known }
-        ensures seat { (result.table_id ≡ self.now.table) × (result.me.0.origin ≡ seat.origin) × (result.me.1 ≡ []) }
-        ensures parts { IsJoined seat_of (IsLegal self.now.coroutines) (told_by seat.known home.known) result.me.0.known.seen }
+        ensures known { result.0.me.0.known ≡ joined_known seat.known home.known }
+        ensures seat { (result.0.table_id ≡ self.now.table) × (result.0.me.0.origin ≡ seat.origin) × (result.0.me.1 ≡ []) }
+        ensures parts { IsJoined seat_of (IsLegal self.now.coroutines) (told_by seat.known home.known) result.0.me.0.known.seen }
+        ensures states { result.1 ≡ counted (states_taken result.0.me.0.known.seen) }
     {
-        let CoHome { inner: other } = home;
+        let CoHome {
+            inner: other,
+            states,
+        } = home;
         let CoSeat {
             mut inner,
             first: _,
             count: _,
         } = seat;
         self.join_inner(&mut inner, other);
-        inner
+        (inner, states)
     }
 
     fn end(self, home: CoHome<C>, seat: CoSeat<C>) -> Result<CoEnd<C>, (u32, CoBuilt<C>)>
@@ -74,10 +79,10 @@ impl<C: Origin + Drop> CoTable<C> {
         requires numbers { (seat.known.first ≡ 0) × (seat.known.count ≡ 64) }
         ensures { MatchResult result (λ end. Ends self home.known seat.known end) (λ left. Leaves left.0 self home.known seat.known left.1.table left.1.home left.1.seat) }
     {
-        let mut inner = self.gather(home, seat);
+        let (mut inner, states) = self.gather(home, seat);
         match self.first_marked(&mut inner) {
-            Some(co) => Err((co, self.open(inner))),
-            None => Ok(CoEnd::of(inner)),
+            Some(co) => Err((co, self.open(inner, states))),
+            None => Ok(CoEnd::of(inner, states)),
         }
     }
 

@@ -4,6 +4,7 @@ ghost use Rattle.std.specs.Prelude.{◌≡◌, ◌<◌, ◌≤◌, ◌+◌, [], 
 ghost use Rattle.co_schedule.specs.Parcels.{IsStateOf, has_some};
 ghost use Rattle.co_schedule.specs.Calls.{are_within, IsSeatOf, HasTaken, HasBegun};
 
+use crate::counting::count_state;
 use crate::homes::CoHome;
 use crate::plays::Inner;
 use crate::runs::CoRun;
@@ -92,6 +93,7 @@ impl<C: Origin + Drop> CoTable<C> {
     {
         let co = run.pop()?;
         let state = self.begin_first(&mut home.inner, co);
+        home.states = count_state(home.states, &state);
         Some((co, state))
     }
 }

@@ -1,0 +1,35 @@
+-- How many states came with what was scheduled, and how many came out again at home.
+use Rattle.std.specs.Prelude.{◌≡◌, ℕ, ◌+◌, ◌-◌, ◌^◌, Bool, false, min, [], ◌∷◌, length}
+use Rattle.aio_model.specs.FlagsWord.{bit}
+use Rattle.aio_model.specs.CoroutineHistory.{Schedule, Push, Enter, History, seat_of, Place, Free, Scheduled, Pushed, place_of}
+use Rattle.table_seats.specs.Seats.{own_entries}
+use Rattle.co_schedule.specs.Known.{Known, numbers_of}
+
+-- how many schedules gave a state
+abbrev pub states_given : History → ℕ
+states_given [] = 0
+states_given (Schedule c cause given seat ∷ older) = bit given + states_given older
+states_given (Push c seat ∷ older) = states_given older
+states_given (Enter c ∷ older) = states_given older
+
+-- whether a state came with a coroutine that stands there
+abbrev pub given_at : Place → Bool
+given_at Free = false
+given_at (Scheduled seat given) = given
+given_at (Pushed seat given) = given
+
+-- how many coroutines were entered with a state
+abbrev pub states_taken : History → ℕ
+states_taken [] = 0
+states_taken (Schedule c cause given seat ∷ older) = states_taken older
+states_taken (Push c seat ∷ older) = states_taken older
+states_taken (Enter c ∷ older) = bit (given_at (place_of c older)) + states_taken older
+
+-- a count that stays at the greatest u64
+abbrev pub counted : ℕ → ℕ
+counted n = min n (2 ^ 64 - 1)
+
+-- what home counts: its own entries are as many as those of its number in what it has seen, and the states that came out are counted
+abbrev pub Counts : ℕ → Known → Type 0
+Counts states known =
+    (length known.mine ≡ length (own_entries seat_of (numbers_of known) known.seen)) × (states ≡ counted (states_taken known.seen))
