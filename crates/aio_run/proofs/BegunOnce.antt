@@ -18,16 +18,16 @@ abbrev pub pair_numbers : ℕ → ℕ → Numbers
 pair_numbers m p = record { first = m + 2 * p; count = 2 }
 
 -- each number from some on is in a pair
-pair_of : (x : ℕ) → (p : ℕ) × (2 * p ≤ x) × (x < 2 * p + 2)
+pub pair_of : (x : ℕ) → (p : ℕ) × (2 * p ≤ x) × (x < 2 * p + 2)
 pair_of zero = (0, omega arith, omega arith)
 pair_of (suc zero) = (0, omega arith, omega arith)
 pair_of (suc (suc x)) = let q = pair_of x in (suc q.0, omega (arith, q.1), omega (arith, q.2))
 
-owned : (n : Numbers) (k : ℕ) → n.first ≤ k → k < n.first + n.count → owns n k ≡ true
+pub owned : (n : Numbers) (k : ℕ) → n.first ≤ k → k < n.first + n.count → owns n k ≡ true
 owned n k from below =
     and_from _ _ (not_from_false _ (le-ltb k n.first from)) (lt-ltb k (n.first + n.count) below)
 
-not_owned : (n : Numbers) (k : ℕ) → k < n.first → owns n k ≡ false
+pub not_owned : (n : Numbers) (k : ℕ) → k < n.first → owns n k ≡ false
 not_owned n k low = ap (λ (b : Bool). not b && ltb k (n.first + n.count)) (lt-ltb k n.first low)
 
 not_nothing : (c : ℕ) (cs : List ℕ) → c ∷ cs ≡ [] → ⊥
@@ -65,7 +65,7 @@ only_first n c m all (Enter d ∷ older) legal none =
     only_first n c m all older legal.1 (λ p lt. sym (skip (Enter d) (λ xs. refl) (pair_numbers m p) older) ∙ none p lt) ∙ sym (skip (Enter d) (λ xs. refl) (first_numbers m) older)
 
 -- what is owned by fewer numbers, of what is owned by more
-own_twice : (n m : Numbers) → ((k : ℕ) → owns n k ≡ true → owns m k ≡ true) → (xs : History) → own_entries seat_of n (own_entries seat_of m xs) ≡ own_entries seat_of n xs
+pub own_twice : (n m : Numbers) → ((k : ℕ) → owns n k ≡ true → owns m k ≡ true) → (xs : History) → own_entries seat_of n (own_entries seat_of m xs) ≡ own_entries seat_of n xs
 own_twice n m sub [] = refl
 own_twice n m sub (e ∷ xs) = by (own_twice n m sub xs) (owns m (seat_of e)) refl
   where
@@ -74,7 +74,7 @@ own_twice n m sub (e ∷ xs) = by (own_twice n m sub xs) (owns m (seat_of e)) re
     by more false is = more ∙ sym (own-other seat_of n e xs (⊎_elim (λ (yes : owns n (seat_of e) ≡ true). absurd (false≢true (sym is ∙ sub (seat_of e) yes))) (λ (no : owns n (seat_of e) ≡ false). no) (cases_Bool (owns n (seat_of e)))))
 
 module _ (homes : List ℕ) (loop : ℕ) (n : Numbers) where
-  begun_kept : (many : ℕ) → owns n 0 ≡ true → own_entries seat_of n (begun_on many homes loop) ≡ begun_on many homes loop
+  pub begun_kept : (many : ℕ) → owns n 0 ≡ true → own_entries seat_of n (begun_on many homes loop) ≡ begun_on many homes loop
   begun_kept zero own = refl
   begun_kept (suc k) own = by (eqb (slice_index homes k) loop) (begun_kept k own)
     where
@@ -82,7 +82,7 @@ module _ (homes : List ℕ) (loop : ℕ) (n : Numbers) where
       by true more = own-here seat_of n (Push k 0) (Schedule k Begin true 0 ∷ begun_on k homes loop) own ∙ ap (λ (l : History). Push k 0 ∷ l) (own-here seat_of n (Schedule k Begin true 0) (begun_on k homes loop) own ∙ ap (λ (l : History). Schedule k Begin true 0 ∷ l) more)
       by false more = more
 
-  begun_none : (many : ℕ) → owns n 0 ≡ false → own_entries seat_of n (begun_on many homes loop) ≡ []
+  pub begun_none : (many : ℕ) → owns n 0 ≡ false → own_entries seat_of n (begun_on many homes loop) ≡ []
   begun_none zero other = refl
   begun_none (suc k) other = by (eqb (slice_index homes k) loop) (begun_none k other)
     where

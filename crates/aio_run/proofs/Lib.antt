@@ -2,6 +2,7 @@ pub mod AskedToEnd
 pub mod Begun
 pub mod BegunOnce
 pub mod Berthed
+pub mod Counted
 pub mod Ended
 pub mod Entering
 pub mod EventCleared
@@ -14,4 +15,5 @@ pub mod OwnPosts
 pub mod Posted
 pub mod Served
 pub mod Sharing
+pub mod StatesThere
 pub mod Turned

@@ -64,11 +64,11 @@ begun_alone {C} {O} shared row after many homes is has begun own stay t s low =
 
 module _ {C O : Type 0} where
   -- what a seat of these numbers made of what a whole one had seen
-  sees_own : (whole part : Seats C O) (first count : ℕ) → part.coroutines.known.first ≡ first → part.coroutines.known.count ≡ count → SeesAs whole part → part.coroutines.known.mine ≡ own_entries seat_of (record { first = first; count = count }) whole.coroutines.known.seen
+  pub sees_own : (whole part : Seats C O) (first count : ℕ) → part.coroutines.known.first ≡ first → part.coroutines.known.count ≡ count → SeesAs whole part → part.coroutines.known.mine ≡ own_entries seat_of (record { first = first; count = count }) whole.coroutines.known.seen
   sees_own whole part first count e f sees =
       sees.own.co_own ∙ ap (own_entries seat_of (numbers_of part.coroutines.known)) sees.same.co_seen ∙ ap (λ (n : Numbers). own_entries seat_of n whole.coroutines.known.seen) (numbers_are part.coroutines.known first count e f)
 
-  stands_own : (part : Seats C O) (history : History) (first count : ℕ) → part.coroutines.known.first ≡ first → part.coroutines.known.count ≡ count → own_entries seat_of (numbers_of part.coroutines.known) history ≡ part.coroutines.known.mine → own_entries seat_of (record { first = first; count = count }) history ≡ part.coroutines.known.mine
+  pub stands_own : (part : Seats C O) (history : History) (first count : ℕ) → part.coroutines.known.first ≡ first → part.coroutines.known.count ≡ count → own_entries seat_of (numbers_of part.coroutines.known) history ≡ part.coroutines.known.mine → own_entries seat_of (record { first = first; count = count }) history ≡ part.coroutines.known.mine
   stands_own part history first count e f made =
       ap (λ (n : Numbers). own_entries seat_of n history) (sym (numbers_are part.coroutines.known first count e f)) ∙ made
 
@@ -97,7 +97,7 @@ module _ {C K O : Type 0} (E R : Type 0) (is_of : ℕ → C → O → Type 0) (r
       abbrev seen : History
       seen = (slice_index_or row.seats.items k w).coroutines.known.seen
 
-      by_caller : own_entries seat_of (first_numbers (64 - 2 * length shared)) history ≡ own_entries seat_of (first_numbers (64 - 2 * length shared)) seen
+      pub by_caller : own_entries seat_of (first_numbers (64 - 2 * length shared)) history ≡ own_entries seat_of (first_numbers (64 - 2 * length shared)) seen
       by_caller =
           let m = at_place are.joined.members.items k (omega (arith, low, are.members)) in
           let over = are.ends k t m s r low in

@@ -1,5 +1,6 @@
 pub mod Berths
 pub mod Ends
+pub mod Moves
 pub mod Posting
 pub mod Readiness
 pub mod Runs

@@ -1,5 +1,6 @@
 -- What stands in the history of the coroutines of a loop that served a script.
-use Rattle.std.specs.Prelude.{◌≡◌, ℕ, zero, suc, ◌==◌, if◌then◌else◌, List, [], ◌∷◌, length, slice_index}
+use Rattle.std.specs.Prelude.{◌≡◌, ℕ, zero, suc, ◌==◌, ◌&&◌, Bool, true, not, if◌then◌else◌, List, [], ◌∷◌, length, slice_index}
+use Rattle.aio_model.specs.declared.causes.Cause.{Cause}
 use Rattle.aio_model.specs.declared.causes.Cause.TheVariants.{Begin, Wake, Move}
 use Rattle.aio_model.specs.declared.scripts.Script.{Script}
 use Rattle.aio_model.specs.CoroutineHistory.{Schedule, Push, Enter, History}
@@ -13,6 +14,15 @@ begins_of (Schedule c Wake given seat ∷ older) = begins_of older
 begins_of (Schedule c Move given seat ∷ older) = begins_of older
 begins_of (Push c seat ∷ older) = begins_of older
 begins_of (Enter c ∷ older) = begins_of older
+
+-- which coroutines were scheduled to move here, the last one first
+abbrev pub moves_of : History → List ℕ
+moves_of [] = []
+moves_of (Schedule c Begin given seat ∷ older) = moves_of older
+moves_of (Schedule c Wake given seat ∷ older) = moves_of older
+moves_of (Schedule c Move given seat ∷ older) = c ∷ moves_of older
+moves_of (Push c seat ∷ older) = moves_of older
+moves_of (Enter c ∷ older) = moves_of older
 
 -- which of the first so many have this loop as their home, the last one first
 abbrev pub beginning_on : ℕ → List ℕ → ℕ → List ℕ
@@ -34,8 +44,22 @@ AreEntered [] = Unit {0}
 AreEntered (Enter c ∷ Push d by ∷ Schedule e cause given seat ∷ older) = (by ≡ seat) × AreEntered older
 AreEntered _ = ⊥
 
+-- whether a state is to come with a schedule of this cause, where it came or not
+abbrev pub fits_cause : Cause → Bool → Bool
+fits_cause Begin given = given
+fits_cause Wake given = not given
+fits_cause Move given = given
+
+-- a state came with each schedule that lets a coroutine begin or move here, and with no other
+abbrev pub brings_states : History → Bool
+brings_states [] = true
+brings_states (Schedule c cause given seat ∷ older) = fits_cause cause given && brings_states older
+brings_states (Push c seat ∷ older) = brings_states older
+brings_states (Enter c ∷ older) = brings_states older
+
 -- Each stream that has this loop as its home began here once, and no other coroutine began here. Whatever was scheduled here was pushed
--- and entered, once for each time.
+-- and entered, once for each time. A state came with each that began or moved here, and with no other.
 pub record HasServed (script : Script) (loop : ℕ) (history : History) : Type 0 where
   pub began : begins_of history ≡ beginning_on (length script.streams) (homes_of script.streams) loop
   pub entered : (c : ℕ) → AreEntered (entries_for c history)
+  pub states : brings_states history ≡ true

@@ -18,11 +18,13 @@
 #![tactic(auto)]
 
 mod carrying;
+mod moving;
 mod opening;
 mod posting;
 mod preparing;
 mod returning;
 mod running;
 
+pub use moving::moves_in;
 pub use preparing::{Prepared, ScriptRun, prepare};
 pub use running::{Outcome, RunEnd, run};

@@ -1,6 +1,6 @@
 -- The words of the command line that the program takes, and what they ask for. Each word is a key and a value behind
 -- it. A key stands at most once, in any order.
-use Rattle.std.specs.Prelude.{ℕ, ◌&&◌, ◌||◌, Bool, nat_eq, nat_le, nat_lt, List, [], ◌∷◌, length, drop, codes, count_by, Option, Some, None, if◌then◌else◌}
+use Rattle.std.specs.Prelude.{ℕ, ◌≤◌, ◌&&◌, ◌||◌, Bool, nat_eq, nat_le, nat_lt, List, [], ◌∷◌, length, drop, codes, count_by, Option, Some, None, if◌then◌else◌}
 use Rattle.std.specs.List.{list_all, starts_with}
 use Rattle.std.specs.Char.{is_ascii_digit}
 use Rattle.aio_script.specs.Text.{is, value_of}
@@ -44,6 +44,16 @@ is_each_once words =
 -- each word is a key and a value, and no key stands twice
 abbrev pub are_options : List (List ℕ) → Bool
 are_options words = list_all is_option words && is_each_once words
+
+-- a number within these bounds
+abbrev pub IsNumber : ℕ → ℕ → ℕ → Type 0
+IsNumber least most n = (least ≤ n) × (n ≤ most)
+
+-- the numbers of a mode are within their bounds
+abbrev pub IsWithin : Mode → Type 0
+IsWithin Image = Unit {0}
+IsWithin Bells = Unit {0}
+IsWithin (Generated n from) = IsNumber 1 4096 n × IsNumber 0 65535 from
 
 -- the number that so many decimal digits at most stand for, where it lies within these bounds
 abbrev pub number_within : ℕ → ℕ → ℕ → List ℕ → Option ℕ

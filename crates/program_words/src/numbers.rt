@@ -1,16 +1,17 @@
 //! Numbers of the command line.
-ghost use Rattle.std.specs.Prelude.{◌≡◌, ◌≤◌, map, string_bytes, length, if◌then◌else◌, Some, None};
+ghost use Rattle.std.specs.Prelude.{◌≡◌, ◌≤◌, map, string_bytes, length, if◌then◌else◌, IfSome, Some, None};
 ghost use Rattle.std.specs.Char.{is_ascii_digit};
 ghost use Rattle.std.specs.List.{list_all};
 ghost use Rattle.aio_script.specs.Text.{value_of};
-ghost use Rattle.program_words.specs.Words.{from_key, gen_key, number_said, number_within, value_said};
+ghost use Rattle.program_words.specs.Words.{IsNumber, from_key, gen_key, number_said, number_within, value_said};
 
 use crate::options::{FROM, GEN, value_said};
 
 /// How many requests the generated script is to have. None where what stands for it is no such number; within, None
 /// where no word says it.
 pub(crate) fn requests_said(words: &[String]) -> Option<Option<u32>>
-    ensures { result ≡ number_said 4 1 4096 (value_said gen_key (map string_bytes words.now)) }
+    ensures says { result ≡ number_said 4 1 4096 (value_said gen_key (map string_bytes words.now)) }
+    ensures within { IfSome result (λ said. IfSome said (IsNumber 1 4096)) }
 {
     match value_said(words, GEN) {
         None => Some(None),
@@ -20,7 +21,8 @@ pub(crate) fn requests_said(words: &[String]) -> Option<Option<u32>>
 
 /// At which number the places of the generated script begin, said like that of the requests.
 pub(crate) fn from_said(words: &[String]) -> Option<Option<u32>>
-    ensures { result ≡ number_said 5 0 65535 (value_said from_key (map string_bytes words.now)) }
+    ensures says { result ≡ number_said 5 0 65535 (value_said from_key (map string_bytes words.now)) }
+    ensures within { IfSome result (λ said. IfSome said (IsNumber 0 65535)) }
 {
     match value_said(words, FROM) {
         None => Some(None),
@@ -31,7 +33,8 @@ pub(crate) fn from_said(words: &[String]) -> Option<Option<u32>>
 /// The number that so many decimal digits at most stand for, where it lies within these bounds.
 fn number_within(text: &[u8], digits: usize, least: u32, most: u32) -> Option<u32>
     requires { digits ≤ 9 }
-    ensures { result ≡ number_within digits least most text.now }
+    ensures says { result ≡ number_within digits least most text.now }
+    ensures within { IfSome result (IsNumber least most) }
 {
     if text.is_empty() || text.len() > digits {
         return None;

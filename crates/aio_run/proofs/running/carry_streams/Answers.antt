@@ -12,6 +12,7 @@ use Rattle.aio_run.proofs.Ended.{all_ended_of, all_over}
 use Rattle.aio_run.proofs.EventCleared.{event_cleared}
 use Rattle.aio_run.proofs.FoundSet.{event_found}
 use Rattle.aio_run.proofs.Served.{began_there, entered_there}
+use Rattle.aio_run.proofs.StatesThere.{states_there}
 use Rattle.aio_run.proofs.Sharing.{env_sync}
 use Rattle.aio_run.proofs.Turned.{called_where_began}
 use Rattle.aio_run.proofs.running.carry_streams.Goals as goal
@@ -37,6 +38,7 @@ returns-clause-served g c k r low =
     record {
       began = began_there _ _ (λ k co o. IsStreamAt g.D.Device.bytes k co o) _ _ c.args.opened.shared.items c.args.opened.homes.items c.args.hands.items c.args.opened.row c.carry-runs.result.items c.carry-runs.ensures c.requires.some c.requires.few (length c.args.env.now.script.now.streams) (homes_of c.args.env.now.script.now.streams) k r here (at_place c.args.opened.row.seats.items k (omega (arith, here, c.requires.row.0.long))) (c.requires.begun k _ here);
       entered = entered_there _ _ (λ k co o. IsStreamAt g.D.Device.bytes k co o) _ _ c.args.opened.shared.items c.args.opened.homes.items c.args.hands.items c.args.opened.row c.carry-runs.result.items c.carry-runs.ensures c.requires.some c.requires.few k r here;
+      states = states_there _ _ (λ k co o. IsStreamAt g.D.Device.bytes k co o) _ _ c.args.opened.shared.items c.args.opened.homes.items c.args.hands.items c.args.opened.row c.carry-runs.result.items c.carry-runs.ensures c.requires.some c.requires.few (length c.args.env.now.script.now.streams) (homes_of c.args.env.now.script.now.streams) k r here (at_place c.args.opened.row.seats.items k (omega (arith, here, c.requires.row.0.long))) (c.requires.begun k _ here);
     }
 
 pub returns-clause-turned : goal.returns-clause-turned
