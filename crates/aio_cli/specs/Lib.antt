@@ -5,3 +5,5 @@ pub mod FaultText
 pub mod Reading
 pub mod Run
 pub mod Words
+pub mod Printed
+pub mod Generated

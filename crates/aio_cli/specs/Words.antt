@@ -1,15 +1,7 @@
--- The modes of the program, as its one call serves them.
-use Rattle.std.specs.Prelude.{Option, Some, None}
+-- Facts for one of the modes of the program.
+use Rattle.std.specs.Prelude.{ℕ, Option, Some}
 use Rattle.program_words.specs.declared.modes.Mode.{Mode}
-use Rattle.program_words.specs.declared.modes.Mode.TheVariants.{Image, Bells}
-
--- The mode that is served, of those that words may ask for. That of the generated script isn't yet.
-abbrev pub mode_served : Option Mode → Option Mode
-mode_served (Some Image) = Some Image
-mode_served (Some Bells) = Some Bells
-mode_served mode = None
-
--- facts for one of the modes
+use Rattle.program_words.specs.declared.modes.Mode.TheVariants.{Image, Bells, Generated}
 
 abbrev pub InImage : Option Mode → Type 0 → Type 0
 InImage (Some Image) P = P
@@ -18,3 +10,14 @@ InImage mode P = Unit {0}
 abbrev pub InBells : Option Mode → Type 0 → Type 0
 InBells (Some Bells) P = P
 InBells mode P = Unit {0}
+
+-- for the mode of the generated script: its requests, and the number at which their places begin
+abbrev pub InGenerated : Option Mode → (ℕ → ℕ → Type 0) → Type 0
+InGenerated (Some (Generated n from)) P = P n from
+InGenerated mode P = Unit {0}
+
+-- for the modes that read a text
+abbrev pub InText : Option Mode → Type 0 → Type 0
+InText (Some Image) P = P
+InText (Some Bells) P = P
+InText mode P = Unit {0}

@@ -3,6 +3,8 @@
 
 mod answer;
 mod fault;
+mod generated;
+mod printing;
 mod program;
 mod read;
 mod rings;

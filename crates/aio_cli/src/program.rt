@@ -10,14 +10,17 @@ ghost use Rattle.aio_script.specs.Bounds.{IsBounded};
 ghost use Rattle.aio_script.specs.Grammar.{script_said};
 ghost use Rattle.aio_script.specs.LoopBounds.{IsLoopBounded};
 ghost use Rattle.aio_script.specs.LoopGrammar.{loop_script_said};
-ghost use Rattle.aio_cli.specs.Answers.{FailsReading, FailsReadingLoop, FailsText, IsDone, IsLengthRefusal, IsOfLoop, IsRefusal, IsWhole, OnBadScript, OnCut, OnDeviceFault, OnRun, OnTooLarge, OnTooLong, OnUnasked, OnUnserved, OnWritten, TellsErrors};
+ghost use Rattle.aio_cli.specs.Answers.{FailsReading, FailsReadingLoop, FailsText, IsDone, IsLengthRefusal, IsOfLoop, IsOfRun, IsRefusal, IsWhole, OnBadScript, OnCut, OnDeviceFault, OnRun, OnTooLarge, OnTooLong, OnUnasked, OnUnserved, OnWritten, TellsErrors};
 ghost use Rattle.aio_cli.specs.Calls.{Reads, is_read_fault};
+ghost use Rattle.aio_cli.specs.Generated.{RunsGenerated};
 ghost use Rattle.aio_cli.specs.Reading.{IsText, IsTooLong, Refuses, RefusesLoop, Says, SaysLoop, SaysFitting, SaysImage, SaysSome, TakesAtMost, longest_script, most_read};
 ghost use Rattle.aio_cli.specs.Rings.{AtBells, AtDone, EndsSaid, RingsSaid};
 ghost use Rattle.aio_cli.specs.Run.{Runs, RunsOnLoops};
-ghost use Rattle.aio_cli.specs.Words.{InBells, InImage, mode_served};
+ghost use Rattle.aio_cli.specs.Words.{InBells, InGenerated, InImage, InText};
 ghost use Rattle.program_words.specs.Words.{mode_said};
 
+use crate::generated::run_generated;
+use crate::printing::Printed;
 use crate::read::{ReadFail, read_text};
 use crate::rings::{Rung, ring};
 use crate::run::{run_script, unserved};
@@ -144,7 +147,18 @@ fn run_image<
     ensures failures { OnRun result.answer (failures_in (D.calls result.device) ≡ failures_in (D.calls device) + eios_of result.served.items) }
 {
     match read_all(alloc, source) {
-        Ok(script) => run_script(rt, alloc, &script, sink, device, clocks, gate),
+        Ok(script) => {
+            run_script(
+                rt,
+                alloc,
+                &script,
+                Printed::Replies,
+                sink,
+                device,
+                clocks,
+                gate,
+            )
+        }
         Err(answer) => unserved(alloc, answer, device),
     }
 }
@@ -206,8 +220,8 @@ fn run_bells<R: Wait, S: Source, K: Sink, D: Device>(
 /// and writes what they answer.
 ///
 /// The words are those of the command line behind the program's name, as `program_words` reads them. Which device the
-/// word `--image=` names is the caller's affair, who hands it in. The generated script isn't served yet: words that ask
-/// for it are answered Usage.
+/// word `--image=` names is the caller's affair, who hands it in. With `--gen=` the generated script is served, no source is
+/// read, and its sums are written in place of its replies.
 /// The script is served by its loops, each on a thread of its own. The loop at each place uses the clock at that place, and
 /// the clocks behind are let go. Each stream passes the gate before each of its requests.
 /// The device comes back at every answer. An answer is looked for in this order: Usage, then ReadFault or TooLong,
@@ -254,6 +268,18 @@ pub fn top<
     ensures bells { AtBells (mode_said (map string_bytes words.now)) result.answer result.bells (λ end.
         EndsSaid (S.left source.old) (S.left source.new) (λ text. K.held sink.new ≡ with_piece text (K.held sink.old)) end.known.seen) }
     ensures unlooped { InBells (mode_said (map string_bytes words.now)) (result.loops.items ≡ []) }
+    // In the mode of the generated script, where the source isn't read and the text is its sums.
+    ensures unread { InGenerated (mode_said (map string_bytes words.now)) (λ _ _. source.new ≡ source.old) }
+    ensures generated { InGenerated (mode_said (map string_bytes words.now)) (λ n from. OnWritten result.answer
+        (RunsGenerated n from (D.bytes device) (D.bytes result.device) result.served.items result.loops.items
+        (λ text. K.held sink.new ≡ with_piece text (K.held sink.old)))) }
+    ensures generated_cut { InGenerated (mode_said (map string_bytes words.now)) (λ n from. OnCut result.answer
+        (RunsGenerated n from (D.bytes device) (D.bytes result.device) result.served.items result.loops.items
+        (AppendsFront (K.held sink.old) (K.held sink.new)))) }
+    ensures generated_answers { InGenerated (mode_said (map string_bytes words.now)) (λ _ _. IsOfRun result.answer) }
+    ensures generated_fits { InGenerated (mode_said (map string_bytes words.now)) (λ _ _. OnRun result.answer (1048576 ≤ D.extent device)) }
+    ensures generated_too_large { InGenerated (mode_said (map string_bytes words.now)) (λ _ _. OnTooLarge result.answer (λ image size. (image ≡ 1048576) × (size ≡ D.extent device) × (size < image))) }
+    ensures generated_failures { InGenerated (mode_said (map string_bytes words.now)) (λ _ _. OnRun result.answer (failures_in (D.calls result.device) ≡ failures_in (D.calls device) + eios_of result.served.items)) }
     // At every other answer nothing was served and nothing written.
     ensures unserved { OnUnserved result.answer ((sink.new ≡ sink.old) × (D.bytes result.device ≡ D.bytes device) × (result.served.items ≡ [])) }
     ensures unasked { OnUnasked result.answer (result.device ≡ device) }
@@ -262,14 +288,15 @@ pub fn top<
     ensures eios { HasRisenBy (eios_of result.served.items) (D.faults device) (D.faults result.device) }
 
     // When each answer comes.
-    ensures usage { (result.answer ≡ Answer.Usage) ↔ (mode_served (mode_said (map string_bytes words.now)) ≡ None) }
+    ensures usage { (result.answer ≡ Answer.Usage) ↔ (mode_said (map string_bytes words.now) ≡ None) }
     ensures usage_source { result.answer ≡ Answer.Usage → source.new ≡ source.old }
     ensures bad_script { InImage (mode_said (map string_bytes words.now)) (OnBadScript result.answer (Refuses (S.left source.old) (S.left source.new))) }
     ensures bad_loop_script { InBells (mode_said (map string_bytes words.now)) (OnBadScript result.answer (RefusesLoop (S.left source.old) (S.left source.new))) }
     ensures too_long { OnTooLong result.answer (IsTooLong (S.left source.old) (S.left source.new)) }
-    ensures device_fault { OnDeviceFault result.answer (HasRisen (D.size_faults device) (D.size_faults result.device) × SaysSome (S.left source.old) (S.left source.new)) }
+    ensures device_fault { OnDeviceFault result.answer (HasRisen (D.size_faults device) (D.size_faults result.device)) }
+    ensures device_fault_text { InImage (mode_said (map string_bytes words.now)) (OnDeviceFault result.answer (SaysSome (S.left source.old) (S.left source.new))) }
     ensures fits { InImage (mode_said (map string_bytes words.now)) (OnRun result.answer (SaysFitting (S.left source.old) (S.left source.new) (D.extent device))) }
-    ensures too_large { OnTooLarge result.answer (λ image size. SaysImage (S.left source.old) (S.left source.new) image × (size ≡ D.extent device) × (size < image)) }
+    ensures too_large { InImage (mode_said (map string_bytes words.now)) (OnTooLarge result.answer (λ image size. SaysImage (S.left source.old) (S.left source.new) image × (size ≡ D.extent device) × (size < image))) }
     ensures read_fault { result.answer ≡ Answer.ReadFault → HasRisen (S.faults source.old) (S.faults source.new) }
     ensures write_fault { result.answer ≡ Answer.WriteFault → HasRisen (K.faults sink.old) (K.faults sink.new) }
 
@@ -289,8 +316,8 @@ pub fn top<
     ensures failures { InImage (mode_said (map string_bytes words.now)) (OnRun result.answer (failures_in (D.calls result.device) ≡ failures_in (D.calls device) + eios_of result.served.items)) }
 
     // Where no read failed, a text that is too long or says no script is answered so.
-    ensures long { (mode_served (mode_said (map string_bytes words.now)) ≡ None → ⊥) → (HasRisen (S.faults source.old) (S.faults source.new) → ⊥)
-        → IfSome (S.left source.old) (λ text. longest_script < length text → IsLengthRefusal result.answer) }
+    ensures long { InText (mode_said (map string_bytes words.now)) ((HasRisen (S.faults source.old) (S.faults source.new) → ⊥)
+        → IfSome (S.left source.old) (λ text. longest_script < length text → IsLengthRefusal result.answer)) }
     ensures refused { InImage (mode_said (map string_bytes words.now)) ((HasRisen (S.faults source.old) (S.faults source.new) → ⊥)
         → IfSome (S.left source.old) (λ text. length text ≤ longest_script
         → (refusal : ScriptRefusal) → script_said text ≡ Err refusal → IsRefusal refusal result.answer)) }
@@ -305,6 +332,9 @@ pub fn top<
         → (HasRisen (D.size_faults device) (D.size_faults result.device) → ⊥)
         → IfSome (S.left source.old) (λ text. length text ≤ longest_script
         → (script : Script) → script_said text ≡ Ok script → IsWhole script.image (D.extent device) result.answer result.served.items)) }
+    ensures complete_generated { InGenerated (mode_said (map string_bytes words.now)) (λ _ _. (HasRisen (K.faults sink.old) (K.faults sink.new) → ⊥)
+        → (HasRisen (D.faults device) (D.faults result.device) → ⊥) → (HasRisen (D.size_faults device) (D.size_faults result.device) → ⊥)
+        → IsWhole 1048576 (D.extent device) result.answer result.served.items) }
     ensures complete_loop { InBells (mode_said (map string_bytes words.now)) ((HasRisen (S.faults source.old) (S.faults source.new) → ⊥)
         → (HasRisen (K.faults sink.old) (K.faults sink.new) → ⊥)
         → IfSome (S.left source.old) (λ text. length text ≤ longest_script
@@ -314,6 +344,8 @@ pub fn top<
         None => unserved(alloc, Answer::Usage, device),
         Some(Mode::Image) => run_image(rt, alloc, source, sink, device, clocks, gate),
         Some(Mode::Bells) => run_bells(rt, alloc, source, sink, device),
-        Some(Mode::Generated { .. }) => unserved(alloc, Answer::Usage, device),
+        Some(Mode::Generated { requests, from }) => {
+            run_generated(rt, alloc, requests, from, sink, device, clocks, gate)
+        }
     }
 }

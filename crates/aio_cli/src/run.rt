@@ -1,49 +1,25 @@
-//! A script served by its loops on a device, and its replies printed.
+//! A script served by its loops on a device, and its replies or its sums printed.
 ghost use Rattle.std.specs.Prelude.{◌≡◌, ◌<◌, ◌≤◌, ◌+◌, ◌∷◌, [], None, true, false, length, take, vec_len, IfOk, IfErr};
-ghost use Rattle.aio_model.specs.declared.scripts.Step.{Step};
-ghost use Rattle.aio_model.specs.Asked.{asked};
-ghost use Rattle.aio_model.specs.PrintedText.{printed_text};
 ghost use Rattle.aio_model.specs.SerialHistory.{IsSerialHistory, eios_of};
 ghost use Rattle.aio_words.specs.Called.{device_call, failures_in, sizes_asked};
 ghost use Rattle.aio_words.specs.Content.{with_piece, AppendsFront};
 ghost use Rattle.aio_words.specs.Faults.{HasRisen, HasRisenBy};
 ghost use Rattle.aio_script.specs.Bounds.{IsBounded};
 ghost use Rattle.stream_ends.specs.Stops.{IsServed};
-ghost use Rattle.reply_printing.specs.Standings.{AreInOrder, HaveStreamsBelow};
-ghost use Rattle.aio_cli.specs.Answers.{IsOfPrinting, IsOfRun, IsOfServing, OnCut, OnDeviceFault, OnRun, OnTooLarge, OnUnserved, OnWritten, TellsErrors};
+ghost use Rattle.aio_cli.specs.Answers.{IsOfRun, IsOfServing, OnCut, OnDeviceFault, OnRun, OnTooLarge, OnUnserved, OnWritten, TellsErrors};
 ghost use Rattle.aio_cli.specs.Calls.{is_read_fault};
+ghost use Rattle.aio_cli.specs.Printed.{text_printed};
 ghost use Rattle.aio_cli.specs.Run.{HaveCarried};
 
+use crate::printing::{PrintRoom, Printed, print_answer, print_room};
 use crate::{Answer, End};
-use aio_model::{Placed, Script, Step, Unmade};
+use aio_model::{Script, Unmade};
 use aio_run::{Outcome, prepare, run};
-use aio_script::{Page, WriteFault};
 use aio_words::{Clock, Device, DeviceAsk, Failed, Gate, Sink};
 use img_streams::StreamCo;
-use reply_printing::{ReplyOrder, errors_in, print_replies};
-use std::alloc::{AllocError, Global};
+use std::alloc::Global;
 use std::sync::Wait;
 use std::thread::Threads;
-
-/// How many requests a script may have.
-const REQUESTS: usize = 4096;
-
-/// What printing takes of memory: room to find each request's reply, and the page that the lines are printed on.
-#[derive(Drop)]
-struct PrintRoom {
-    order: ReplyOrder,
-    page: Page,
-}
-
-fn print_room(alloc: Global) -> Result<PrintRoom, AllocError>
-    ensures order { IfOk result (λ room. room.order ≡ 4096) }
-    ensures empty { IfOk result (λ room. room.page ≡ []) }
-{
-    Ok(PrintRoom {
-        order: ReplyOrder::build(alloc, REQUESTS)?,
-        page: Page::build(alloc)?,
-    })
-}
 
 /// The first so many of the clocks, in their order.
 fn clocks_for<C: Drop>(mut clocks: Vec<C>, loops: u32) -> Vec<C>
@@ -118,7 +94,7 @@ fn serve_script<
     Ok(Served { outcome, room })
 }
 
-/// Serves a script on a device that is known to hold its image, and prints the replies.
+/// Serves a script on a device that is known to hold its image, and prints what is to be printed.
 fn run_fitting<
     K: Sink,
     D: Device + Send + Drop,
@@ -129,6 +105,7 @@ fn run_fitting<
     rt: &R,
     alloc: Global,
     script: &Script,
+    printed: Printed,
     sink: &mut K,
     device: D,
     clocks: Vec<C>,
@@ -141,10 +118,10 @@ fn run_fitting<
     ensures no_read { is_read_fault result.answer ≡ false }
     ensures written { OnWritten result.answer
         (IsServed script.now (D.bytes device) (D.bytes result.device) result.served.items
-        × (K.held sink.new ≡ with_piece (printed_text (asked script.now.lines) result.served.items) (K.held sink.old))) }
+        × (K.held sink.new ≡ with_piece (text_printed printed script.now result.served.items result.loops.items) (K.held sink.old))) }
     ensures cut { OnCut result.answer
         (IsServed script.now (D.bytes device) (D.bytes result.device) result.served.items
-        × AppendsFront (K.held sink.old) (K.held sink.new) (printed_text (asked script.now.lines) result.served.items)) }
+        × AppendsFront (K.held sink.old) (K.held sink.new) (text_printed printed script.now result.served.items result.loops.items)) }
     ensures carried { OnRun result.answer
         (IsServed script.now (D.bytes device) (D.bytes result.device) result.served.items × HaveCarried script.now result.loops.items) }
     ensures unserved { OnUnserved result.answer ((sink.new ≡ sink.old) × (result.device ≡ device) × (result.served.items ≡ [])) }
@@ -168,8 +145,14 @@ fn run_fitting<
                 served,
                 loops,
             } = outcome;
-            let lines = script.lines.as_slice();
-            let answer = print_answer(sink, &mut room, lines, served.as_slice());
+            let answer = print_answer(
+                sink,
+                &mut room,
+                printed,
+                script,
+                served.as_slice(),
+                loops.as_slice(),
+            );
             End {
                 answer,
                 device,
@@ -181,7 +164,7 @@ fn run_fitting<
     }
 }
 
-/// Serves a script on a device, where that is large enough, and prints the replies.
+/// Serves a script on a device, where that is large enough, and prints what is to be printed.
 pub(crate) fn run_script<
     K: Sink,
     D: Device + Send + Drop,
@@ -192,6 +175,7 @@ pub(crate) fn run_script<
     rt: &R,
     alloc: Global,
     script: &Script,
+    printed: Printed,
     sink: &mut K,
     mut device: D,
     clocks: Vec<C>,
@@ -203,10 +187,10 @@ pub(crate) fn run_script<
     ensures no_read { is_read_fault result.answer ≡ false }
     ensures written { OnWritten result.answer
         (IsServed script.now (D.bytes device) (D.bytes result.device) result.served.items
-        × (K.held sink.new ≡ with_piece (printed_text (asked script.now.lines) result.served.items) (K.held sink.old))) }
+        × (K.held sink.new ≡ with_piece (text_printed printed script.now result.served.items result.loops.items) (K.held sink.old))) }
     ensures cut { OnCut result.answer
         (IsServed script.now (D.bytes device) (D.bytes result.device) result.served.items
-        × AppendsFront (K.held sink.old) (K.held sink.new) (printed_text (asked script.now.lines) result.served.items)) }
+        × AppendsFront (K.held sink.old) (K.held sink.new) (text_printed printed script.now result.served.items result.loops.items)) }
     ensures carried { OnRun result.answer
         (IsServed script.now (D.bytes device) (D.bytes result.device) result.served.items × HaveCarried script.now result.loops.items) }
     ensures unserved { OnUnserved result.answer ((sink.new ≡ sink.old) × (D.bytes result.device ≡ D.bytes device) × (result.served.items ≡ [])) }
@@ -233,37 +217,8 @@ pub(crate) fn run_script<
             if script.image > size {
                 unserved(alloc, Answer::TooLarge(script.image, size), device)
             } else {
-                run_fitting(rt, alloc, script, sink, device, clocks, gate)
+                run_fitting(rt, alloc, script, printed, sink, device, clocks, gate)
             }
         }
-    }
-}
-
-/// Prints the replies, and tells how that ended.
-fn print_answer<K: Sink>(
-    sink: &mut K,
-    room: &mut PrintRoom,
-    lines: &[Step],
-    served: &[Placed],
-) -> Answer
-    requires empty { room.old.page ≡ [] }
-    requires room { length served.now ≤ room.old.order }
-    requires streams { HaveStreamsBelow 64 lines.now }
-    requires order { AreInOrder lines.now served.now }
-    requires few { length served.now ≤ 4096 }
-    ensures of_run { IsOfPrinting result }
-    ensures no_read { is_read_fault result ≡ false }
-    ensures written { OnWritten result (K.held sink.new ≡ with_piece (printed_text (asked lines.now) served.now) (K.held sink.old)) }
-    ensures cut { OnCut result (AppendsFront (K.held sink.old) (K.held sink.new) (printed_text (asked lines.now) served.now)) }
-    ensures errors { TellsErrors result served.now }
-    ensures counted { K.faults sink.old ≤ K.faults sink.new }
-    ensures write_fault { OnCut result (HasRisen (K.faults sink.old) (K.faults sink.new)) }
-{
-    match print_replies(sink, &mut room.page, &mut room.order, lines, served) {
-        Err(WriteFault) => Answer::WriteFault,
-        Ok(()) => match errors_in(served) {
-            0 => Answer::Done,
-            n => Answer::Errors(n),
-        },
     }
 }

@@ -7,6 +7,8 @@ mod cuts;
 #[cfg(test)]
 mod faults;
 #[cfg(test)]
+mod generated;
+#[cfg(test)]
 mod loop_runs;
 #[cfg(test)]
 mod pieces;

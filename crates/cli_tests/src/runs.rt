@@ -48,7 +48,7 @@ fn scripts_are_served(rt: HostRuntime) -> Result<(), Fail> {
     assert_runs(&rt, rt.alloc(), SOUND, &SERVED)
 }
 
-const REFUSED: [Row; 16] = [
+const REFUSED: [Row; 17] = [
     (&[], "", BadScript(NoHeader), ""),
     (
         &[],
@@ -94,8 +94,8 @@ const REFUSED: [Row; 16] = [
         Usage,
         "",
     ),
-    // The generated script isn't served yet.
-    (&["--gen=8", "--from=1"], "image 16\nloops 1\n", Usage, ""),
+    (&["--gen=4097"], "image 16\nloops 1\n", Usage, ""),
+    (&["--from=1"], "image 16\nloops 1\n", Usage, ""),
 ];
 
 #[test]

@@ -25,13 +25,13 @@ returns-in-Some-Generated-clause-taken g c = takes_nothing (g.S.Source.left c.ar
 pub returns-in-Some-Generated-clause-reads : goal.returns-in-Some-Generated-clause-reads
 returns-in-Some-Generated-clause-reads g c =
     let calls = g.S.Source.calls c.args.source.now in
-    subst (λ answer. Reads (is_read_fault answer) calls calls) (sym c.unserved-in-Some-Generated.ensures.answer) (reads_so_far calls calls (no_read_yet calls))
+    subst (λ failed. Reads failed calls calls) (sym c.run_generated.ensures.no_read) (reads_so_far calls calls (no_read_yet calls))
 
 pub returns-in-Some-Image-clause-refused : goal.returns-in-Some-Image-clause-refused
 returns-in-Some-Image-clause-refused g c =
     let answer = c.run_image.result.answer in
     let run = c.run_image.ensures in
-    let mode : mode_said (map string_bytes c.args.words.now) ≡ Some Image = cc (c.mode_said.ensures, c.in-Some-Image.is, c.in-Some-Image.field-0-is) in
+    let mode : mode_said (map string_bytes c.args.words.now) ≡ Some Image = cc (c.mode_said.ensures.says, c.in-Some-Image.is, c.in-Some-Image.field-0-is) in
     in_image _ _ mode (λ still.
     told-each (g.S.Source.left c.args.source.now)
     (λ text. length text ≤ longest_script → (refusal : ScriptRefusal) → script_said text ≡ Err refusal → IsRefusal refusal answer)
@@ -44,7 +44,7 @@ returns-in-Some-Image-clause-complete g c =
     let answer = c.run_image.result.answer in
     let run = c.run_image.ensures in
     let served = c.run_image.result.served.items in
-    let mode : mode_said (map string_bytes c.args.words.now) ≡ Some Image = cc (c.mode_said.ensures, c.in-Some-Image.is, c.in-Some-Image.field-0-is) in
+    let mode : mode_said (map string_bytes c.args.words.now) ≡ Some Image = cc (c.mode_said.ensures.says, c.in-Some-Image.is, c.in-Some-Image.field-0-is) in
     in_image _ _ mode (λ source_still sink_still device_still size_still.
     told-each (g.S.Source.left c.args.source.now)
     (λ text. length text ≤ longest_script → (script : Script) → script_said text ≡ Ok script → IsWhole script.image (g.D.Device.extent c.args.device) answer served)
@@ -57,7 +57,7 @@ pub returns-in-Some-Bells-clause-refused_loop : goal.returns-in-Some-Bells-claus
 returns-in-Some-Bells-clause-refused_loop g c =
     let answer = c.run_bells.result.answer in
     let run = c.run_bells.ensures in
-    let mode : mode_said (map string_bytes c.args.words.now) ≡ Some Bells = cc (c.mode_said.ensures, c.in-Some-Bells.is, c.in-Some-Bells.field-0-is) in
+    let mode : mode_said (map string_bytes c.args.words.now) ≡ Some Bells = cc (c.mode_said.ensures.says, c.in-Some-Bells.is, c.in-Some-Bells.field-0-is) in
     in_bells _ _ mode (λ still.
     told-each (g.S.Source.left c.args.source.now)
     (λ text. length text ≤ longest_script → (refusal : ScriptRefusal) → loop_script_said text ≡ Err refusal → IsRefusal refusal answer)
@@ -69,7 +69,7 @@ pub returns-in-Some-Bells-clause-complete_loop : goal.returns-in-Some-Bells-clau
 returns-in-Some-Bells-clause-complete_loop g c =
     let answer = c.run_bells.result.answer in
     let run = c.run_bells.ensures in
-    let mode : mode_said (map string_bytes c.args.words.now) ≡ Some Bells = cc (c.mode_said.ensures, c.in-Some-Bells.is, c.in-Some-Bells.field-0-is) in
+    let mode : mode_said (map string_bytes c.args.words.now) ≡ Some Bells = cc (c.mode_said.ensures.says, c.in-Some-Bells.is, c.in-Some-Bells.field-0-is) in
     in_bells _ _ mode (λ source_still sink_still.
     told-each (g.S.Source.left c.args.source.now)
     (λ text. length text ≤ longest_script → (script : LoopScript) → loop_script_said text ≡ Ok script → IsDone answer)

@@ -1,4 +1,4 @@
-use Rattle.std.proofs.Common.{◌≡◌, ◌+◌, ◌≤◌, ℕ, length, ap, sym, ◌∙◌, arith}
+use Rattle.std.proofs.Common.{◌≡◌, length, ap, sym, ◌∙◌, arith}
 use Rattle.aio_run.specs.Moves.{begun_in, moved_in, states_in}
 use Rattle.aio_run.proofs.Counted.{states_all, begun_all, left_over}
 use Rattle.aio_run.proofs.moving.moves_in.Goals as goal
