@@ -11,6 +11,9 @@ pub mod HandleCalled
 pub mod HomeGrows
 pub mod HomeTurns
 pub mod Lists
+pub mod MoveLines
+pub mod Moved
+pub mod MovesOwned
 pub mod OwnPosts
 pub mod Posted
 pub mod Served

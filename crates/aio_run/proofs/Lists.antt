@@ -1,5 +1,5 @@
 -- Lists that others are mapped to.
-use Rattle.std.proofs.Common.{◌≡◌, ◌+◌, ◌<◌, ℕ, zero, suc, List, [], ◌∷◌, ◌++◌, length, map, slice_index_or, append_assoc, refl, sym, ap, ◌∙◌, arith}
+use Rattle.std.proofs.Common.{◌≡◌, ◌+◌, ◌<◌, ℕ, zero, suc, List, [], ◌∷◌, ◌++◌, length, map, replicate, slice_index_or, append_assoc, refl, sym, ap, ◌∙◌, arith}
 use Rattle.std.specs.List.{AllByRecursion}
 
 pub length_pushed : {A : Type 0} (xs : List A) (x : A) → length (xs ++ x ∷ []) ≡ length xs + 1
@@ -22,3 +22,9 @@ module _ {A B : Type 0} (f : A → B) where
   pub mapped_more : (ys : List B) (x : A) (xs all : List A) (y : B) (more : List B) (left : List A) → left ≡ x ∷ xs → y ≡ f x → more ≡ ys ++ y ∷ [] → ys ++ map f left ≡ map f all → more ++ map f xs ≡ map f all
   mapped_more ys x xs all y more left e same pushed was =
       ap (λ (l : List B). l ++ map f xs) pushed ∙ append_assoc ys (y ∷ []) (map f xs) ∙ ap (λ (z : B). ys ++ z ∷ map f xs) same ∙ ap (λ (l : List A). ys ++ map f l) (sym e) ∙ was
+
+-- in a list of one value, it stands at each place
+pub same_at : {A : Type 0} (x : A) (n k : ℕ) → slice_index_or (replicate n x) k x ≡ x
+same_at x zero k = refl
+same_at x (suc n) zero = refl
+same_at x (suc n) (suc k) = same_at x n k

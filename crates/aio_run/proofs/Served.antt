@@ -24,6 +24,7 @@ use Rattle.loop_threads.specs.declared.hands.Hand.{Hand}
 use Rattle.loop_threads.specs.declared.parts.Part.{Part}
 use Rattle.loop_threads.specs.Dealing.{SeesAs}
 use Rattle.loop_threads.specs.Parts.{TakesTurns, loop_of}
+use Rattle.loop_threads.specs.Running.{Runs}
 use Rattle.aio_run.specs.Posting.{all_numbers, begun_on, HaveBegun, HaveBegunAlone, HaveOwn}
 use Rattle.aio_run.specs.Runs.{AreRun}
 use Rattle.aio_run.specs.Serving.{begins_of, beginning_on, entries_for, AreEntered}
@@ -83,6 +84,19 @@ module _ {C K O : Type 0} (E R : Type 0) (is_of : ℕ → C → O → Type 0) (r
       sym (get_or-map begun_by after.row.seats.items k s) ∙ ap (λ (l : List (List ℕ)). slice_index_or l k (begun_by s)) (turns_keep turns before after takes) ∙ get_or-map begun_by before.row.seats.items k s
 
   module _ (homes : List (Homes C O)) (hands : List (Hand (CoWork C K O))) (row : Row C O) (ends : List (LoopRun C (CoWork C K O) O)) (are : AreRun (CanWork is_of) (Works E R is_of resumes time) shared homes hands row ends) (some : 0 < length shared) (few : length shared ≤ 16) where
+    -- the part of the loop at this place, when its run began, and how it was carried
+    pub part_default : (p : ℕ) → p < length shared → Part C (CoWork C K O) O
+    part_default p lt =
+        at_place are.carried.parts (length shared - p - 1) (omega (arith, lt, are.carried.many))
+
+    abbrev pub first_part : (p : ℕ) → p < length shared → Part C (CoWork C K O) O
+    first_part p lt =
+        slice_index_or are.carried.parts (length shared - p - 1) (part_default p lt)
+
+    pub runs_part : (p : ℕ) (lt : p < length shared) → Runs (CanWork is_of) (Works E R is_of resumes time) shared are.joined.row (first_part p lt) (slice_index_or are.joined.members.items p (at_place are.joined.members.items p (omega (arith, lt, are.members))))
+    runs_part p lt =
+        are.carried.runs p (length shared - p - 1) (part_default p lt) (at_place are.joined.members.items p (omega (arith, lt, are.members))) (omega (arith, lt))
+
     -- the loop at this place, once it was ended
     module _ (k : ℕ) (r : LoopRun C (CoWork C K O) O) (low : k < length shared) (w : Seats C O) where
       t : LoopShared C O
@@ -108,32 +122,39 @@ module _ {C K O : Type 0} (E R : Type 0) (is_of : ℕ → C → O → Type 0) (r
           let stands = over.keeps mine are.carried.mine.first are.carried.mine.count at are.carried.mine_is.0.below (are.carried.mine_stands some k w s low) in
           stands_own mine history 0 (64 - 2 * length shared) first count stands.co_made ∙ sees_own (slice_index_or row.seats.items k w) mine 0 (64 - 2 * length shared) first count (are.carried.mine_sees k w w low)
 
-      by_thread : (p : ℕ) → p < length shared → begins_of (own_entries seat_of (pair_numbers (64 - 2 * length shared) p) history) ≡ begins_of (own_entries seat_of (pair_numbers (64 - 2 * length shared) p) seen)
-      by_thread p lt =
-          let n = length shared in
-          let j = n - p - 1 in
-          let pd = at_place are.carried.parts j (omega (arith, lt, are.carried.many)) in
-          let first = slice_index_or are.carried.parts j pd in
-          let m = at_place are.joined.members.items p (omega (arith, lt, are.members)) in
-          let runs = are.carried.runs p j pd m (omega (arith, lt)) in
+      -- what the thread of a loop had made here when its run began
+      pub made_first : (p : ℕ) (lt : p < length shared) → (slice_index_or (first_part p lt).row.seats.items k w).coroutines.known.mine ≡ own_entries seat_of (pair_numbers (64 - 2 * length shared) p) seen
+      made_first p lt =
+          let j = length shared - p - 1 in
+          let pd = part_default p lt in
+          let number : (first_part p lt).number ≡ p = omega (arith, are.carried.reversed j pd (omega (arith, lt, are.carried.many)), lt, are.carried.many) in
+          let was = are.carried.parts_are j pd (omega (arith, lt, are.carried.many)) in
+          let before = slice_index_or (first_part p lt).row.seats.items k w in
+          let was_at = was.station.row.each k t w low in
+          let was_first : before.coroutines.known.first ≡ (64 - 2 * length shared) + 2 * p = omega (arith, was_at.co_first_is, was.numbers.first_is, number) in
+          let was_count : before.coroutines.known.count ≡ 2 = omega (arith, was_at.co_count_is, was.numbers.count_is) in
+          sees_own (slice_index_or row.seats.items k w) before ((64 - 2 * length shared) + 2 * p) 2 was_first was_count (are.carried.parts_see j pd (omega (arith, lt)) k w w low)
+
+      -- what it has made in the whole history is what it had made at the end of its run
+      pub made_last : (p : ℕ) (lt : p < length shared) → own_entries seat_of (pair_numbers (64 - 2 * length shared) p) history ≡ (slice_index_or (runs_part p lt).last.row.seats.items k w).coroutines.known.mine
+      made_last p lt =
+          let runs = runs_part p lt in
           let last = runs.last in
           let comes = runs.carried.comes in
-          let number : first.number ≡ p = omega (arith, are.carried.reversed j pd (omega (arith, lt, are.carried.many)), lt, are.carried.many) in
-          let was = are.carried.parts_are j pd (omega (arith, lt, are.carried.many)) in
-          let before = slice_index_or first.row.seats.items k w in
+          let number : (first_part p lt).number ≡ p = omega (arith, are.carried.reversed (length shared - p - 1) (part_default p lt) (omega (arith, lt, are.carried.many)), lt, are.carried.many) in
           let after = slice_index_or last.row.seats.items k w in
-          let was_at = was.station.row.each k t w low in
           let is_at = comes.part.station.row.each k t w low in
-          let was_first : before.coroutines.known.first ≡ (64 - 2 * n) + 2 * p = omega (arith, was_at.co_first_is, was.numbers.first_is, number) in
-          let was_count : before.coroutines.known.count ≡ 2 = omega (arith, was_at.co_count_is, was.numbers.count_is) in
-          let is_first : after.coroutines.known.first ≡ (64 - 2 * n) + 2 * p = omega (arith, is_at.co_first_is, comes.part.numbers.first_is, comes.number_is, number) in
+          let is_first : after.coroutines.known.first ≡ (64 - 2 * length shared) + 2 * p = omega (arith, is_at.co_first_is, comes.part.numbers.first_is, comes.number_is, number) in
           let is_count : after.coroutines.known.count ≡ 2 = omega (arith, is_at.co_count_is, comes.part.numbers.count_is) in
           let here = at_place are.joined.members.items k (omega (arith, low, are.members)) in
           let over = are.ends k t here s r low in
           let stands = over.keeps after last.row.first last.row.count is_at comes.part.station.row.below (runs.within k w s low) in
-          ap begins_of (stands_own after history ((64 - 2 * n) + 2 * p) 2 is_first is_count stands.co_made)
-          ∙ none_more comes.turns first last comes.takes k w
-          ∙ ap begins_of (sees_own (slice_index_or row.seats.items k w) before ((64 - 2 * n) + 2 * p) 2 was_first was_count (are.carried.parts_see j pd (omega (arith, lt)) k w w low))
+          stands_own after history ((64 - 2 * length shared) + 2 * p) 2 is_first is_count stands.co_made
+
+      by_thread : (p : ℕ) → p < length shared → begins_of (own_entries seat_of (pair_numbers (64 - 2 * length shared) p) history) ≡ begins_of (own_entries seat_of (pair_numbers (64 - 2 * length shared) p) seen)
+      by_thread p lt =
+          let runs = runs_part p lt in
+          ap begins_of (made_last p lt) ∙ none_more runs.carried.comes.turns (first_part p lt) runs.last runs.carried.comes.takes k w ∙ ap begins_of (made_first p lt)
 
     -- those that were posted to a loop before the run began there once, and nobody else did
     pub began_there : (many : ℕ) (homes_are : List ℕ) (k : ℕ) (r : LoopRun C (CoWork C K O) O) (low : k < length shared) (w : Seats C O) → own_entries seat_of all_numbers (slice_index_or row.seats.items k w).coroutines.known.seen ≡ begun_on many homes_are k → begins_of (slice_index_or ends k r).coroutines.history ≡ beginning_on many homes_are k

@@ -19,10 +19,12 @@ use Rattle.img_shared.specs.contracts.phases.Phase as Phase
 use Rattle.img_shared.specs.contracts.journal.Ledger as Ledger
 use Rattle.img_shared.specs.contracts.journal.Ledger.TheInside as LedgerInside
 use Rattle.img_shared.specs.Notes.{note}
+use Rattle.img_streams.specs.contracts.boxed.BoxedImage as BoxedImage
+use Rattle.img_streams.specs.contracts.boxed.BoxedImage.TheInside as BoxedInside
 use Rattle.img_streams.specs.contracts.rule.ImageRule as ImageRule
 use Rattle.img_streams.specs.contracts.rule.StreamNote as StreamNote
 use Rattle.img_streams.specs.contracts.stream.ServeEnv as ServeEnv
-use Rattle.std.proofs.Crossing.{crosses, Vec-send}
+use Rattle.std.proofs.Crossing.{crosses, Box-send, Vec-send}
 
 number_send : IsSend u32
 number_send = search sendable
@@ -44,13 +46,18 @@ module _ (D : RattleType) (g : Ghosts D.Denot) where
       (declared_send (Inside.the_type D g)
       (as_row_send (row_field D) d, (search sendable, (search (crosses, sendable), (search (crosses, sendable), (as_row_send (row_field (Ledger.the_row D)) (ledger_send D), (Vec-send Phase.the_row phase_send, (search (access_send, sendable), (Vec-send u32 number_send, tt)))))))))
 
+  boxed_send : IsSend D → IsSend (BoxedImage.the_row D g)
+  boxed_send d =
+      view_send (BoxedInside.the_row D g) _ _ (BoxedImage.the_view D g) (BoxedImage.the_invariant D g)
+      (declared_send (BoxedInside.the_type D g) (Box-send (Image.the_row D g) (image_send d), tt))
+
   -- the lock that the image lies behind
   abbrev Lock : RattleType
-  Lock = CoMutex.the_row (ImageRule.the_row D) (Image.the_row D g) (StreamNote.the_row D) (record { note = λ k s. note g.bytes k s })
+  Lock = CoMutex.the_row (ImageRule.the_row D) (BoxedImage.the_row D g) (StreamNote.the_row D) (record { note = λ k s. note g.bytes k s })
 
   image_lock_sync : IsSend D → IsSync Lock
   image_lock_sync d =
-      lock_sync (ImageRule.the_row D) (Image.the_row D g) (StreamNote.the_row D) (record { note = λ k s. note g.bytes k s }) (image_send d)
+      lock_sync (ImageRule.the_row D) (BoxedImage.the_row D g) (StreamNote.the_row D) (record { note = λ k s. note g.bytes k s }) (boxed_send d)
 
   pub env_sync : (ℓ : NamedLft) (G R : RattleType) → IsSend D → IsSync G → IsSync R → IsSync (ServeEnv.the_row ℓ D G R g)
   env_sync ℓ G R d s r =

@@ -30,13 +30,16 @@ abbrev pub HaveEntered : {C O : Type 0} → ℕ → ℕ → List (Homes C O) →
 HaveEntered {C} {O} loops coroutines homes =
     (k : ℕ) (h : Homes C O) → k < loops → (slice_index_or homes k h).coroutines.known ≡ new_known coroutines 64 1
 
--- on none of them event 0 was found set, or has a coroutine asked that the loops end
+-- on none of them event 0 was found set, has a coroutine asked that the loops end, or is one kept for another loop
 abbrev pub AreQuiet : {C K O : Type 0} → ℕ → List (Hand (CoWork C K O)) → Type 0
 AreQuiet {C} {K} {O} loops hands =
-    (k : ℕ) (d : Hand (CoWork C K O)) → k < loops → ((slice_index_or hands k d).work.is_ended ≡ false) × ((slice_index_or hands k d).work.crew.quits ≡ false)
+    (k : ℕ) (d : Hand (CoWork C K O)) → k < loops
+    → ((slice_index_or hands k d).work.is_ended ≡ false)
+    × ((slice_index_or hands k d).work.crew.quits ≡ false)
+    × ((co : ℕ) → slice_index_or (slice_index_or hands k d).work.crew.leaving.items co None ≡ None)
 
 module _ {C K O : Type 0} (can_work : CoWork C K O → List (LoopShared C O) → LoopState C O → Type 0) where
-  -- what is to be done on each loop can begin, with no event found set and nobody that asked for the end, and there is room for a run, for all streams that end, and for the ends of the loops
+  -- what is to be done on each loop can begin and is quiet, and there is room for a run, for all streams that end, and for the ends of the loops
   pub record HaveHands (script : Script) (loops : Loops C K O) : Type 0 where
     pub hands : vec_len loops.hands ≡ script.loops
     pub begin : CanBeginEach can_work loops.opened.shared.items loops.opened.homes.items loops.hands.items

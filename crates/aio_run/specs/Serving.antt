@@ -1,8 +1,12 @@
 -- What stands in the history of the coroutines of a loop that served a script.
-use Rattle.std.specs.Prelude.{◌≡◌, ℕ, zero, suc, ◌==◌, ◌&&◌, Bool, true, not, if◌then◌else◌, List, [], ◌∷◌, length, slice_index}
+use Rattle.std.specs.Prelude.{◌≡◌, ℕ, zero, suc, ◌==◌, ◌&&◌, Bool, true, false, not, if◌then◌else◌, List, [], ◌∷◌, length, map, slice_index}
+use Rattle.std.specs.List.{AllByRecursion, list_any}
 use Rattle.aio_model.specs.declared.causes.Cause.{Cause}
 use Rattle.aio_model.specs.declared.causes.Cause.TheVariants.{Begin, Wake, Move}
 use Rattle.aio_model.specs.declared.scripts.Script.{Script}
+use Rattle.aio_model.specs.declared.scripts.Step.{Step}
+use Rattle.aio_model.specs.declared.scripts.What.{What}
+use Rattle.aio_model.specs.declared.scripts.What.TheVariants as what
 use Rattle.aio_model.specs.CoroutineHistory.{Schedule, Push, Enter, History}
 use Rattle.stream_ends.specs.Images.{homes_of}
 
@@ -23,6 +27,17 @@ moves_of (Schedule c Wake given seat ∷ older) = moves_of older
 moves_of (Schedule c Move given seat ∷ older) = c ∷ moves_of older
 moves_of (Push c seat ∷ older) = moves_of older
 moves_of (Enter c ∷ older) = moves_of older
+
+-- whether a line has its stream go on on this loop
+abbrev pub goes_to : ℕ → What → Bool
+goes_to loop (what.Ask request) = false
+goes_to loop (what.Delay ns) = false
+goes_to loop (what.Move to) = to == loop
+
+-- whether the stream of this number has a line by which it moves to this loop
+abbrev pub has_move : Script → ℕ → ℕ → Bool
+has_move script loop number =
+    list_any (λ (step : Step). (step.stream == slice_index (map (λ stream. stream.id) script.streams) number) && goes_to loop step.what) script.lines
 
 -- which of the first so many have this loop as their home, the last one first
 abbrev pub beginning_on : ℕ → List ℕ → ℕ → List ℕ
@@ -57,9 +72,11 @@ brings_states (Schedule c cause given seat ∷ older) = fits_cause cause given &
 brings_states (Push c seat ∷ older) = brings_states older
 brings_states (Enter c ∷ older) = brings_states older
 
--- Each stream that has this loop as its home began here once, and no other coroutine began here. Whatever was scheduled here was pushed
--- and entered, once for each time. A state came with each that began or moved here, and with no other.
+-- Each stream that has this loop as its home began here once, and no other coroutine began here. Each that moved here is a stream with a
+-- move line to this loop. Whatever was scheduled here was pushed and entered, once for each time. A state came with each that began or
+-- moved here, and with no other.
 pub record HasServed (script : Script) (loop : ℕ) (history : History) : Type 0 where
   pub began : begins_of history ≡ beginning_on (length script.streams) (homes_of script.streams) loop
+  pub moved : AllByRecursion (λ number. has_move script loop number ≡ true) (moves_of history)
   pub entered : (c : ℕ) → AreEntered (entries_for c history)
   pub states : brings_states history ≡ true

@@ -191,6 +191,8 @@ fn carry_streams<
     hands: Vec<Hand<CoWork<StreamCo<D>, K>>>,
     reserved: Reserved<StreamCo<D>, CoWork<StreamCo<D>, K>>,
 ) -> Vec<LoopRun<StreamCo<D>, CoWork<StreamCo<D>, K>>>
+    requires bounded { IsBounded env.now.script.now }
+    requires loops { env.now.script.now.loops ≡ length opened.shared.items }
     requires few { length opened.shared.items ≤ 16 }
     requires of { AreOf (source env.now.lock.now env.now.script.now) opened.shared.items }
     requires tables { HaveCoroutines (coroutines_of env.now.script.now) opened.shared.items × HaveSizes opened.shared.items }

@@ -84,3 +84,6 @@ returns-clause-turned g c k end low =
     let here : k < length runs = omega (arith, low, c.carry_streams-runs.ensures.long, c.requires.posted.long) in
     subst (λ (l : List (RunEnd _ _)). HasTurned script k (slice_index_or l k end).calls.known.seen) (sym c.gather.ensures.kept)
     (at_mapped end_of (λ (e : RunEnd _ _). HasTurned script k e.calls.known.seen) runs k here (λ r. c.carry_streams-runs.ensures.turned k r here) end)
+
+pub carry_streams-runs-requires-clause-loops : goal.carry_streams-runs-requires-clause-loops
+carry_streams-runs-requires-clause-loops g c κs within = sym c.requires.posted.long
