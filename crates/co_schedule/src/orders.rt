@@ -159,7 +159,7 @@ fn try_order<R: Wait + Abort>(
         co,
         own: u64::from(first) + 1,
     });
-    let CoHome { inner } = home;
+    let CoHome { inner, states: _ } = home;
     let homing = Homing::Swaps(ToSwap {
         table: &table,
         inner,

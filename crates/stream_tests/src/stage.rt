@@ -9,7 +9,7 @@ use aio_model::{Request, Script, Step, What};
 use aio_words::Device;
 use co_mutex::{CoMutex, Pass};
 use img_shared::Image;
-use img_streams::{ImageRule, Room};
+use img_streams::{BoxedImage, ImageRule, Room};
 use std::alloc::Global;
 use std::process::Abort;
 
@@ -101,7 +101,11 @@ pub fn set_up<D: Device, R: Abort>(
         Ok(image) => image,
         Err(_) => panic!(rt; "there is memory"),
     };
-    let (lock, mut passes) = match CoMutex::<ImageRule<D>>::build(alloc, image, 1) {
+    let boxed = match BoxedImage::build(alloc, image) {
+        Ok(boxed) => boxed,
+        Err(_) => panic!(rt; "there is memory"),
+    };
+    let (lock, mut passes) = match CoMutex::<ImageRule<D>>::build(alloc, boxed, 1) {
         Ok(built) => built,
         Err(_) => panic!(rt; "there is memory"),
     };
