@@ -105,7 +105,7 @@ fn carry<'a, W: Wait>(
     requires of { AreOf tt shared.now }
     requires own { own < length shared.now }
     requires here { AreEndsOf shared.now own ends.home.seat ends.lot_pass ends.co_home ends.run }
-    ensures { IfOk result (λ c. IsCarried (λ _ _. Unit {0}) tt c.here.shared.now c.here.crew c.here.home c.here.run c.aio.table.now c.aio.pool.now c.aio.lot_pass c.aio.home.seat c.aio.side) }
+    ensures { IfOk result (λ c. IsCarried (λ _ _ _. Unit {0}) tt c.here.shared.now c.here.crew c.here.home c.here.run c.aio.table.now c.aio.pool.now c.aio.lot_pass c.aio.home.seat c.aio.side) }
 {
     let side = open_side(alloc)?;
     let Ok(crew) = Crew::build(alloc, own, PLAYERS, seats) else {
