@@ -55,6 +55,7 @@ module _ {P D : Type 0} (bytes : D → Option (List ℕ)) (old : Stream P (Image
     index = is.index;
     stands = there;
     named = is.named;
+    places = is.places;
     short = is.short;
     few = is.few;
     many = is.many;

@@ -75,6 +75,7 @@ module _ {P D : Type 0} (bytes : D → Option (List ℕ)) (old : Stream P (Image
           index = is.index ∙ sym n;
           stands = stands;
           named = is.named;
+          places = is.places;
           short = is.short;
           few = is.few;
           many = is.many;
@@ -107,6 +108,7 @@ module _ {P D : Type 0} (bytes : D → Option (List ℕ)) (old : Stream P (Image
           index = omega (arith, is.index, more);
           stands = (idle, refl);
           named = is.named;
+          places = is.places;
           short = is.short;
           few = is.few;
           many = is.many;

@@ -3,6 +3,8 @@ pub mod Owns
 pub mod Accounted
 pub mod Granted
 pub mod LinesAlong
+pub mod OwnPlaces
+pub mod Linking
 pub mod Going
 pub mod Entering
 pub mod Making
@@ -13,6 +15,7 @@ pub mod Retiring
 pub mod Beginning
 pub mod Settling
 pub mod Buffering
+pub mod Gathering
 pub mod Starting
 pub mod Histories
 pub mod Resumed

@@ -140,6 +140,14 @@ own_there id (step ∷ lines) other inside =
           ap (λ (n : ℕ). (get_or (step ∷ lines) n other).stream) first ∙ own_there id lines other (omega (arith, first, inside))
     ]
 
+-- the line that is its own next one is the stream's
+pub own_at : (id : ℕ) (lines : List Step) (at : ℕ) (other : Step) → line_from id lines at ≡ at → at < length lines → (get_or lines at other).stream ≡ id
+own_at id lines at other own inside =
+    let none : next_own id (drop at lines) ≡ 0 = omega (arith, own) in
+    let there : (get_or (drop at lines) (next_own id (drop at lines)) other).stream ≡ id =
+    own_there id (drop at lines) other (omega (arith, none, length-drop at lines, inside)) in
+    ap (λ (s : Step). s.stream) (sym (ap (λ (n : ℕ). get_or (drop at lines) n other) none ∙ get_or-drop at lines 0 other ∙ ap (λ (n : ℕ). get_or lines n other) (let z : at + 0 ≡ at = omega arith in z))) ∙ there
+
 -- where the next line of the stream stands, this is read there
 pub stands_there : (id : ℕ) (lines : List Step) (from : ℕ) (step : Step) (what : What) → line_from id lines from < length lines
     → step ≡ get_or lines (line_from id lines from) step → step.what ≡ what → StandsAt lines id (line_from id lines from) what

@@ -50,7 +50,7 @@ module _ {P D : Type 0} (bytes : D → Option (List ℕ)) (lock : CoMutex P (Ima
   none_yet = ap (λ (n : Note D). length n.entries) note_new
 
   pub started : (new : Stream P (ImageState D) (Note D))
-      → new ≡ record { pass = pass; queued = false; co = co; id = id; line = 0; index = 0; at = at.Between; filled = room.filled; buffer = room.buffer; later = room.later }
+      → new ≡ record { pass = pass; queued = false; co = co; id = id; places = room.places; line = 0; index = 0; at = at.Between; filled = room.filled; buffer = room.buffer; later = room.later }
       → IsStreamOf bytes new (lock, script)
   started new is = subst (λ (s : Stream P (ImageState D) (Note D)). IsStreamOf bytes s (lock, script)) (sym is) (record {
     pass = record {
@@ -93,6 +93,7 @@ module _ {P D : Type 0} (bytes : D → Option (List ℕ)) (lock : CoMutex P (Ima
     index = sym none_yet;
     stands = (ap (λ (n : Note D). n.phase) note_new ∙ idle_at (length can.requests) co.co, refl);
     named = can.named;
+    places = can.room_is.places;
     short = can.short;
     few = can.few;
     many = can.many;

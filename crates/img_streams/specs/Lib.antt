@@ -3,6 +3,7 @@ pub mod ImageCalls
 pub mod Own
 pub mod Steps
 pub mod Lines
+pub mod Links
 pub mod Deeds
 pub mod Streams
 pub mod Retired

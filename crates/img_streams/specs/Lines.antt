@@ -17,6 +17,15 @@ next_own id (step ∷ lines) = if step.stream == id then 0 else 1 + next_own id 
 abbrev pub line_from : ℕ → List Step → ℕ → ℕ
 line_from id lines from = from + next_own id (drop from lines)
 
+-- where the stream's lines stand, first to last, where the first of these lines stands at this place
+abbrev pub places_from : ℕ → ℕ → List Step → List ℕ
+places_from id at [] = []
+places_from id at (step ∷ lines) = if step.stream == id then at ∷ places_from id (at + 1) lines else places_from id (at + 1) lines
+
+-- where the stream's lines stand in a script
+abbrev pub places_of : ℕ → List Step → List ℕ
+places_of id lines = places_from id 0 lines
+
 -- this is the stream's line at this place
 pub record StandsAt (lines : List Step) (id at : ℕ) (what : What) : Type 0 where
   pub inside : at < length lines

@@ -15,7 +15,7 @@ use Rattle.img_shared.specs.declared.phases.Phase.TheVariants.{Idle}
 use Rattle.img_shared.specs.Images.{ImageState}
 use Rattle.img_shared.specs.Notes.{Note}
 use Rattle.img_streams.specs.declared.room.Room.{Room}
-use Rattle.img_streams.specs.Lines.{AreShort, HaveRoom}
+use Rattle.img_streams.specs.Lines.{AreShort, HaveRoom, places_of}
 
 -- a buffer has the room that the line needs
 abbrev pub HasRoomFor : What → List ℕ → Type 0
@@ -33,8 +33,14 @@ pub record HaveBuffers (lines : List Step) (id first : ℕ) (buffers : List (Lis
   pub room : HaveRoom (asked lines) id 0 buffers
   pub many : length buffers ≡ first
 
+-- the places of the stream's lines, and a buffer for each request among them
+pub record AreGathered (lines : List Step) (id : ℕ) (places : List ℕ) (buffers : List (List ℕ)) : Type 0 where
+  pub places_are : places ≡ places_of id lines
+  pub have : HaveBuffers lines id (requests_of id lines) buffers
+
 -- the memory of a stream with these lines
 pub record IsRoomFor (lines : List Step) (id : ℕ) (room : Room) : Type 0 where
+  pub places : room.places.items ≡ places_of id lines
   pub filled : room.filled.items ≡ []
   pub capacity : requests_of id lines ≤ vec_capacity room.filled
   pub many : length room.later.items ≡ requests_of id lines

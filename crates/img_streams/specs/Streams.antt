@@ -25,7 +25,7 @@ use Rattle.img_streams.specs.declared.progress.At.TheVariants as at
 use Rattle.img_streams.specs.declared.stream.Stream.{Stream}
 use Rattle.img_streams.specs.Deeds.{Deed, woken_by, at_after, lines_past, itself, IsDeedAt, Does, listed, asks}
 use Rattle.img_streams.specs.ImageCalls.{Retires}
-use Rattle.img_streams.specs.Lines.{line_from, StandsAt, Asks, AreShort, HaveRoom}
+use Rattle.img_streams.specs.Lines.{line_from, places_of, StandsAt, Asks, AreShort, HaveRoom}
 use Rattle.img_streams.specs.Own.{own_note, IsOf, Calls}
 use Rattle.img_streams.specs.Turns.{GoesOnWaiting}
 
@@ -89,6 +89,8 @@ module _ {P D : Type 0} (bytes : D → Option (List ℕ)) where
     pub pass : IsOf bytes of.0 co.pass co.co.co co.queued
     -- its id is that of its stream line, which has its number
     pub named : slice_index (map (λ stream. stream.id) of.1.streams) co.co.co ≡ co.id
+    -- it knows where its lines stand
+    pub places : co.places.items ≡ places_of co.id of.1.lines
     -- Its note has as many requests as that script has of the stream. Its entries are the image's calls for the stream's
     -- lines above its place, with those made so far for the line at it, and its buffers hold what these calls filled.
     pub account : Account bytes (asked of.1.lines) co.id co.co.co of.1.image (requests_of co.id of.1.lines) (own_note bytes of.0 co.pass)

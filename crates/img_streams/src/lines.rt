@@ -1,21 +1,23 @@
 //! A stream's lines in a script.
 ghost use Rattle.std.specs.Prelude.{◌≡◌, ◌<◌, ◌≤◌, ℕ, length, get_or};
 ghost use Rattle.aio_model.specs.declared.scripts.Step.{Step};
-ghost use Rattle.img_streams.specs.Lines.{line_from, Asks};
+ghost use Rattle.img_streams.specs.Lines.{line_from, places_of, Asks};
 
 use aio_model::{Request, Step, What};
 
-/// The stream's next line from this place on; the end, if it has none.
-pub(crate) fn next_line(lines: &[Step], id: u32, from: usize) -> usize
-    requires { from ≤ length lines.now }
+/// The first of the stream's lines from this place on; the end, if there is none.
+pub(crate) fn next_line(lines: &[Step], id: u32, places: &[usize], from: usize) -> usize
+    requires places { places.now ≡ places_of id lines.now }
+    requires from { from ≤ length lines.now }
     ensures next { result ≡ line_from id lines.now from }
     ensures inside { result ≤ length lines.now }
 {
-    let mut at = from;
-    while at < lines.len() && lines[at].stream != id {
-        at += 1;
+    let _ = id;
+    let index = places.partition_point(|place| *place < from);
+    match places.get(index) {
+        Some(place) => *place,
+        None => lines.len(),
     }
-    at
 }
 
 /// The request of the stream's line at this place.

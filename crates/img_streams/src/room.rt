@@ -1,16 +1,18 @@
-//! The memory of a stream: a buffer for each of its requests, and one more.
-ghost use Rattle.std.specs.Prelude.{◌≡◌, ◌<◌, ◌≤◌, ◌∷◌, ◌++◌, [], IfOk, length, map, vec_capacity};
-ghost use Rattle.aio_model.specs.Asked.{requests_of};
+//! The memory of a stream: the places of its lines, a buffer for each of its requests, and one more.
+ghost use Rattle.std.specs.Prelude.{◌≡◌, ◌<◌, ◌≤◌, ◌^◌, ◌∷◌, ◌++◌, [], IfOk, length, map, vec_capacity};
 ghost use Rattle.img_requests.specs.Pieces.{HasRoom};
-ghost use Rattle.img_streams.specs.Rooms.{AddsFor, HaveBuffers, IsRoomFor};
+ghost use Rattle.img_streams.specs.Links.{LeadThrough};
+ghost use Rattle.img_streams.specs.Rooms.{AddsFor, AreGathered, IsRoomFor};
 
+use crate::links::LineLinks;
 use aio_model::{NoMemory, Request, Script, Step, What};
 use std::alloc::{AllocError, Global};
 use std::collections::VecDeque;
 
-/// The memory of a stream that has made no call yet: a buffer for each of its requests, and one more.
+/// The memory of a stream that has made no call yet: the places of its lines, a buffer for each of its requests, and one more.
 #[derive(Drop)]
 pub struct Room {
+    pub(crate) places: Vec<usize>,
     pub(crate) filled: Vec<Vec<u8>>,
     pub(crate) buffer: Vec<u8>,
     pub(crate) later: VecDeque<Vec<u8>>,
@@ -48,15 +50,26 @@ fn add_buffer(
     Ok(())
 }
 
-/// A buffer for each request of the stream, in the order of its lines.
-fn buffers_for(alloc: Global, lines: &[Step], id: u32) -> Result<VecDeque<Vec<u8>>, AllocError>
-    ensures { IfOk result (λ buffers. HaveBuffers lines.now id (requests_of id lines.now) (map (λ buffer. buffer.items) buffers.items)) }
+/// The places of the stream's lines, and a buffer for each request among them, both in the order of the lines.
+fn gather(
+    alloc: Global,
+    lines: &[Step],
+    links: &LineLinks,
+    id: u32,
+) -> Result<(Vec<usize>, VecDeque<Vec<u8>>), AllocError>
+    requires links { LeadThrough lines.now links.now }
+    requires known { id < 64 }
+    ensures { IfOk result (λ both. AreGathered lines.now id both.0.items (map (λ buffer. buffer.items) both.1.items)) }
 {
+    let mut places = Vec::new(alloc);
     let mut buffers = VecDeque::new(alloc);
-    for line in lines {
-        add_buffer(alloc, &mut buffers, line, id)?;
+    let mut at = links.first(id);
+    while at < lines.len() {
+        places.push(at)?;
+        add_buffer(alloc, &mut buffers, &lines[at], id)?;
+        at = links.next(at);
     }
-    Ok(buffers)
+    Ok((places, buffers))
 }
 
 /// Puts an empty buffer behind the others.
@@ -83,14 +96,17 @@ fn filled_for(alloc: Global, buffers: &VecDeque<Vec<u8>>) -> Result<Vec<Vec<u8>>
     Vec::with_capacity(alloc, buffers.len())
 }
 
-fn room_for(alloc: Global, lines: &[Step], id: u32) -> Result<Room, AllocError>
+fn room_for(alloc: Global, lines: &[Step], links: &LineLinks, id: u32) -> Result<Room, AllocError>
+    requires links { LeadThrough lines.now links.now }
+    requires known { id < 64 }
     ensures { IfOk result (λ room. IsRoomFor lines.now id room) }
 {
-    let mut later = buffers_for(alloc, lines, id)?;
+    let (places, mut later) = gather(alloc, lines, links, id)?;
     let filled = filled_for(alloc, &later)?;
     add_last(alloc, &mut later)?;
     let buffer = take_first(&mut later);
     Ok(Room {
+        places,
         filled,
         buffer,
         later,
@@ -98,13 +114,28 @@ fn room_for(alloc: Global, lines: &[Step], id: u32) -> Result<Room, AllocError>
 }
 
 impl Room {
-    /// The memory of the stream with this id.
-    pub fn build(alloc: Global, script: &Script, id: u32) -> Result<Room, NoMemory>
+    /// The memory of the stream with this id. The links are the script's.
+    pub fn build(
+        alloc: Global,
+        script: &Script,
+        links: &LineLinks,
+        id: u32,
+    ) -> Result<Room, NoMemory>
+        requires links { LeadThrough script.now.lines links.now }
+        requires known { id < 64 }
         ensures { IfOk result (λ room. IsRoomFor script.now.lines id room) }
     {
-        let Ok(room) = room_for(alloc, script.lines.as_slice(), id) else {
+        let Ok(room) = room_for(alloc, script.lines.as_slice(), links, id) else {
             return Err(NoMemory);
         };
         Ok(room)
+    }
+
+    /// How many requests the stream has.
+    pub fn requests(&self) -> u32
+        requires { length self.now.later.items < 2 ^ 32 }
+        ensures { result ≡ length self.now.later.items }
+    {
+        self.later.len() as u32
     }
 }

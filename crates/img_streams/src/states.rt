@@ -261,7 +261,7 @@ impl<D: Device> Stream<ImageRule<D>> {
         ensures resumes { Resumes D.bytes self.old (source env.now.lock.now env.now.script.now) cx.new result self.new }
     {
         let lines = env.script.lines.as_slice();
-        let at = next_line(lines, self.id, self.line);
+        let at = next_line(lines, self.id, self.places.as_slice(), self.line);
         if at == lines.len() {
             self.line = at;
             self.at = At::Retiring;

@@ -25,6 +25,8 @@ pub struct Stream<P: LockRule> {
     pub(crate) co: CoId,
     /// The stream's number in the script's lines.
     pub(crate) id: u32,
+    /// Where its lines stand in the script, first to last.
+    pub(crate) places: Vec<usize>,
     /// The line at hand, or the first that wasn't looked at.
     pub(crate) line: usize,
     /// How many of its requests have their replies.
@@ -43,6 +45,7 @@ impl<P: LockRule> Drop for Stream<P> {
             queued: _,
             co: _,
             id: _,
+            places: _,
             line: _,
             index: _,
             at: _,
@@ -66,6 +69,7 @@ impl<D: Device> Stream<ImageRule<D>> {
             queued: false,
             co,
             id,
+            places: room.places,
             line: 0,
             index: 0,
             at: At::Between,
@@ -100,6 +104,7 @@ impl<P: LockRule> Stream<P> {
             queued: _,
             co: _,
             id: _,
+            places: _places,
             line: _,
             index: _,
             at: _,

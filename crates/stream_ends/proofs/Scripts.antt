@@ -1,6 +1,6 @@
 -- What a script that was read keeps.
 use Rattle.std.proofs.Common.{◌≡◌, ℕ, zero, suc, ◌+◌, ◌*◌, ◌^◌, ◌<◌, ◌≤◌, ◌==◌, ◌&&◌, ◌||◌, ◌⊎◌, inl, inr, Bool, true, false, not, cond, sum, List, [], ◌∷◌, length, map, slice_index, count_by, refl, sym, ap, ◌∙◌, subst, arith}
-use Rattle.std.specs.List.{AllByRecursion, IsDistinct, sum_by}
+use Rattle.std.specs.List.{All, AllByRecursion, IsDistinct, sum_by}
 use Rattle.std.specs.Prelude.{nat_eq}
 use Rattle.std.proofs.lemmas.Bool.{cases_Bool, cases_lt, eq-eqb, eqb-true}
 use Rattle.std.proofs.lemmas.List.Sums.{sum_by-cons, sum-map, sum_by-le-sum_by, count_by-le-length}
@@ -11,7 +11,7 @@ use Rattle.aio_model.specs.declared.scripts.Stream.{Stream}
 use Rattle.aio_model.specs.declared.scripts.What.{What}
 use Rattle.aio_model.specs.declared.scripts.What.TheVariants.{Ask, Delay, Move}
 use Rattle.aio_model.specs.Asked.{is_ask, requests_of}
-use Rattle.aio_script.specs.Bounds.{AsksLittle, IsBounded, IsWithin}
+use Rattle.aio_script.specs.Bounds.{AsksLittle, IsAtHome, IsBounded, IsWithin}
 use Rattle.aio_script.specs.Grammar.{has_stream}
 use Rattle.img_join.specs.Ended.{AreApart, AreOurs}
 use Rattle.img_streams.specs.Lines.{AreShort, IsShort}
@@ -154,3 +154,14 @@ counts_fit script bounded = omega (arith, counts_together script bounded, count_
 pub own_asks : (id : ℕ) (lines : List Step) → requests_of id lines ≤ asks_of lines
 own_asks id lines = sum_by-le-sum_by (λ (s : Step). one_if (s.stream == id && is_ask s.what)) (λ (s : Step). one_if (is_ask s.what)) lines
     (λ s. at_most (s.stream == id) (is_ask s.what))
+
+-- ---- ids
+
+-- each is below 64
+low_ids : (loops : ℕ) (streams : List Stream) → AllByRecursion (IsAtHome loops) streams → All (λ id. id < 64) (ids_of streams)
+low_ids loops [] home k d inside = absurd (omega arith)
+low_ids loops (stream ∷ streams) home zero d inside = omega (arith, home.0.id)
+low_ids loops (stream ∷ streams) home (suc k) d inside = low_ids loops streams home.1 k d (omega arith)
+
+pub ids_low : (script : Script) (ids : List ℕ) → IsBounded script → ids ≡ ids_of script.streams → All (λ id. id < 64) ids
+ids_low script ids bounded is = subst (All (λ id. id < 64)) (sym is) (low_ids script.loops script.streams bounded.at_home)

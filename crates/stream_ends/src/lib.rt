@@ -4,7 +4,6 @@
 #![tactic(auto)]
 
 mod beginning;
-mod counting;
 mod finishing;
 mod gathering;
 mod giving_back;

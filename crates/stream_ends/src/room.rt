@@ -1,12 +1,13 @@
 //! The memory that serving takes on the image's side.
 ghost use Rattle.std.specs.Prelude.{◌≡◌, ◌≤◌, ◌<◌, ◌^◌, [], IfOk, length, vec_capacity};
-ghost use Rattle.stream_ends.specs.Images.{ids_of};
+ghost use Rattle.std.specs.List.{All};
+ghost use Rattle.aio_script.specs.Bounds.{IsBounded};
+ghost use Rattle.stream_ends.specs.Images.{counts_for, ids_of};
 ghost use Rattle.stream_ends.specs.Starts.{HaveRooms, IsEmptyRoom, IsReady};
 
-use crate::counting::counts_in;
 use aio_model::{NoMemory, Placed, Script};
 use co_mutex::{LockRule, Pass};
-use img_streams::{Room, Stream};
+use img_streams::{LineLinks, Room, Stream};
 use std::alloc::{AllocError, Global};
 use std::collections::VecDeque;
 
@@ -78,17 +79,29 @@ fn ids_in(alloc: Global, script: &Script) -> Result<Vec<u32>, AllocError>
         .collect(alloc)
 }
 
-/// The memory of each stream.
-fn rooms_in(alloc: Global, script: &Script, ids: &[u32]) -> Result<VecDeque<Room>, NoMemory>
-    ensures { IfOk result (λ rooms. HaveRooms script.now ids.now rooms.items) }
+/// How many requests each stream has, and the memory of each.
+fn rooms_in(
+    alloc: Global,
+    script: &Script,
+    ids: &[u32],
+) -> Result<(Vec<u32>, VecDeque<Room>), NoMemory>
+    requires low { All (λ id. id < 64) ids.now }
+    requires few { length script.now.lines < 2 ^ 32 }
+    ensures { IfOk result (λ both. (both.0.items ≡ counts_for script.now.lines ids.now) × HaveRooms script.now ids.now both.1.items) }
 {
+    let links = LineLinks::build(alloc, script)?;
+    let Ok(mut counts) = Vec::with_capacity(alloc, ids.len()) else {
+        return Err(NoMemory);
+    };
     let Ok(mut rooms) = Vec::with_capacity(alloc, ids.len()) else {
         return Err(NoMemory);
     };
     for id in ids {
-        rooms.push_reserved(Room::build(alloc, script, *id)?);
+        let room = Room::build(alloc, script, &links, *id)?;
+        counts.push_reserved(room.requests());
+        rooms.push_reserved(room);
     }
-    Ok(VecDeque::from_vec(rooms))
+    Ok((counts, VecDeque::from_vec(rooms)))
 }
 
 /// Room for the end, with no pass yet.
@@ -119,16 +132,13 @@ fn stream_room<P: LockRule>(alloc: Global, many: usize) -> Result<Vec<Stream<P>>
 impl<P: LockRule> Rooms<P> {
     /// All of it for a script.
     pub(crate) fn build(alloc: Global, script: &Script) -> Result<Rooms<P>, NoMemory>
-        requires { length script.now.lines < 2 ^ 32 }
+        requires { IsBounded script.now }
         ensures { IfOk result (IsReady script.now) }
     {
         let Ok(ids) = ids_in(alloc, script) else {
             return Err(NoMemory);
         };
-        let Ok(counts) = counts_in(alloc, script.lines.as_slice(), ids.as_slice()) else {
-            return Err(NoMemory);
-        };
-        let rooms = rooms_in(alloc, script, ids.as_slice())?;
+        let (counts, rooms) = rooms_in(alloc, script, ids.as_slice())?;
         let Ok(streams) = stream_room(alloc, ids.len()) else {
             return Err(NoMemory);
         };

@@ -9,7 +9,7 @@ use aio_model::{Request, Script, Step, What};
 use aio_words::Device;
 use co_mutex::{CoMutex, Pass};
 use img_shared::Image;
-use img_streams::{BoxedImage, ImageRule, Room};
+use img_streams::{BoxedImage, ImageRule, LineLinks, Room};
 use std::alloc::Global;
 use std::process::Abort;
 
@@ -93,7 +93,11 @@ pub fn set_up<D: Device, R: Abort>(
     if requests > 4096 {
         panic!(rt; "the requests are few");
     }
-    let room = match Room::build(alloc, script, 0) {
+    let links = match LineLinks::build(alloc, script) {
+        Ok(links) => links,
+        Err(_) => panic!(rt; "there is memory"),
+    };
+    let room = match Room::build(alloc, script, &links, 0) {
         Ok(room) => room,
         Err(_) => panic!(rt; "there is memory"),
     };

@@ -1,9 +1,6 @@
 use Rattle.std.proofs.Common.{◌∙◌, sum, ap, arith}
-use Rattle.stream_ends.proofs.Scripts.{counts_together, few_asks, few_lines}
+use Rattle.stream_ends.proofs.Scripts.{counts_together, few_asks}
 use Rattle.stream_ends.proofs.beginning.begin.Goals as goal
-
-pub build-requires : goal.build-requires
-build-requires g c = few_lines c.args.script.now c.requires.bounded
 
 pub build-requires-2-clause-few : goal.build-requires-2-clause-few
 build-requires-2-clause-few g c = omega (
