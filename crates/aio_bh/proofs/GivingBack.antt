@@ -4,7 +4,7 @@ use Rattle.std.proofs.lemmas.Bool.{eq-eqb, and_from, and_parts}
 use Rattle.table_seats.proofs.Standing.{entries-append}
 use Rattle.aio_model.specs.declared.flags.Flags.{Flags}
 use Rattle.aio_model.specs.LoopHistory.{Entry, ToCallOnce, New, Enqueue, Put, Cancel, History}
-use Rattle.aio_model.specs.LoopHistory.{Asked}
+use Rattle.aio_model.specs.LoopHistory.{EnqueueAsks}
 use Rattle.aio_model.specs.LoopLists.{seat_of}
 use Rattle.aio_model.specs.LoopLegal.{IsLegal}
 use Rattle.aio_model.specs.LoopSeats.{entries_of}
@@ -15,7 +15,7 @@ use Rattle.aio_core.specs.Words.{free_word}
 use Rattle.aio_core.specs.Standing.{Makes, Claims, Enqueues, Aims, Pushes, Cancels, SetsNotifier, PlacesJob}
 use Rattle.aio_notify.specs.Notifying.{Notifies}
 use Rattle.aio_bh.specs.HomeSteps.{home_steps}
-use Rattle.aio_bh.specs.Running.{GivesBack}
+use Rattle.aio_bh.specs.Running.{SeatComesBack}
 use Rattle.aio_bh.proofs.Entries.{none_of_own}
 
 -- as what gives back, but for the phase
@@ -73,7 +73,7 @@ changed a b steps phase h =
     let told_is : b.told ≡ a.told = ap (λ (k : Known). k.told) h in
     h ∙ ap (λ d. record a { seen = b.seen; mine = b.mine; did = d; phase = phase }) (sym did_is) ∙ ap (λ p. record a { seen = b.seen; mine = b.mine; did = b.did; phase = p }) (sym phase_is) ∙ ap (λ t. record a { seen = b.seen; mine = b.mine; did = b.did; phase = b.phase; told = t }) (sym told_is)
 
-pub GoesThrough-enqueue : (i : ℕ) (asked : Asked) (flags : Flags) (a b : Known) → 0 < a.count → Enqueues i asked flags a b → GoesThrough (Enqueue i asked a.first flags ∷ []) a b
+pub GoesThrough-enqueue : (i : ℕ) (asked : EnqueueAsks) (flags : Flags) (a b : Known) → 0 < a.count → Enqueues i asked flags a b → GoesThrough (Enqueue i asked a.first flags ∷ []) a b
 GoesThrough-enqueue i asked flags a b some h =
     GoesThrough-made (Enqueue i asked a.first flags) a b some refl refl h.makes (changed a b _ _ h.rest) (ap (λ (k : Known). home_steps k.did) h.rest)
 
@@ -125,8 +125,8 @@ legal_then a b through =
     subst (λ s. IsLegal s b.seen) (sym (ap (λ (k : Known). k.sizes) through.rest)) through.legal
 
 -- back at rest
-pub GivesBack-of : (made : History) (a b : Known) → a.phase ≡ AtRest → b.phase ≡ AtRest → GoesThrough made a b → GivesBack made a b
-GivesBack-of made a b rest still through = record {
+pub SeatComesBack-of : (made : History) (a b : Known) → a.phase ≡ AtRest → b.phase ≡ AtRest → GoesThrough made a b → SeatComesBack made a b
+SeatComesBack-of made a b rest still through = record {
   between = through.between;
   just_these = through.just_these;
   of_callback = through.of_callback;
@@ -138,7 +138,7 @@ GivesBack-of made a b rest still through = record {
 }
 
 -- an index was enqueued and pushed, and home was notified
-GoesThrough-pushed : (i aimed pushed : ℕ) (asked : Asked) (flags : Flags) (a b c d e : Known) → 0 < a.count → Enqueues i asked flags a b → Aims i aimed b c → Pushes i pushed c d → Notifies d e → e ≡ record d { did = e.did; phase = AtRest } → GoesThrough (Put i a.first ∷ (Enqueue i asked a.first flags ∷ [])) a e
+GoesThrough-pushed : (i aimed pushed : ℕ) (asked : EnqueueAsks) (flags : Flags) (a b c d e : Known) → 0 < a.count → Enqueues i asked flags a b → Aims i aimed b c → Pushes i pushed c d → Notifies d e → e ≡ record d { did = e.did; phase = AtRest } → GoesThrough (Put i a.first ∷ (Enqueue i asked a.first flags ∷ [])) a e
 GoesThrough-pushed i aimed pushed asked flags a b c d e some enqueues aims pushes notifies same =
     let first = GoesThrough-enqueue i asked flags a b some enqueues in
     let aim = GoesThrough-aim i aimed b c (legal_then a b first) aims in
@@ -149,30 +149,30 @@ GoesThrough-pushed i aimed pushed asked flags a b c d e some enqueues aims pushe
     let three = GoesThrough-then (Enqueue i asked a.first flags ∷ []) (Put i a.first ∷ []) a c d two put in
     GoesThrough-then (Put i a.first ∷ (Enqueue i asked a.first flags ∷ [])) [] a d e three (GoesThrough-notify d e (legal_then a d three) notifies same)
 
-pub GivesBack-pushed : (i aimed pushed : ℕ) (asked : Asked) (flags : Flags) (a b c d e : Known) → 0 < a.count → a.phase ≡ AtRest → Enqueues i asked flags a b → Aims i aimed b c → Pushes i pushed c d → Notifies d e → e ≡ record d { did = e.did; phase = AtRest } → GivesBack (Put i a.first ∷ (Enqueue i asked a.first flags ∷ [])) a e
-GivesBack-pushed i aimed pushed asked flags a b c d e some rest enqueues aims pushes notifies same =
-    GivesBack-of (Put i a.first ∷ (Enqueue i asked a.first flags ∷ [])) a e rest (ap (λ (k : Known). k.phase) same)
+pub SeatComesBack-pushed : (i aimed pushed : ℕ) (asked : EnqueueAsks) (flags : Flags) (a b c d e : Known) → 0 < a.count → a.phase ≡ AtRest → Enqueues i asked flags a b → Aims i aimed b c → Pushes i pushed c d → Notifies d e → e ≡ record d { did = e.did; phase = AtRest } → SeatComesBack (Put i a.first ∷ (Enqueue i asked a.first flags ∷ [])) a e
+SeatComesBack-pushed i aimed pushed asked flags a b c d e some rest enqueues aims pushes notifies same =
+    SeatComesBack-of (Put i a.first ∷ (Enqueue i asked a.first flags ∷ [])) a e rest (ap (λ (k : Known). k.phase) same)
     (GoesThrough-pushed i aimed pushed asked flags a b c d e some enqueues aims pushes notifies same)
 
 -- an index was enqueued that was pending, and home was notified
-pub GivesBack-pending : (i : ℕ) (asked : Asked) (flags : Flags) (a b c : Known) → 0 < a.count → a.phase ≡ AtRest → Enqueues i asked flags a b → Notifies b c → c ≡ record b { did = c.did; phase = AtRest } → GivesBack (Enqueue i asked a.first flags ∷ []) a c
-GivesBack-pending i asked flags a b c some rest enqueues notifies same =
+pub SeatComesBack-pending : (i : ℕ) (asked : EnqueueAsks) (flags : Flags) (a b c : Known) → 0 < a.count → a.phase ≡ AtRest → Enqueues i asked flags a b → Notifies b c → c ≡ record b { did = c.did; phase = AtRest } → SeatComesBack (Enqueue i asked a.first flags ∷ []) a c
+SeatComesBack-pending i asked flags a b c some rest enqueues notifies same =
     let first = GoesThrough-enqueue i asked flags a b some enqueues in
-    GivesBack-of (Enqueue i asked a.first flags ∷ []) a c rest (ap (λ (k : Known). k.phase) same)
+    SeatComesBack-of (Enqueue i asked a.first flags ∷ []) a c rest (ap (λ (k : Known). k.phase) same)
     (GoesThrough-then (Enqueue i asked a.first flags ∷ []) [] a b c first (GoesThrough-notify b c (legal_then a b first) notifies same))
 
 -- a one-shot was placed and pushed, and home was notified
-pub GivesBack-placed : (i job aimed pushed : ℕ) (a b c d e : Known) → 0 < a.count → a.phase ≡ AtRest → (placed : PlacesJob i job a b) → Aims i aimed b c → Pushes i pushed c d → Notifies d e → e ≡ record d { did = e.did; phase = AtRest } → GivesBack (Put i a.first ∷ (Enqueue i ToCallOnce a.first placed.flags ∷ (New i a.first job ∷ []))) a e
-GivesBack-placed i job aimed pushed a b c d e some rest placed aims pushes notifies same =
+pub SeatComesBack-placed : (i job aimed pushed : ℕ) (a b c d e : Known) → 0 < a.count → a.phase ≡ AtRest → (placed : PlacesJob i job a b) → Aims i aimed b c → Pushes i pushed c d → Notifies d e → e ≡ record d { did = e.did; phase = AtRest } → SeatComesBack (Put i a.first ∷ (Enqueue i ToCallOnce a.first placed.flags ∷ (New i a.first job ∷ []))) a e
+SeatComesBack-placed i job aimed pushed a b c d e some rest placed aims pushes notifies same =
     let m : Known = placed.claimed in
     let first = GoesThrough-claim i job a m some placed.claims in
     let same_count : m.count ≡ a.count = ap (λ (k : Known). k.count) first.rest in
     let same_first : m.first ≡ a.first = ap (λ (k : Known). k.first) first.rest in
     let pushed_on = GoesThrough-pushed i aimed pushed ToCallOnce placed.flags m b c d e (subst (λ n. 0 < n) (sym same_count) some) placed.enqueues aims pushes notifies same in
     let then = subst (λ n. GoesThrough (Put i n ∷ (Enqueue i ToCallOnce n placed.flags ∷ [])) m e) same_first pushed_on in
-    GivesBack-of (Put i a.first ∷ (Enqueue i ToCallOnce a.first placed.flags ∷ (New i a.first job ∷ []))) a e rest (ap (λ (k : Known). k.phase) same)
+    SeatComesBack-of (Put i a.first ∷ (Enqueue i ToCallOnce a.first placed.flags ∷ (New i a.first job ∷ []))) a e rest (ap (λ (k : Known). k.phase) same)
     (GoesThrough-then (New i a.first job ∷ []) (Put i a.first ∷ (Enqueue i ToCallOnce a.first placed.flags ∷ [])) a m e first then)
 
-pub GivesBack-canceled : (i : ℕ) (flags : Flags) (a b : Known) → 0 < a.count → a.phase ≡ AtRest → Cancels i flags a b → GivesBack (Cancel i a.first flags ∷ []) a b
-GivesBack-canceled i flags a b some rest cancels =
-    GivesBack-of (Cancel i a.first flags ∷ []) a b rest (ap (λ (k : Known). k.phase) cancels.rest ∙ rest) (GoesThrough-cancel i flags a b some cancels)
+pub SeatComesBack-canceled : (i : ℕ) (flags : Flags) (a b : Known) → 0 < a.count → a.phase ≡ AtRest → Cancels i flags a b → SeatComesBack (Cancel i a.first flags ∷ []) a b
+SeatComesBack-canceled i flags a b some rest cancels =
+    SeatComesBack-of (Cancel i a.first flags ∷ []) a b rest (ap (λ (k : Known). k.phase) cancels.rest ∙ rest) (GoesThrough-cancel i flags a b some cancels)

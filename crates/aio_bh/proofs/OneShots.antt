@@ -13,7 +13,7 @@ use Rattle.aio_core.specs.Calls.{IsTaken}
 use Rattle.aio_notify.specs.Notifying.{Notifies}
 use Rattle.lot_pool.specs.Pools.{PassState}
 use Rattle.aio_bh.specs.HomeSteps.{home_steps}
-use Rattle.aio_bh.specs.Enqueuing.{PushesAtLast, Stands}
+use Rattle.aio_bh.specs.Enqueuing.{PushesAtLast, AddsOnly}
 use Rattle.aio_bh.specs.OneShots.{FindsEachTaken, PlacesIn, one_shot_entries}
 use Rattle.aio_bh.proofs.Standing.{IsSame, IsQuiet, AtEnd, changed, quieted, quiet_refl, quiet_then, same_then, at_quiet, to_stands, then_quiet, notifies_quiet, enqueue_then_push, pushes_at_last_stands}
 
@@ -63,7 +63,7 @@ job_stands lot job v placed pushed places pushes =
     let two = subst (λ n. StandsAtTheEnd v.sizes n (later n) claimed.seen claimed.mine pushed.seen pushed.mine) same.first one in
     (record { stands = stands_append seat_of (IsLegal v.sizes) v.first (New lot v.first job ∷ []) (later v.first) v.seen v.mine claimed.seen claimed.mine pushed.seen pushed.mine new.stands two.stands; ends = two.ends }, same_then v claimed pushed same rest.1)
 
-pub places_stands : (lot job : ℕ) (pass : PassState) (v : Known) (pass_after : PassState) (placed pushed w : Known) (places : PlacesIn lot job pass v pass_after placed) → PushesAtLast lot placed pushed → Notifies pushed w → Stands (one_shot_entries lot job v.first places.places.flags) v w
+pub places_stands : (lot job : ℕ) (pass : PassState) (v : Known) (pass_after : PassState) (placed pushed w : Known) (places : PlacesIn lot job pass v pass_after placed) → PushesAtLast lot placed pushed → Notifies pushed w → AddsOnly (one_shot_entries lot job v.first places.places.flags) v w
 places_stands lot job pass v pass_after placed pushed w places pushes notifies =
     let flags = places.places.flags in
     let tried = places.tried in

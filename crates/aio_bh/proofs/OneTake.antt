@@ -6,10 +6,10 @@ use Rattle.aio_model.specs.LoopFlags.{is_lot}
 use Rattle.aio_model.specs.LoopLists.{out_of}
 use Rattle.aio_model.specs.LoopLegal.{IsLegal}
 use Rattle.aio_model.specs.LoopSeats.{home, entries_of}
-use Rattle.aio_model.specs.LoopFrame.{Place, Makes, Body, Turn, Turns, Frame, are_of_callback}
+use Rattle.aio_model.specs.LoopFrame.{PollPlace, Makes, Body, Turn, Turns, Frame, are_of_callback}
 use Rattle.aio_model.proofs.AnnouncedOnce.{out_of-dequeue}
 use Rattle.aio_bh.specs.Polling.{dequeued_in}
-use Rattle.aio_bh.specs.SoFar.{TakesAndSome}
+use Rattle.aio_bh.specs.PollFrames.{TakesAndSome}
 use Rattle.aio_bh.proofs.Entries.{rest_of_callback}
 
 abbrev pub no_take : History → Bool

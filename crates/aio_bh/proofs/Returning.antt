@@ -10,8 +10,8 @@ use Rattle.lot_pool.specs.Pools.{PoolState, PassState, GivesAll}
 use Rattle.lot_pool.specs.Pools.{GivesBack as GivesLotBack}
 use Rattle.lot_pool.proofs.Passes.{gives_then}
 use Rattle.aio_bh.specs.declared.polled.Polled.{Polled}
-use Rattle.aio_bh.specs.Running.{GivesBack}
-use Rattle.aio_bh.specs.SoFar.{FindsNone, TakesNext}
+use Rattle.aio_bh.specs.Running.{SeatComesBack}
+use Rattle.aio_bh.specs.PollFrames.{FindsNone, TakesNext}
 use Rattle.aio_bh.specs.OneShots.{frees_of, FreesNone, GivesFreed}
 
 pub frees_of-append : (newer older : History) → frees_of (newer ++ older) ≡ frees_of newer ++ frees_of older
@@ -43,7 +43,7 @@ frees_of-callback (ClearEvent e w ∷ made) h = absurd (false≢true h)
 pub frees_nothing : (a : Known) → FreesNone a a
 frees_nothing a = record { made = []; mine = refl; none = refl }
 
-pub callback_frees_none : (made : History) (a b : Known) → GivesBack made a b → FreesNone a b
+pub callback_frees_none : (made : History) (a b : Known) → SeatComesBack made a b → FreesNone a b
 callback_frees_none made a b back =
     record { made = made; mine = back.mine; none = frees_of-callback made back.of_callback }
 

@@ -1,12 +1,12 @@
 -- From the steps of an enqueue to what its call says.
 use Rattle.std.proofs.Common.{◌≡◌, ℕ, zero, suc, Bool, true, false, MatchBool, refl, sym, subst}
 use Rattle.aio_model.specs.declared.flags.Flags.{Flags}
-use Rattle.aio_model.specs.LoopHistory.{Asked}
+use Rattle.aio_model.specs.LoopHistory.{EnqueueAsks}
 use Rattle.aio_core.specs.Known.{Known}
 use Rattle.aio_core.specs.Standing.{Enqueues}
 use Rattle.aio_bh.specs.Enqueuing.{MissesOnce, PushesOnce, Tries, PushesAtLast, PushesInTheEnd, InsertsAtOnce, Schedules, SchedulesAtOnce, SchedulesLater}
 
-module _ (i : ℕ) (asked : Asked) (flags : Flags) (v a : Known) (enqueues : Enqueues i asked flags v a) where
+module _ (i : ℕ) (asked : EnqueueAsks) (flags : Flags) (v a : Known) (enqueues : Enqueues i asked flags v a) where
   pub pushed_at_once : (owed : ℕ) (w : Known) → (flags.pending ≡ false) × (owed ≡ i) → PushesOnce owed a w → InsertsAtOnce i asked flags v w
   pushed_at_once owed w h pushes =
       record { announced = a; enqueues = enqueues; pushes = subst (λ b. MatchBool b (w ≡ a) (PushesOnce i a w)) (sym h.0) (subst (λ k. PushesOnce k a w) h.1 pushes) }
@@ -29,7 +29,7 @@ by_pending : (b : Bool) (i : ℕ) (a w : Known) → MatchBool b (w ≡ a) (Pushe
 by_pending true i a w same = same
 by_pending false i a w pushes = once_at_last i a w pushes
 
-pub at_once : (i : ℕ) (asked : Asked) (flags : Flags) (v w : Known) → SchedulesAtOnce i asked flags v w → Schedules i asked flags v w
+pub at_once : (i : ℕ) (asked : EnqueueAsks) (flags : Flags) (v w : Known) → SchedulesAtOnce i asked flags v w → Schedules i asked flags v w
 at_once i asked flags v w run =
     let inserts = run.inserts in
     record {
@@ -44,7 +44,7 @@ missed_first i zero a b c miss same = (a, refl, subst (MissesOnce i a) (sym same
 missed_first i (suc misses) a b c miss tries =
     (tries.0, missed_first i misses a b tries.0 miss tries.1, tries.2)
 
-pub later : (i : ℕ) (asked : Asked) (flags : Flags) (v a w : Known) → SchedulesLater i asked flags v a → PushesInTheEnd i a w → Schedules i asked flags v w
+pub later : (i : ℕ) (asked : EnqueueAsks) (flags : Flags) (v a w : Known) → SchedulesLater i asked flags v a → PushesInTheEnd i a w → Schedules i asked flags v w
 later i asked flags v a w run pushed =
     let push : PushesAtLast i run.announced pushed.pushed = record {
       misses = suc pushed.pushes.misses;

@@ -8,7 +8,7 @@ use Rattle.aio_model.specs.LoopLists.{out_of}
 use Rattle.aio_model.specs.LoopLegal.{IsLegal}
 use Rattle.aio_model.specs.LoopLaws.{times_of, some_entry}
 use Rattle.aio_model.specs.LoopSeats.{home, entries_by, entries_of}
-use Rattle.aio_model.specs.LoopFrame.{Lent, Answer, Ended, Nests, Entered, Runs, Place, Makes, Enters, Body, Turn, Turns, nests_above, Frame, are_of_callback, lent_of, start_of}
+use Rattle.aio_model.specs.LoopFrame.{Lent, Answer, Ended, Nests, Entered, DoesEntries, PollPlace, Makes, EntersRunner, Body, Turn, Turns, nests_above, Frame, are_of_callback, lent_of, start_of}
 use Rattle.aio_model.specs.LoopCalls.{dequeue_times, call_times, entry_times, stops, AwaitsCall}
 use Rattle.aio_model.proofs.Indices.{times_of-append}
 use Rattle.aio_model.proofs.Rounds.{legal_cut}
@@ -16,9 +16,9 @@ use Rattle.aio_model.proofs.Awaiting.{dequeue_times-append, call_times-append, c
 use Rattle.aio_model.proofs.Entering.{Along-frame}
 use Rattle.aio_core.specs.Known.{Known}
 use Rattle.aio_bh.specs.declared.polled.Polled.{Polled}
-use Rattle.aio_bh.specs.Enqueuing.{Stands, enqueue_entries}
+use Rattle.aio_bh.specs.Enqueuing.{AddsOnly, enqueue_entries}
 use Rattle.aio_bh.specs.Polling.{dequeued_in, Polls}
-use Rattle.aio_bh.specs.Serving.{gets_nest, some_nests, WasMade, StandsWithin, Serves}
+use Rattle.aio_bh.specs.Serving.{gets_nest, some_nests, WasMade, StandsWithin, PollServes}
 use Rattle.aio_bh.proofs.OneTake.{no_take, no_take-append, no_take-callback, out_since}
 use Rattle.aio_bh.proofs.Lent.{enqueue_of_callback}
 
@@ -50,7 +50,7 @@ dequeued_times k (ClearEvent e w ∷ xs) = dequeued_times k xs
 -- From place to place without a take, with what callbacks made.
 
 -- the log is longer
-record LogGrows (a b : Place) : Type 0 where
+record LogGrows (a b : PollPlace) : Type 0 where
   more : List Entered
   log : b.log ≡ more ++ a.log
 
@@ -62,7 +62,7 @@ or_from : (a b : Bool) → a ≡ false → b ≡ false → (a || b) ≡ false
 or_from true b x y = absurd (false≢true (sym x))
 or_from false b x y = y
 
-record Onward (a b : Place) : Type 0 where
+record Onward (a b : PollPlace) : Type 0 where
   later : History
   none : no_take later ≡ true
   seen : b.seen ≡ later ++ a.seen
@@ -86,13 +86,13 @@ within_older entries newer older at = record {
   just_these = at.just_these;
 }
 
-Onward-none : (more : History) (a b : Place) → no_take more ≡ true → b.seen ≡ more ++ a.seen → b.log ≡ a.log → Onward a b
+Onward-none : (more : History) (a b : PollPlace) → no_take more ≡ true → b.seen ≡ more ++ a.seen → b.log ≡ a.log → Onward a b
 Onward-none more a b none seen log = record { later = more; none = none; seen = seen; made = λ entries was. inl (subst (WasMade entries) log was) }
 
-Onward-same : (a b : Place) → b ≡ a → Onward a b
-Onward-same a b same = Onward-none [] a b refl (ap (λ (p : Place). p.seen) same) (ap (λ (p : Place). p.log) same)
+Onward-same : (a b : PollPlace) → b ≡ a → Onward a b
+Onward-same a b same = Onward-none [] a b refl (ap (λ (p : PollPlace). p.seen) same) (ap (λ (p : PollPlace). p.log) same)
 
-Onward-then : (a b c : Place) → Onward a b → Onward b c → Onward a c
+Onward-then : (a b c : PollPlace) → Onward a b → Onward b c → Onward a c
 Onward-then a b c first then = record {
   later = then.later ++ first.later;
   none = no_take-append then.later first.later then.none first.none;
@@ -116,22 +116,22 @@ some_nests-parts (e ∷ newer) older none =
     (or_from (gets_nest e.answer e.lent.nests_left) (some_nests newer) both.0 rest.0, rest.1)
 
 -- so of a runner that never asks for one
-pub never_nests : {R : Type 0} (does : R → Entered → R → Type 0) → ((x y : R) (e : Entered) → does x e y → e.answer ≡ Ended) → (log : List Entered) (r s : R) → Runs does r log s → some_nests log ≡ false
+pub never_nests : {R : Type 0} (does : R → Entered → R → Type 0) → ((x y : R) (e : Entered) → does x e y → e.answer ≡ Ended) → (log : List Entered) (r s : R) → DoesEntries does r log s → some_nests log ≡ false
 never_nests does ends [] r s runs = refl
 never_nests does ends (e ∷ log) r s runs =
     or_from (gets_nest e.answer e.lent.nests_left) (some_nests log) (ap (λ x. gets_nest x e.lent.nests_left) (ends runs.0 s e runs.2)) (never_nests does ends log r runs.0 runs.1)
 
 -- Where no entry of a part got a nested poll, it goes on without a take.
 
-record Going (a b : Place) : Type 0 where
+record Going (a b : PollPlace) : Type 0 where
   more : List Entered
   log : b.log ≡ more ++ a.log
   onward : some_nests more ≡ false → Onward a b
 
-Going-quiet : (a b : Place) → b.log ≡ a.log → Onward a b → Going a b
+Going-quiet : (a b : PollPlace) → b.log ≡ a.log → Onward a b → Going a b
 Going-quiet a b log onward = record { more = []; log = log; onward = λ _. onward }
 
-Going-then : (a b c : Place) → Going a b → Going b c → Going a c
+Going-then : (a b c : PollPlace) → Going a b → Going b c → Going a c
 Going-then a b c first then = record {
   more = then.more ++ first.more;
   log = then.log ∙ ap (λ l. then.more ++ l) first.log ∙ sym (append_assoc then.more first.more a.log);
@@ -140,7 +140,7 @@ Going-then a b c first then = record {
       Onward-then a b c (first.onward parts.1) (then.onward parts.0);
 }
 
-Going-enters : (lent : Lent) (answer : Answer) (a b : Place) → Enters lent answer a b → Going a b
+Going-enters : (lent : Lent) (answer : Answer) (a b : PollPlace) → EntersRunner lent answer a b → Going a b
 Going-enters lent answer a b enters = record {
   more = record { lent = lent; answer = answer; made = enters.made } ∷ [];
   log = enters.log;
@@ -156,9 +156,9 @@ Going-enters lent answer a b enters = record {
   };
 }
 
-module _ (frame : Place → Place → Type 0) (frames : (a b : Place) → frame a b → LogGrows a b) where
+module _ (frame : PollPlace → PollPlace → Type 0) (frames : (a b : PollPlace) → frame a b → LogGrows a b) where
   -- what nests is out of the question, but the log grows
-  Going-body : (bh : ℕ) (job : Option ℕ) (first : Bool) (nests : ℕ) (a b : Place) → Body frame bh job first nests a b → Going a b
+  Going-body : (bh : ℕ) (job : Option ℕ) (first : Bool) (nests : ℕ) (a b : PollPlace) → Body frame bh job first nests a b → Going a b
   Going-body bh job first zero a b body = Going-enters (lent_of bh job first zero) body.0 a b body.1
   Going-body bh job first (suc nests) a b body =
       elim body as (λ _. Going a b) [
@@ -174,27 +174,27 @@ module _ (frame : Place → Place → Type 0) (frames : (a b : Place) → frame 
             }
       ]
 
-  Going-calls : (bh : ℕ) (job : Option ℕ) (ran : Bool) (nests : ℕ) (a b : Place) → MatchBool ran (Body frame bh job true nests a b) (b ≡ a) → Going a b
+  Going-calls : (bh : ℕ) (job : Option ℕ) (ran : Bool) (nests : ℕ) (a b : PollPlace) → MatchBool ran (Body frame bh job true nests a b) (b ≡ a) → Going a b
   Going-calls bh job true nests a b body = Going-body bh job true nests a b body
-  Going-calls bh job false nests a b same = Going-quiet a b (ap (λ (p : Place). p.log) same) (Onward-same a b same)
+  Going-calls bh job false nests a b same = Going-quiet a b (ap (λ (p : PollPlace). p.log) same) (Onward-same a b same)
 
-  Going-free : (index : ℕ) (lot : Bool) (a b : Place) → MatchBool lot (Makes (Free index) a b) (b ≡ a) → Going a b
+  Going-free : (index : ℕ) (lot : Bool) (a b : PollPlace) → MatchBool lot (Makes (Free index) a b) (b ≡ a) → Going a b
   Going-free index true a b free =
       Going-quiet a b free.log (Onward-none (Free index ∷ free.others) a b (no_take-callback free.others (ap are_of_callback free.not_home)) free.seen free.log)
-  Going-free index false a b same = Going-quiet a b (ap (λ (p : Place). p.log) same) (Onward-same a b same)
+  Going-free index false a b same = Going-quiet a b (ap (λ (p : PollPlace). p.log) same) (Onward-same a b same)
 
-  Going-turn : (sizes : Sizes) (nests : ℕ) (a b : Place) → Turn sizes frame nests a b → Going a b
+  Going-turn : (sizes : Sizes) (nests : ℕ) (a b : PollPlace) → Turn sizes frame nests a b → Going a b
   Going-turn sizes nests a b turn =
       let d = turn.dequeue in
       let first = Going-quiet a turn.dequeued d.log (Onward-none (Dequeue turn.index turn.ran ∷ d.others) a turn.dequeued (no_take-callback d.others (ap are_of_callback d.not_home)) d.seen d.log) in
       Going-then a turn.dequeued b first (Going-then turn.dequeued turn.ended b (Going-calls turn.index _ turn.ran nests turn.dequeued turn.ended turn.body) (Going-free turn.index (is_lot sizes turn.index) turn.ended b turn.free))
 
-  Going-turns : (sizes : Sizes) (nests count : ℕ) (a b : Place) → Turns sizes frame nests count a b → Going a b
-  Going-turns sizes nests zero a b same = Going-quiet a b (ap (λ (p : Place). p.log) same) (Onward-same a b same)
+  Going-turns : (sizes : Sizes) (nests count : ℕ) (a b : PollPlace) → Turns sizes frame nests count a b → Going a b
+  Going-turns sizes nests zero a b same = Going-quiet a b (ap (λ (p : PollPlace). p.log) same) (Onward-same a b same)
   Going-turns sizes nests (suc count) a b turns =
       Going-then a turns.0 b (Going-turn sizes nests a turns.0 turns.1) (Going-turns sizes nests count turns.0 b turns.2)
 
-LogGrows-frame : (sizes : Sizes) (depth : ℕ) (a b : Place) → Frame sizes depth a b → LogGrows a b
+LogGrows-frame : (sizes : Sizes) (depth : ℕ) (a b : PollPlace) → Frame sizes depth a b → LogGrows a b
 unfolding Frame
 LogGrows-frame sizes zero a b frame = absurd frame
 LogGrows-frame sizes (suc deeper) a b frame =
@@ -202,7 +202,7 @@ LogGrows-frame sizes (suc deeper) a b frame =
     record { more = turns.more; log = turns.log ∙ ap (λ l. turns.more ++ l) frame.take.log }
 
 -- a poll without nested ones, from its one take on
-record FromTake (a b : Place) : Type 0 where
+record FromTake (a b : PollPlace) : Type 0 where
   others : History
   not_home : entries_of home others ≡ []
   later : History
@@ -210,7 +210,7 @@ record FromTake (a b : Place) : Type 0 where
   seen : b.seen ≡ later ++ (Take ∷ (others ++ a.seen))
   made : (entries : History) → WasMade entries b.log → WasMade entries a.log ⊎ StandsWithin entries later
 
-from_take : (sizes : Sizes) (deeper : ℕ) (a b : Place) → Frame sizes (suc deeper) a b → some_nests b.log ≡ false → FromTake a b
+from_take : (sizes : Sizes) (deeper : ℕ) (a b : PollPlace) → Frame sizes (suc deeper) a b → some_nests b.log ≡ false → FromTake a b
 unfolding Frame
 from_take sizes deeper a b frame alone =
     let take = frame.take in
@@ -235,7 +235,7 @@ none_since sizes k seat was since older handle legal none idle =
     let split : out_of H ≡ dequeued_in since ++ out_of (since ++ H) = out_since sizes H since none legal in
     omega (arith, out, ap (times_of k) split, times_of-append k (dequeued_in since) (out_of (since ++ H)), dequeued_times k since)
 
-pub served : {R : Type 0} (does : R → Entered → R → Type 0) (polled : Polled) (r s : R) (a b : Known) (polls : Polls does polled r a s b) → some_nests polls.end.log ≡ false → Serves a.sizes a.seen polls.end.log b.seen
+pub served : {R : Type 0} (does : R → Entered → R → Type 0) (polled : Polled) (r s : R) (a b : Known) (polls : Polls does polled r a s b) → some_nests polls.end.log ≡ false → PollServes a.sizes a.seen polls.end.log b.seen
 served does polled r s a b polls alone =
     let from = from_take a.sizes 7 (start_of a.seen) polls.end polls.frame alone in
     let P : History = from.others ++ a.seen in
@@ -280,7 +280,7 @@ enqueue_awaits sizes k seat was test since before handle legal made idle alive s
     (enqueued_awaits sizes k handle seat was two.since (two.before ++ before) (subst (IsLegal sizes) whole legal) alive calm.0 count (two.has (puts k) (eq-eqb k k refl)))
 
 -- so through a seat that does only what a callback may, as each does between two polls: it dequeues nothing
-pub stands_awaits : (k : ℕ) (was : Flags) (a b : Known) → k < a.sizes.handles → a.first ≡ 64 → (stands : Stands (enqueue_entries k ToCall a.first was) a b) → was.pending ≡ false → was.deleted ≡ false → some_entry (stops k) stands.stands.stands.rest ≡ false → AwaitsCall k b.seen
+pub stands_awaits : (k : ℕ) (was : Flags) (a b : Known) → k < a.sizes.handles → a.first ≡ 64 → (stands : AddsOnly (enqueue_entries k ToCall a.first was) a b) → was.pending ≡ false → was.deleted ≡ false → some_entry (stops k) stands.stands.stands.rest ≡ false → AwaitsCall k b.seen
 stands_awaits k was a b handle home_is stands idle alive still =
     let s = stands.stands.stands in
     let of_home : entries_of home s.rest ≡ enqueue_entries k ToCall a.first was = ap (λ n. entries_of n s.rest) (sym home_is) ∙ s.just_these in
@@ -289,7 +289,7 @@ stands_awaits k was a b handle home_is stands idle alive still =
     (enqueue_awaits a.sizes k a.first was (λ n. eqb n a.first) s.rest a.seen handle (subst (IsLegal a.sizes) s.longer s.legal) s.just_these idle alive still none)
 
 -- What a callback enqueued anew awaits its call at the end of the poll, unless somebody canceled or deleted it: the next poll calls it.
-pub callback_awaits : (sizes : Sizes) (before after : History) (log : List Entered) (k : ℕ) (was : Flags) → (serves : Serves sizes before log after) → k < sizes.handles → IsLegal sizes after → WasMade (enqueue_entries k ToCall 64 was) log → was.pending ≡ false → was.deleted ≡ false → some_entry (stops k) serves.later ≡ false → AwaitsCall k after
+pub callback_awaits : (sizes : Sizes) (before after : History) (log : List Entered) (k : ℕ) (was : Flags) → (serves : PollServes sizes before log after) → k < sizes.handles → IsLegal sizes after → WasMade (enqueue_entries k ToCall 64 was) log → was.pending ≡ false → was.deleted ≡ false → some_entry (stops k) serves.later ≡ false → AwaitsCall k after
 callback_awaits sizes before after log k was serves handle legal made idle alive still =
     let at = serves.made (enqueue_entries k ToCall 64 was) made in
     let P : History = Take ∷ (serves.others ++ before) in

@@ -2,7 +2,7 @@
 use Rattle.std.proofs.Common.{◌≡◌, ℕ, zero, suc, Bool, true, false, cond, eqb, MatchBool, List, [], ◌∷◌, refl, sym, ap, ◌∙◌, subst}
 use Rattle.table_seats.proofs.Standing.{makes_stand, stands_append}
 use Rattle.aio_model.specs.declared.flags.Flags.{Flags}
-use Rattle.aio_model.specs.LoopHistory.{Asked, Enqueue, Put, History}
+use Rattle.aio_model.specs.LoopHistory.{EnqueueAsks, Enqueue, Put, History}
 use Rattle.aio_model.specs.LoopLists.{seat_of}
 use Rattle.aio_model.specs.LoopLegal.{IsLegal}
 use Rattle.aio_model.specs.LoopSeats.{StandsAtTheEnd}
@@ -11,7 +11,7 @@ use Rattle.aio_core.specs.Known.{Done, Known, part_of}
 use Rattle.aio_core.specs.Standing.{Enqueues, Aims, SetsNotifier}
 use Rattle.aio_bh.specs.HomeSteps.{home_steps}
 use Rattle.aio_notify.specs.Notifying.{Notifies}
-use Rattle.aio_bh.specs.Enqueuing.{MissesOnce, PushesOnce, Tries, PushesAtLast, Inserts, InsertsAtOnce, Schedules, SchedulesAtOnce, SchedulesLater, enqueue_entries, Stands}
+use Rattle.aio_bh.specs.Enqueuing.{MissesOnce, PushesOnce, Tries, PushesAtLast, Inserts, InsertsAtOnce, Schedules, SchedulesAtOnce, SchedulesLater, enqueue_entries, AddsOnly}
 
 -- What steps leave.
 
@@ -111,7 +111,7 @@ pushes_at_last_stands i v w run =
     (at_quiet v run.last w (λ n. Put i n ∷ []) quiet push.0, same_then v run.last w quiet.same push.1)
 
 -- an enqueue, and then a push
-pub enqueue_then_push : (i : ℕ) (asked : Asked) (flags : Flags) (v a w : Known) → Enqueues i asked flags v a → AtEnd a (Put i a.first ∷ []) w × IsSame a w → AtEnd v (Put i v.first ∷ Enqueue i asked v.first flags ∷ []) w × IsSame v w
+pub enqueue_then_push : (i : ℕ) (asked : EnqueueAsks) (flags : Flags) (v a w : Known) → Enqueues i asked flags v a → AtEnd a (Put i a.first ∷ []) w × IsSame a w → AtEnd v (Put i v.first ∷ Enqueue i asked v.first flags ∷ []) w × IsSame v w
 enqueue_then_push i asked flags v a w enqueues push =
     let same = changed v a _ _ _ _ enqueues.rest refl in
     let first = makes_stand seat_of (IsLegal v.sizes) (Enqueue i asked v.first flags) (part_of v) (part_of a) enqueues.makes refl in
@@ -119,43 +119,43 @@ enqueue_then_push i asked flags v a w enqueues push =
     let second : StandsAtTheEnd v.sizes v.first (Put i v.first ∷ []) a.seen a.mine w.seen w.mine = subst (λ n. StandsAtTheEnd v.sizes n (Put i n ∷ []) a.seen a.mine w.seen w.mine) same.first one in
     (record { stands = stands_append seat_of (IsLegal v.sizes) v.first (Enqueue i asked v.first flags ∷ []) (Put i v.first ∷ []) v.seen v.mine a.seen a.mine w.seen w.mine first.stands second.stands; ends = second.ends }, same_then v a w same push.1)
 
-pub enqueue_alone : (i : ℕ) (asked : Asked) (flags : Flags) (v a : Known) → Enqueues i asked flags v a → AtEnd v (Enqueue i asked v.first flags ∷ []) a × IsSame v a
+pub enqueue_alone : (i : ℕ) (asked : EnqueueAsks) (flags : Flags) (v a : Known) → Enqueues i asked flags v a → AtEnd v (Enqueue i asked v.first flags ∷ []) a × IsSame v a
 enqueue_alone i asked flags v a enqueues =
     (makes_stand seat_of (IsLegal v.sizes) (Enqueue i asked v.first flags) (part_of v) (part_of a) enqueues.makes refl, changed v a _ _ _ _ enqueues.rest refl)
 
-pub to_stands : (entries : History) (v w : Known) → AtEnd v entries w × IsSame v w → Stands entries v w
+pub to_stands : (entries : History) (v w : Known) → AtEnd v entries w × IsSame v w → AddsOnly entries v w
 to_stands entries v w h = record { stands = h.0; rest = same_rest v w h.1; steps = h.1.steps }
 
 -- quiet steps behind a call
-pub then_quiet : (entries : History) (v w x : Known) → Stands entries v w → IsQuiet w x → Stands entries v x
+pub then_quiet : (entries : History) (v w x : Known) → AddsOnly entries v w → IsQuiet w x → AddsOnly entries v x
 then_quiet entries v w x h quiet =
     let one = subst (λ s. StandsAtTheEnd v.sizes v.first entries v.seen v.mine s w.mine) (sym quiet.seen) h.stands in
     let same = changed v w w.seen w.mine w.did w.phase h.rest h.steps in
     to_stands entries v x (subst (λ m. StandsAtTheEnd v.sizes v.first entries v.seen v.mine x.seen m) (sym quiet.mine) one, same_then v w x same quiet.same)
 
 -- by whether the index was pending
-by_pending : (b : Bool) (i : ℕ) (asked : Asked) (flags : Flags) (v a w : Known) (P : Type 0) → Enqueues i asked flags v a → MatchBool b (w ≡ a) P → (P → AtEnd a (Put i a.first ∷ []) w × IsSame a w) → Stands (cond b (Enqueue i asked v.first flags ∷ []) (Put i v.first ∷ Enqueue i asked v.first flags ∷ [])) v w
+by_pending : (b : Bool) (i : ℕ) (asked : EnqueueAsks) (flags : Flags) (v a w : Known) (P : Type 0) → Enqueues i asked flags v a → MatchBool b (w ≡ a) P → (P → AtEnd a (Put i a.first ∷ []) w × IsSame a w) → AddsOnly (cond b (Enqueue i asked v.first flags ∷ []) (Put i v.first ∷ Enqueue i asked v.first flags ∷ [])) v w
 by_pending true i asked flags v a w P enqueues h push =
-    subst (Stands (Enqueue i asked v.first flags ∷ []) v) (sym h) (to_stands (Enqueue i asked v.first flags ∷ []) v a (enqueue_alone i asked flags v a enqueues))
+    subst (AddsOnly (Enqueue i asked v.first flags ∷ []) v) (sym h) (to_stands (Enqueue i asked v.first flags ∷ []) v a (enqueue_alone i asked flags v a enqueues))
 by_pending false i asked flags v a w P enqueues h push =
     to_stands (Put i v.first ∷ Enqueue i asked v.first flags ∷ []) v w (enqueue_then_push i asked flags v a w enqueues (push h))
 
-inserts_stand : (i : ℕ) (asked : Asked) (flags : Flags) (v w : Known) → Inserts i asked flags v w → Stands (enqueue_entries i asked v.first flags) v w
+inserts_stand : (i : ℕ) (asked : EnqueueAsks) (flags : Flags) (v w : Known) → Inserts i asked flags v w → AddsOnly (enqueue_entries i asked v.first flags) v w
 inserts_stand i asked flags v w run =
     by_pending flags.pending i asked flags v run.announced w (PushesAtLast i run.announced w) run.enqueues run.pushes (pushes_at_last_stands i run.announced w)
 
-inserts_at_once_stand : (i : ℕ) (asked : Asked) (flags : Flags) (v w : Known) → InsertsAtOnce i asked flags v w → Stands (enqueue_entries i asked v.first flags) v w
+inserts_at_once_stand : (i : ℕ) (asked : EnqueueAsks) (flags : Flags) (v w : Known) → InsertsAtOnce i asked flags v w → AddsOnly (enqueue_entries i asked v.first flags) v w
 inserts_at_once_stand i asked flags v w run =
     by_pending flags.pending i asked flags v run.announced w (PushesOnce i run.announced w) run.enqueues run.pushes (pushes_once_stands i run.announced w)
 
-pub schedules_stands : (i : ℕ) (asked : Asked) (flags : Flags) (v w : Known) → Schedules i asked flags v w → Stands (enqueue_entries i asked v.first flags) v w
+pub schedules_stands : (i : ℕ) (asked : EnqueueAsks) (flags : Flags) (v w : Known) → Schedules i asked flags v w → AddsOnly (enqueue_entries i asked v.first flags) v w
 schedules_stands i asked flags v w run =
     then_quiet (enqueue_entries i asked v.first flags) v run.inserted w (inserts_stand i asked flags v run.inserted run.inserts) (notifies_quiet run.inserted w run.notifies)
 
-pub schedules_at_once_stands : (i : ℕ) (asked : Asked) (flags : Flags) (v w : Known) → SchedulesAtOnce i asked flags v w → Stands (enqueue_entries i asked v.first flags) v w
+pub schedules_at_once_stands : (i : ℕ) (asked : EnqueueAsks) (flags : Flags) (v w : Known) → SchedulesAtOnce i asked flags v w → AddsOnly (enqueue_entries i asked v.first flags) v w
 schedules_at_once_stands i asked flags v w run =
     then_quiet (enqueue_entries i asked v.first flags) v run.inserted w (inserts_at_once_stand i asked flags v run.inserted run.inserts) (notifies_quiet run.inserted w run.notifies)
 
-pub schedules_later_stands : (i : ℕ) (asked : Asked) (flags : Flags) (v w : Known) → SchedulesLater i asked flags v w → Stands (Enqueue i asked v.first flags ∷ []) v w
+pub schedules_later_stands : (i : ℕ) (asked : EnqueueAsks) (flags : Flags) (v w : Known) → SchedulesLater i asked flags v w → AddsOnly (Enqueue i asked v.first flags ∷ []) v w
 schedules_later_stands i asked flags v w run =
     then_quiet (Enqueue i asked v.first flags ∷ []) v run.announced w (to_stands (Enqueue i asked v.first flags ∷ []) v run.announced (enqueue_alone i asked flags v run.announced run.enqueues)) (missed_quiet i run.announced w run.missed)

@@ -3,17 +3,17 @@ use Rattle.std.proofs.Common.{◌≡◌, ℕ, zero, suc, ◌+◌, ◌-◌, ◌<�
 use Rattle.aio_model.specs.LoopHistory.{Sizes}
 use Rattle.aio_model.specs.LoopLists.{out_of}
 use Rattle.aio_model.specs.LoopLegal.{IsLegal}
-use Rattle.aio_model.specs.LoopFrame.{Answer, Ended, Nests, Place, Entered, Enters, Body, Turn, Frame, nests_above, start_of, Runs, lent_of, is_cut}
+use Rattle.aio_model.specs.LoopFrame.{Answer, Ended, Nests, PollPlace, Entered, EntersRunner, Body, Turn, Frame, nests_above, start_of, DoesEntries, lent_of, is_cut}
 use Rattle.aio_core.specs.Known.{Known, Stage, empty_stage}
 use Rattle.lot_pool.specs.Pools.{PoolState, PassState, GivesAll, kept_lots}
 use Rattle.lot_pool.proofs.Passes.{gives_then}
 use Rattle.aio_bh.specs.declared.polled.Polled.{Polled}
 use Rattle.aio_bh.specs.Polling.{Polls}
 use Rattle.aio_bh.specs.OneShots.{frees_of, GivesFreed, ReturnsLots}
-use Rattle.aio_bh.specs.SoFar.{Far, far, place_of, Goes, Calls, TakesAndSome, FindsNone, BehindNest}
+use Rattle.aio_bh.specs.PollFrames.{Far, far, place_of, GoesFurther, CallsBody, TakesAndSome, FindsNone, BehindNest}
 use Rattle.aio_bh.proofs.Lasting.{dequeues_taken}
-use Rattle.aio_bh.proofs.Turning.{GoesOn-same}
-use Rattle.aio_bh.proofs.Parts.{Body-cut, Body-ended, EntersSome-same, Goes-as, Goes-then, some-more, frame-from-some}
+use Rattle.aio_bh.proofs.Turning.{HomeGoesOn-same}
+use Rattle.aio_bh.proofs.Parts.{Body-cut, Body-ended, EntersSome-same, GoesFurther-as, GoesFurther-then, some-more, frame-from-some}
 
 -- How many nested polls are left.
 
@@ -30,67 +30,67 @@ one_less n some = omega (arith, some)
 
 -- The body of a callback.
 
-module _ {R : Type 0} (does : R → Entered → R → Type 0) (frame : Place → Place → Type 0) (bh : ℕ) (job : Option ℕ) (first : Bool) where
+module _ {R : Type 0} (does : R → Entered → R → Type 0) (frame : PollPlace → PollPlace → Type 0) (bh : ℕ) (job : Option ℕ) (first : Bool) where
   -- it has ended, or is cut
-  pub Goes-last : (nests : ℕ) (answer : Answer) (old new : Far R) → (answer ≡ Ended) ⊎ (nests ≡ 0) → Goes (Enters (lent_of bh job first nests) answer) does old new → Goes (Body frame bh job first nests) does old new
-  Goes-last nests answer old new last entry =
-      elim last as (λ _. Goes (Body frame bh job first nests) does old new) [
+  pub GoesFurther-last : (nests : ℕ) (answer : Answer) (old new : Far R) → (answer ≡ Ended) ⊎ (nests ≡ 0) → GoesFurther (EntersRunner (lent_of bh job first nests) answer) does old new → GoesFurther (Body frame bh job first nests) does old new
+  GoesFurther-last nests answer old new last entry =
+      elim last as (λ _. GoesFurther (Body frame bh job first nests) does old new) [
         | inl ended ↦
-            Goes-as (Enters (lent_of bh job first nests) Ended) (Body frame bh job first nests) does old new (Body-ended frame bh job first nests)
-            (subst (λ x. Goes (Enters (lent_of bh job first nests) x) does old new) ended entry)
+            GoesFurther-as (EntersRunner (lent_of bh job first nests) Ended) (Body frame bh job first nests) does old new (Body-ended frame bh job first nests)
+            (subst (λ x. GoesFurther (EntersRunner (lent_of bh job first nests) x) does old new) ended entry)
         | inr none ↦
-            subst (λ n. Goes (Body frame bh job first n) does old new) (sym none)
-            (Goes-as (Enters (lent_of bh job first 0) answer) (Body frame bh job first 0) does old new (Body-cut frame bh job first answer)
-            (subst (λ n. Goes (Enters (lent_of bh job first n) answer) does old new) none entry))
+            subst (λ n. GoesFurther (Body frame bh job first n) does old new) (sym none)
+            (GoesFurther-as (EntersRunner (lent_of bh job first 0) answer) (Body frame bh job first 0) does old new (Body-cut frame bh job first answer)
+            (subst (λ n. GoesFurther (EntersRunner (lent_of bh job first n) answer) does old new) none entry))
       ]
 
   -- it nests, and goes on
-  pub Goes-on : (nests left : ℕ) (answer : Answer) (old asked new : Far R) → nests ≡ suc left → answer ≡ Nests → Goes (Enters (lent_of bh job first nests) answer) does old asked → Goes (BehindNest frame bh left) does asked new → Goes (Body frame bh job first nests) does old new
-  Goes-on nests left answer old asked new one nested entry later =
-      subst (λ n. Goes (Body frame bh job first n) does old new) (sym one)
-      (Goes-then (Enters (lent_of bh job first (suc left)) Nests) (BehindNest frame bh left) (Body frame bh job first (suc left)) does old asked new
+  pub GoesFurther-on : (nests left : ℕ) (answer : Answer) (old asked new : Far R) → nests ≡ suc left → answer ≡ Nests → GoesFurther (EntersRunner (lent_of bh job first nests) answer) does old asked → GoesFurther (BehindNest frame bh left) does asked new → GoesFurther (Body frame bh job first nests) does old new
+  GoesFurther-on nests left answer old asked new one nested entry later =
+      subst (λ n. GoesFurther (Body frame bh job first n) does old new) (sym one)
+      (GoesFurther-then (EntersRunner (lent_of bh job first (suc left)) Nests) (BehindNest frame bh left) (Body frame bh job first (suc left)) does old asked new
       (λ a b c enters behind. inr (b, behind.0, enters, behind.1, behind.2))
-      (subst (λ n. Goes (Enters (lent_of bh job first n) Nests) does old asked) one (subst (λ x. Goes (Enters (lent_of bh job first nests) x) does old asked) nested entry)) later)
+      (subst (λ n. GoesFurther (EntersRunner (lent_of bh job first n) Nests) does old asked) one (subst (λ x. GoesFurther (EntersRunner (lent_of bh job first nests) x) does old asked) nested entry)) later)
 
 -- the same body by other names
-pub Goes-renamed : {R : Type 0} (does : R → Entered → R → Type 0) (frame : Place → Place → Type 0) (bh bh' nests nests' : ℕ) (job job' : Option ℕ) (first first' : Bool) (old new : Far R) → bh' ≡ bh → job' ≡ job → first' ≡ first → nests' ≡ nests → Goes (Body frame bh' job' first' nests') does old new → Goes (Body frame bh job first nests) does old new
-Goes-renamed does frame bh bh' nests nests' job job' first first' old new same_bh same_job same_first same_nests goes =
-    subst (λ n. Goes (Body frame bh job first n) does old new) same_nests
-    (subst (λ f. Goes (Body frame bh job f nests') does old new) same_first
-    (subst (λ j. Goes (Body frame bh j first' nests') does old new) same_job
-    (subst (λ i. Goes (Body frame i job' first' nests') does old new) same_bh goes)))
+pub GoesFurther-renamed : {R : Type 0} (does : R → Entered → R → Type 0) (frame : PollPlace → PollPlace → Type 0) (bh bh' nests nests' : ℕ) (job job' : Option ℕ) (first first' : Bool) (old new : Far R) → bh' ≡ bh → job' ≡ job → first' ≡ first → nests' ≡ nests → GoesFurther (Body frame bh' job' first' nests') does old new → GoesFurther (Body frame bh job first nests) does old new
+GoesFurther-renamed does frame bh bh' nests nests' job job' first first' old new same_bh same_job same_first same_nests goes =
+    subst (λ n. GoesFurther (Body frame bh job first n) does old new) same_nests
+    (subst (λ f. GoesFurther (Body frame bh job f nests') does old new) same_first
+    (subst (λ j. GoesFurther (Body frame bh j first' nests') does old new) same_job
+    (subst (λ i. GoesFurther (Body frame i job' first' nests') does old new) same_bh goes)))
 
 -- what was dequeued is called, or not
-pub Goes-called : {R : Type 0} (does : R → Entered → R → Type 0) (frame : Place → Place → Type 0) (nests bh : ℕ) (job : Option ℕ) (due : Bool) (old new : Far R) → due ≡ true → Goes (Body frame bh job true nests) does old new → Goes (Calls frame nests bh job due) does old new
-Goes-called does frame nests bh job due old new is goes =
-    subst (λ b. Goes (Calls frame nests bh job b) does old new) (sym is) goes
+pub GoesFurther-called : {R : Type 0} (does : R → Entered → R → Type 0) (frame : PollPlace → PollPlace → Type 0) (nests bh : ℕ) (job : Option ℕ) (due : Bool) (old new : Far R) → due ≡ true → GoesFurther (Body frame bh job true nests) does old new → GoesFurther (CallsBody frame nests bh job due) does old new
+GoesFurther-called does frame nests bh job due old new is goes =
+    subst (λ b. GoesFurther (CallsBody frame nests bh job b) does old new) (sym is) goes
 
-pub Goes-passed : {R : Type 0} (does : R → Entered → R → Type 0) (frame : Place → Place → Type 0) (nests bh : ℕ) (job : Option ℕ) (due : Bool) (sizes : Sizes) (a : Known) (r : R) (p : Polled) → due ≡ false → a.sizes ≡ sizes → IsLegal sizes a.seen → Goes (Calls frame nests bh job due) does (far a r p) (far a r p)
-Goes-passed does frame nests bh job due sizes a r p is of legal =
-    subst (λ b. Goes (Calls frame nests bh job b) does (far a r p) (far a r p)) (sym is)
-    (record { at = λ log. record { log_after = log; goes = refl; enters = EntersSome-same does r log; counts = λ before. before }; goes_on = GoesOn-same a (subst (λ s. IsLegal s a.seen) (sym of) legal) })
+pub GoesFurther-passed : {R : Type 0} (does : R → Entered → R → Type 0) (frame : PollPlace → PollPlace → Type 0) (nests bh : ℕ) (job : Option ℕ) (due : Bool) (sizes : Sizes) (a : Known) (r : R) (p : Polled) → due ≡ false → a.sizes ≡ sizes → IsLegal sizes a.seen → GoesFurther (CallsBody frame nests bh job due) does (far a r p) (far a r p)
+GoesFurther-passed does frame nests bh job due sizes a r p is of legal =
+    subst (λ b. GoesFurther (CallsBody frame nests bh job b) does (far a r p) (far a r p)) (sym is)
+    (record { at = λ log. record { log_after = log; goes = refl; enters = EntersSome-same does r log; counts = λ before. before }; goes_on = HomeGoesOn-same a (subst (λ s. IsLegal s a.seen) (sym of) legal) })
 
 -- it is called, and nests
-pub Goes-nested : {R : Type 0} (does : R → Entered → R → Type 0) (frame : Place → Place → Type 0) (nests given bh : ℕ) (job : Option ℕ) (due : Bool) (old asked new : Far R) → given ≡ nests → 0 < nests → due ≡ true → Goes (Enters (lent_of bh job true nests) Nests) does old asked → Goes (BehindNest frame bh (given - 1)) does asked new → Goes (Calls frame nests bh job due) does old new
-Goes-nested does frame nests given bh job due old asked new same some is entry behind =
-    Goes-called does frame nests bh job due old new is (Goes-on does frame bh job true nests (given - 1) Nests old asked new (omega (arith, same, some)) refl entry behind)
+pub GoesFurther-nested : {R : Type 0} (does : R → Entered → R → Type 0) (frame : PollPlace → PollPlace → Type 0) (nests given bh : ℕ) (job : Option ℕ) (due : Bool) (old asked new : Far R) → given ≡ nests → 0 < nests → due ≡ true → GoesFurther (EntersRunner (lent_of bh job true nests) Nests) does old asked → GoesFurther (BehindNest frame bh (given - 1)) does asked new → GoesFurther (CallsBody frame nests bh job due) does old new
+GoesFurther-nested does frame nests given bh job due old asked new same some is entry behind =
+    GoesFurther-called does frame nests bh job due old new is (GoesFurther-on does frame bh job true nests (given - 1) Nests old asked new (omega (arith, same, some)) refl entry behind)
 
 -- a nested frame, and then the rest of the body
-pub Goes-behind : {R : Type 0} (sizes : Sizes) (deeper : ℕ) (bh nests : ℕ) (does : R → Entered → R → Type 0) (old back new : Far R) → 0 < deeper → Goes (Frame sizes (suc (deeper - 1))) does old back → Goes (Body (Frame sizes deeper) bh None false nests) does back new → Goes (BehindNest (Frame sizes deeper) bh nests) does old new
-Goes-behind sizes deeper bh nests does old back new some nested behind =
-    Goes-then (Frame sizes deeper) (Body (Frame sizes deeper) bh None false nests) (BehindNest (Frame sizes deeper) bh nests) does old back new (λ a b c framed rest. (b, framed, rest))
-    (subst (λ d. Goes (Frame sizes d) does old back) (sym (one_less deeper some)) nested) behind
+pub GoesFurther-behind : {R : Type 0} (sizes : Sizes) (deeper : ℕ) (bh nests : ℕ) (does : R → Entered → R → Type 0) (old back new : Far R) → 0 < deeper → GoesFurther (Frame sizes (suc (deeper - 1))) does old back → GoesFurther (Body (Frame sizes deeper) bh None false nests) does back new → GoesFurther (BehindNest (Frame sizes deeper) bh nests) does old new
+GoesFurther-behind sizes deeper bh nests does old back new some nested behind =
+    GoesFurther-then (Frame sizes deeper) (Body (Frame sizes deeper) bh None false nests) (BehindNest (Frame sizes deeper) bh nests) does old back new (λ a b c framed rest. (b, framed, rest))
+    (subst (λ d. GoesFurther (Frame sizes d) does old back) (sym (one_less deeper some)) nested) behind
 
 -- The turns of a frame.
 
-pub Goes-more : {R : Type 0} (sizes : Sizes) (deeper : ℕ) (does : R → Entered → R → Type 0) (a b c : Known) (r s t : R) (p q u : Polled) → Goes (TakesAndSome sizes (Frame sizes deeper) (nests_above deeper)) does (far a r p) (far b s q) → Goes (Turn sizes (Frame sizes deeper) (nests_above deeper)) does (far b s q) (far c t u) → Goes (TakesAndSome sizes (Frame sizes deeper) (nests_above deeper)) does (far a r p) (far c t u)
-Goes-more sizes deeper does a b c r s t p q u some turn =
-    Goes-then _ _ _ does (far a r p) (far b s q) (far c t u) (some-more sizes (Frame sizes deeper) (nests_above deeper)) some turn
+pub GoesFurther-more : {R : Type 0} (sizes : Sizes) (deeper : ℕ) (does : R → Entered → R → Type 0) (a b c : Known) (r s t : R) (p q u : Polled) → GoesFurther (TakesAndSome sizes (Frame sizes deeper) (nests_above deeper)) does (far a r p) (far b s q) → GoesFurther (Turn sizes (Frame sizes deeper) (nests_above deeper)) does (far b s q) (far c t u) → GoesFurther (TakesAndSome sizes (Frame sizes deeper) (nests_above deeper)) does (far a r p) (far c t u)
+GoesFurther-more sizes deeper does a b c r s t p q u some turn =
+    GoesFurther-then _ _ _ does (far a r p) (far b s q) (far c t u) (some-more sizes (Frame sizes deeper) (nests_above deeper)) some turn
 
 -- the last look found nothing out
-pub Goes-frame : {R : Type 0} (sizes : Sizes) (deeper : ℕ) (does : R → Entered → R → Type 0) (a b c : Known) (r s t : R) (p q u : Polled) → Goes (TakesAndSome sizes (Frame sizes deeper) (nests_above deeper)) does (far a r p) (far b s q) → FindsNone b c q u → t ≡ s → Goes (Frame sizes (suc deeper)) does (far a r p) (far c t u)
-Goes-frame sizes deeper does a b c r s t p q u some none same =
-    let some_at : Far _ → Type 0 = λ x. Goes (TakesAndSome sizes (Frame sizes deeper) (nests_above deeper)) does (far a r p) x in
+pub GoesFurther-frame : {R : Type 0} (sizes : Sizes) (deeper : ℕ) (does : R → Entered → R → Type 0) (a b c : Known) (r s t : R) (p q u : Polled) → GoesFurther (TakesAndSome sizes (Frame sizes deeper) (nests_above deeper)) does (far a r p) (far b s q) → FindsNone b c q u → t ≡ s → GoesFurther (Frame sizes (suc deeper)) does (far a r p) (far c t u)
+GoesFurther-frame sizes deeper does a b c r s t p q u some none same =
+    let some_at : Far _ → Type 0 = λ x. GoesFurther (TakesAndSome sizes (Frame sizes deeper) (nests_above deeper)) does (far a r p) x in
     let at_end = subst (λ k. some_at (far k t u)) (sym none.same) (subst (λ x. some_at (far b x u)) (sym same) (subst (λ y. some_at (far b s y)) (sym none.same_polled) some)) in
     record {
       at = λ log.
@@ -117,17 +117,17 @@ stage_empty : (stage : Stage) → stage.slices ≡ [] → stage.hand ≡ None �
 stage_empty stage none free jobless =
     λ i. record { slices = none i; hand = free i; job = jobless i }
 
-pub Polls-of : {R : Type 0} (sizes : Sizes) (does : R → Entered → R → Type 0) (a b : Known) (r s : R) (start polled : Polled) → a.sizes ≡ sizes → start ≡ nothing → Goes (Frame sizes 8) does (far a r start) (far b s polled) → out_of b.seen ≡ [] → length b.stage.slices ≡ 0 → b.stage.hand ≡ None → b.stage.job ≡ None → Polls does polled r a s b
+pub Polls-of : {R : Type 0} (sizes : Sizes) (does : R → Entered → R → Type 0) (a b : Known) (r s : R) (start polled : Polled) → a.sizes ≡ sizes → start ≡ nothing → GoesFurther (Frame sizes 8) does (far a r start) (far b s polled) → out_of b.seen ≡ [] → length b.stage.slices ≡ 0 → b.stage.hand ≡ None → b.stage.job ≡ None → Polls does polled r a s b
 Polls-of {R} sizes does a b r s start polled of starts goes none left hand job =
-    let now : Goes (Frame a.sizes 8) does (far a r nothing) (far b s polled) = subst (λ z. Goes (Frame z 8) does (far a r nothing) (far b s polled)) (sym of) (subst (λ p. Goes (Frame sizes 8) does (far a r p) (far b s polled)) starts goes) in
+    let now : GoesFurther (Frame a.sizes 8) does (far a r nothing) (far b s polled) = subst (λ z. GoesFurther (Frame z 8) does (far a r nothing) (far b s polled)) (sym of) (subst (λ p. GoesFurther (Frame sizes 8) does (far a r p) (far b s polled)) starts goes) in
     let went = now.at [] in
-    let end : Place = place_of (far b s polled) went.log_after in
+    let end : PollPlace = place_of (far b s polled) went.log_after in
     let counts = went.counts (record { ran = refl; cut_nests = refl }) in
     record {
       end = end;
       frame = went.goes;
       seen = refl;
-      runs = subst (λ l. Runs does r l s) (sym (went.enters.longer ∙ append-nil went.enters.more)) went.enters.runs;
+      runs = subst (λ l. DoesEntries does r l s) (sym (went.enters.longer ∙ append-nil went.enters.more)) went.enters.runs;
       ran = counts.ran;
       progress = refl;
       cut_nests = counts.cut_nests;

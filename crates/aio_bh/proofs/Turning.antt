@@ -7,7 +7,7 @@ use Rattle.aio_model.specs.LoopFlags.{is_idle, is_lot, are_due}
 use Rattle.aio_model.specs.LoopLists.{out_of, job_of}
 use Rattle.aio_model.specs.LoopLegal.{MayFollow, IsLegal}
 use Rattle.aio_model.specs.LoopSeats.{home, entries_of}
-use Rattle.aio_model.specs.LoopFrame.{Place, Entered, Makes, are_of_callback}
+use Rattle.aio_model.specs.LoopFrame.{PollPlace, Entered, Makes, are_of_callback}
 use Rattle.aio_model.specs.InFlight.{AtRest}
 use Rattle.aio_model.proofs.AnnouncedOnce.{out_of-dequeue, lot_is_no_handle}
 use Rattle.aio_model.proofs.LotLives.{may_free-between}
@@ -18,17 +18,17 @@ use Rattle.aio_core.specs.Calls.{TableState, SeatState, IsSeatOf, HasTaken, Dequ
 use Rattle.aio_core.proofs.OneShots.{may_free-next}
 use Rattle.aio_bh.specs.declared.polled.Polled.{Polled}
 use Rattle.aio_bh.specs.HomeSteps.{home_steps, steps_for}
-use Rattle.aio_bh.specs.Running.{GivesBack}
-use Rattle.aio_bh.specs.Polling.{GoesOn}
-use Rattle.aio_bh.specs.SoFar.{far, place_of, Goes, CanTake, IsBetween, MayEnd, TakesNext, Ends, TakesAndSome}
+use Rattle.aio_bh.specs.Running.{SeatComesBack}
+use Rattle.aio_bh.specs.Polling.{HomeGoesOn}
+use Rattle.aio_bh.specs.PollFrames.{far, place_of, GoesFurther, CanTake, IsBetween, MayEnd, TakesNext, FreesLot, TakesAndSome}
 use Rattle.aio_bh.proofs.Entries.{none_of_home, out_beside, out_kept}
 use Rattle.aio_bh.proofs.HomeSteps.{none_added, more_added, two_steps}
 use Rattle.aio_bh.proofs.Parts.{changes, EntersSome-same, some-none}
 
 -- The take.
 
-pub GoesOn-take : (a b : Known) → a.first ≡ 64 → a.count ≡ 1 → HasTaken a b → GoesOn a b
-GoesOn-take a b first count taken =
+pub HomeGoesOn-take : (a b : Known) → a.first ≡ 64 → a.count ≡ 1 → HasTaken a b → HomeGoesOn a b
+HomeGoesOn-take a b first count taken =
     let makes = taken.takes.makes in
     let none = none_of_home (numbers_of a) makes.others first count makes.not_own in
     record {
@@ -40,8 +40,8 @@ GoesOn-take a b first count taken =
       steps = more_added (home_steps b.did) (home_steps a.did) 1 (steps_for (entries_of home makes.others)) (ap (λ (k : Known). home_steps k.did) taken.takes.rest) (ap steps_for none);
     }
 
-pub Goes-take : {R : Type 0} (sizes : Sizes) (frame : Place → Place → Type 0) (nests : ℕ) (does : R → Entered → R → Type 0) (a b : Known) (r : R) (p : Polled) → a.first ≡ 64 → a.count ≡ 1 → HasTaken a b → Goes (TakesAndSome sizes frame nests) does (far a r p) (far b r p)
-Goes-take sizes frame nests does a b r p first count taken =
+pub GoesFurther-take : {R : Type 0} (sizes : Sizes) (frame : PollPlace → PollPlace → Type 0) (nests : ℕ) (does : R → Entered → R → Type 0) (a b : Known) (r : R) (p : Polled) → a.first ≡ 64 → a.count ≡ 1 → HasTaken a b → GoesFurther (TakesAndSome sizes frame nests) does (far a r p) (far b r p)
+GoesFurther-take sizes frame nests does a b r p first count taken =
     let makes = taken.takes.makes in
     let none = none_of_home (numbers_of a) makes.others first count makes.not_own in
     record {
@@ -52,7 +52,7 @@ Goes-take sizes frame nests does a b r p first count taken =
             enters = EntersSome-same does r log;
             counts = λ before. before;
           };
-      goes_on = GoesOn-take a b first count taken;
+      goes_on = HomeGoesOn-take a b first count taken;
     }
 
 one_slice_more : (slices : List ℕ) (found : ℕ) → length (with_slice slices found) ≤ length slices + 1
@@ -187,12 +187,12 @@ takes_next number i was job a c p q first count next noted =
 
 -- An entry into a callback.
 
-pub back_same_out : (made : History) (a b : Known) → a.first ≡ 64 → GivesBack made a b → out_of b.seen ≡ out_of a.seen
+pub back_same_out : (made : History) (a b : Known) → a.first ≡ 64 → SeatComesBack made a b → out_of b.seen ≡ out_of a.seen
 back_same_out made a b first back =
     let own : entries_of home back.between ≡ made = ap (λ n. entries_of n back.between) (sym first) ∙ back.just_these in
     ap out_of back.seen ∙ out_kept a.seen back.between (ap are_of_callback own ∙ back.of_callback)
 
-pub between-back : (table : TableState) (deeper : ℕ) (made : History) (a b : SeatState) → IsSeatOf table b → IsBetween table deeper a → a.known.first ≡ 64 → GivesBack made a.known b.known → IsBetween table deeper b
+pub between-back : (table : TableState) (deeper : ℕ) (made : History) (a b : SeatState) → IsSeatOf table b → IsBetween table deeper a → a.known.first ≡ 64 → SeatComesBack made a.known b.known → IsBetween table deeper b
 between-back table deeper made a b of between first back =
     record {
       of_table = of;
@@ -240,8 +240,8 @@ between-finished table deeper false i a b of between first count same = record {
   few = omega (arith, between.few, ap (λ (k : Known). length k.stage.slices) same);
 }
 
-GoesOn-freed : (i : ℕ) (a b : Known) → a.first ≡ 64 → a.count ≡ 1 → Frees i a b → GoesOn a b
-GoesOn-freed i a b first count frees =
+HomeGoesOn-freed : (i : ℕ) (a b : Known) → a.first ≡ 64 → a.count ≡ 1 → Frees i a b → HomeGoesOn a b
+HomeGoesOn-freed i a b first count frees =
     let makes = frees.makes in
     let none = none_of_home (numbers_of a) makes.others first count makes.not_own in
     record {
@@ -253,11 +253,11 @@ GoesOn-freed i a b first count frees =
       steps = more_added (home_steps b.did) (home_steps a.did) 1 (steps_for (entries_of home makes.others)) (ap (λ (k : Known). home_steps k.did) frees.rest) (ap steps_for none);
     }
 
-pub GoesOn-same : (a : Known) → IsLegal a.sizes a.seen → GoesOn a a
-GoesOn-same a legal = record { between = []; seen = refl; mine = refl; legal = legal; rest = refl; steps = none_added (home_steps a.did) (home_steps a.did) 0 refl refl }
+pub HomeGoesOn-same : (a : Known) → IsLegal a.sizes a.seen → HomeGoesOn a a
+HomeGoesOn-same a legal = record { between = []; seen = refl; mine = refl; legal = legal; rest = refl; steps = none_added (home_steps a.did) (home_steps a.did) 0 refl refl }
 
-Goes-finished : {R : Type 0} (lot : Bool) (i : ℕ) (does : R → Entered → R → Type 0) (a b : Known) (r : R) (p : Polled) → a.first ≡ 64 → a.count ≡ 1 → IsLegal a.sizes a.seen → Finishes lot i a b → Goes (λ x y. MatchBool lot (Makes (Free i) x y) (y ≡ x)) does (far a r p) (far b r p)
-Goes-finished true i does a b r p first count legal frees =
+GoesFurther-finished : {R : Type 0} (lot : Bool) (i : ℕ) (does : R → Entered → R → Type 0) (a b : Known) (r : R) (p : Polled) → a.first ≡ 64 → a.count ≡ 1 → IsLegal a.sizes a.seen → Finishes lot i a b → GoesFurther (λ x y. MatchBool lot (Makes (Free i) x y) (y ≡ x)) does (far a r p) (far b r p)
+GoesFurther-finished true i does a b r p first count legal frees =
     let makes = frees.makes in
     let none = none_of_home (numbers_of a) makes.others first count makes.not_own in
     record {
@@ -267,15 +267,15 @@ Goes-finished true i does a b r p first count legal frees =
         enters = EntersSome-same does r log;
         counts = λ before. before;
       };
-      goes_on = GoesOn-freed i a b first count frees;
+      goes_on = HomeGoesOn-freed i a b first count frees;
     }
-Goes-finished false i does a b r p first count legal same =
-    subst (λ k. Goes (λ x y. y ≡ x) does (far a r p) (far k r p)) (sym same)
-    (record { at = λ log. record { log_after = log; goes = refl; enters = EntersSome-same does r log; counts = λ before. before }; goes_on = GoesOn-same a legal })
+GoesFurther-finished false i does a b r p first count legal same =
+    subst (λ k. GoesFurther (λ x y. y ≡ x) does (far a r p) (far k r p)) (sym same)
+    (record { at = λ log. record { log_after = log; goes = refl; enters = EntersSome-same does r log; counts = λ before. before }; goes_on = HomeGoesOn-same a legal })
 
-pub Goes-ends : {R : Type 0} (sizes : Sizes) (i : ℕ) (does : R → Entered → R → Type 0) (a b : Known) (r : R) (p : Polled) → a.first ≡ 64 → a.count ≡ 1 → a.sizes ≡ sizes → IsLegal sizes a.seen → Finishes (is_lot sizes i) i a b → Goes (Ends sizes i) does (far a r p) (far b r p)
-Goes-ends sizes i does a b r p first count of legal finishes =
-    Goes-finished (is_lot sizes i) i does a b r p first count (subst (λ s. IsLegal s a.seen) (sym of) legal) finishes
+pub GoesFurther-ends : {R : Type 0} (sizes : Sizes) (i : ℕ) (does : R → Entered → R → Type 0) (a b : Known) (r : R) (p : Polled) → a.first ≡ 64 → a.count ≡ 1 → a.sizes ≡ sizes → IsLegal sizes a.seen → Finishes (is_lot sizes i) i a b → GoesFurther (FreesLot sizes i) does (far a r p) (far b r p)
+GoesFurther-ends sizes i does a b r p first count of legal finishes =
+    GoesFurther-finished (is_lot sizes i) i does a b r p first count (subst (λ s. IsLegal s a.seen) (sym of) legal) finishes
 
 -- of a handle nothing is done at the end of its turn
 pub finishes_handle : (sizes : Sizes) (i : ℕ) (a : Known) → i < sizes.handles → Finishes (is_lot sizes i) i a a

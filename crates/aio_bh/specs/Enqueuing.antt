@@ -1,7 +1,7 @@
 -- An enqueue from any thread, as a run of the steps of the table.
 use Rattle.std.specs.Prelude.{◌≡◌, ℕ, zero, suc, false, if◌then◌else◌, [], ◌∷◌, MatchBool}
 use Rattle.aio_model.specs.declared.flags.Flags.{Flags}
-use Rattle.aio_model.specs.LoopHistory.{Asked, Enqueue, Put, History}
+use Rattle.aio_model.specs.LoopHistory.{EnqueueAsks, Enqueue, Put, History}
 use Rattle.aio_model.specs.LoopSeats.{StandsAtTheEnd}
 use Rattle.aio_core.specs.Known.{Known}
 use Rattle.aio_core.specs.Standing.{Enqueues, Aims, Pushes}
@@ -37,24 +37,24 @@ pub record PushesAtLast (i : ℕ) (before after : Known) : Type 0 where
   pub pushes : PushesOnce i last after
 
 -- the enqueue, and the push of an index that wasn't pending
-pub record Inserts (i : ℕ) (asked : Asked) (flags : Flags) (before after : Known) : Type 0 where
+pub record Inserts (i : ℕ) (asked : EnqueueAsks) (flags : Flags) (before after : Known) : Type 0 where
   pub announced : Known
   pub enqueues : Enqueues i asked flags before announced
   pub pushes : MatchBool flags.pending (after ≡ announced) (PushesAtLast i announced after)
 
 -- the same with one try to push: it pushed
-pub record InsertsAtOnce (i : ℕ) (asked : Asked) (flags : Flags) (before after : Known) : Type 0 where
+pub record InsertsAtOnce (i : ℕ) (asked : EnqueueAsks) (flags : Flags) (before after : Known) : Type 0 where
   pub announced : Known
   pub enqueues : Enqueues i asked flags before announced
   pub pushes : MatchBool flags.pending (after ≡ announced) (PushesOnce i announced after)
 
 -- whatever there was to push was pushed, and home was notified
-pub record Schedules (i : ℕ) (asked : Asked) (flags : Flags) (before after : Known) : Type 0 where
+pub record Schedules (i : ℕ) (asked : EnqueueAsks) (flags : Flags) (before after : Known) : Type 0 where
   pub inserted : Known
   pub inserts : Inserts i asked flags before inserted
   pub notifies : Notifies inserted after
 
-pub record SchedulesAtOnce (i : ℕ) (asked : Asked) (flags : Flags) (before after : Known) : Type 0 where
+pub record SchedulesAtOnce (i : ℕ) (asked : EnqueueAsks) (flags : Flags) (before after : Known) : Type 0 where
   pub inserted : Known
   pub inserts : InsertsAtOnce i asked flags before inserted
   pub notifies : Notifies inserted after
@@ -72,20 +72,20 @@ pub record PushesAndNotifies (i : ℕ) (before after : Known) : Type 0 where
   pub notifies : Notifies pushed after
 
 -- the one try missed, the index is still to be pushed, and nobody was notified
-pub record SchedulesLater (i : ℕ) (asked : Asked) (flags : Flags) (before after : Known) : Type 0 where
+pub record SchedulesLater (i : ℕ) (asked : EnqueueAsks) (flags : Flags) (before after : Known) : Type 0 where
   pub announced : Known
   pub enqueues : Enqueues i asked flags before announced
   pub not_pending : flags.pending ≡ false
   pub missed : MissesOnce i announced after
 
 -- the entries of an enqueue, newest first
-abbrev pub enqueue_entries : ℕ → Asked → ℕ → Flags → History
+abbrev pub enqueue_entries : ℕ → EnqueueAsks → ℕ → Flags → History
 enqueue_entries i asked seat flags =
     if flags.pending then Enqueue i asked seat flags ∷ [] else Put i seat ∷ Enqueue i asked seat flags ∷ []
 
 -- just these entries of the seat stand in the history, and all else that it knows is as before; no step that is the home's alone was
 -- made
-pub record Stands (entries : History) (before after : Known) : Type 0 where
+pub record AddsOnly (entries : History) (before after : Known) : Type 0 where
   pub stands : StandsAtTheEnd before.sizes before.first entries before.seen before.mine after.seen after.mine
   pub rest : after ≡ record before { seen = after.seen; mine = after.mine; did = after.did; phase = after.phase }
   pub steps : home_steps after.did ≡ home_steps before.did

@@ -4,6 +4,6 @@ pub mod OneShots
 pub mod Puts
 pub mod Running
 pub mod Polling
-pub mod SoFar
+pub mod PollFrames
 pub mod Ready
 pub mod Serving

@@ -9,7 +9,7 @@ use Rattle.lot_pool.specs.declared.view.PoolStep.TheVariants.{Popped}
 use Rattle.lot_pool.specs.PoolRule.{stepped}
 use Rattle.lot_pool.specs.Pools.{PoolState, PassState, FindsEmpty, GivesAll, IsHomeOf, kept_lots, knows}
 use Rattle.aio_bh.specs.HomeSteps.{home_steps}
-use Rattle.aio_bh.specs.Enqueuing.{PushesInTheEnd, Stands}
+use Rattle.aio_bh.specs.Enqueuing.{PushesInTheEnd, AddsOnly}
 
 -- the pool was built for a loop of these sizes
 pub record IsPoolFor (sizes : Sizes) (pool : PoolState) : Type 0 where
@@ -62,7 +62,7 @@ pub record PlacesOnce (job : ℕ) (pass : PassState) (before : Known) (pass_afte
   pub placed : Known
   pub places : PlacesIn lot job pass before pass_after placed
   pub pushes : PushesInTheEnd lot placed after
-  pub stands : Stands (one_shot_entries lot job before.first places.places.flags) before after
+  pub stands : AddsOnly (one_shot_entries lot job before.first places.places.flags) before after
 
 -- the lots that were freed, newest first
 abbrev pub frees_of : History → List ℕ

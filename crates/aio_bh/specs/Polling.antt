@@ -4,7 +4,7 @@ use Rattle.aio_model.specs.LoopHistory.{Take, Dequeue, History}
 use Rattle.aio_model.specs.LoopLegal.{IsLegal}
 use Rattle.aio_model.specs.LoopLists.{stack_of, out_of}
 use Rattle.aio_model.specs.LoopSeats.{home, entries_of}
-use Rattle.aio_model.specs.LoopFrame.{Entered, Place, Frame, start_of, Runs, ran_of, cut_nests_of}
+use Rattle.aio_model.specs.LoopFrame.{Entered, PollPlace, Frame, start_of, DoesEntries, ran_of, cut_nests_of}
 use Rattle.aio_core.specs.Known.{Known, empty_stage}
 use Rattle.aio_bh.specs.HomeSteps.{home_steps, steps_for}
 use Rattle.aio_bh.specs.declared.polled.Polled.{Polled}
@@ -15,7 +15,7 @@ counted n = min n (2 ^ 64 - 1)
 
 -- The home's seat went on: what was seen is longer and legal, and of what came between it has its own, for which it made just the
 -- steps that they take. Its numbers, phase and sleep are as before.
-pub record GoesOn (before after : Known) : Type 0 where
+pub record HomeGoesOn (before after : Known) : Type 0 where
   pub between : History
   pub seen : after.seen ≡ between ++ before.seen
   pub mine : after.mine ≡ entries_of home between ++ before.mine
@@ -51,14 +51,14 @@ depths = 8
 -- A poll: from the place where it began its frame leads to an end, where nothing is out; the runner did the entries of that frame and
 -- no others, and what was counted is theirs.
 pub record Polls {R : Type 0} (does : R → Entered → R → Type 0) (polled : Polled) (runner : R) (before : Known) (runner_after : R) (after : Known) : Type 0 where
-  pub end : Place
+  pub end : PollPlace
   pub frame : Frame before.sizes depths (start_of before.seen) end
   pub seen : after.seen ≡ end.seen
-  pub runs : Runs does runner end.log runner_after
+  pub runs : DoesEntries does runner end.log runner_after
   pub ran : polled.ran ≡ counted (ran_of end.log)
   pub progress : polled.progress ≡ end.progress
   pub cut_nests : polled.cut_nests ≡ counted (cut_nests_of end.log)
   pub dequeues : DequeuesTaken before.seen after.seen
   pub none_out : out_of after.seen ≡ []
-  pub goes_on : GoesOn before after
+  pub goes_on : HomeGoesOn before after
   pub stage : after.stage ≡ empty_stage

@@ -15,7 +15,7 @@ answer_by Nest = Nests
 
 -- The seat that was lent came back with these entries more, which a callback may make, and with what others did in between. Its
 -- numbers, phase, stage and sleep are as before, and no step that is the home's alone was made.
-pub record GivesBack (made : History) (before after : Known) : Type 0 where
+pub record SeatComesBack (made : History) (before after : Known) : Type 0 where
   pub between : History
   pub just_these : entries_of before.first between ≡ made
   pub of_callback : are_of_callback made ≡ true
@@ -28,5 +28,5 @@ pub record GivesBack (made : History) (before after : Known) : Type 0 where
 -- the runner was entered once with this, and answered this
 pub record RunsOnce {R : Type 0} (does : R → Entered → R → Type 0) (lent : Lent) (answer : Answer) (runner : R) (before : Known) (runner_after : R) (after : Known) : Type 0 where
   pub made : History
-  pub back : GivesBack made before after
+  pub back : SeatComesBack made before after
   pub did : does runner (record { lent = lent; answer = answer; made = made }) runner_after

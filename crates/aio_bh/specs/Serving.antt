@@ -35,7 +35,7 @@ pub record StandsWithin (made history : History) : Type 0 where
 -- A poll in which no callback nests. The list was taken after some of others. Each handle was called once at most; once, where at the take it awaited its call and nobody
 -- canceled or deleted it since; and not at all, where it wasn't pushed. What was enqueued since, where it wasn't pending, is not
 -- dequeued before the next poll. What callbacks made stands behind the take.
-pub record Serves (sizes : Sizes) (before : History) (log : List Entered) (after : History) : Type 0 where
+pub record PollServes (sizes : Sizes) (before : History) (log : List Entered) (after : History) : Type 0 where
   pub others : History
   pub not_home : entries_of home others ≡ []
   pub later : History

@@ -5,7 +5,7 @@ ghost use Rattle.aio_model.specs.LoopHistory.{Put as pushed, Enqueue as enqueued
 ghost use Rattle.aio_model.specs.InFlight.{AtRest, Announced as announced, ToStore, ForIndex};
 ghost use Rattle.aio_core.specs.Standing.{asked_by};
 ghost use Rattle.aio_core.specs.Calls.{IsSeatOf};
-ghost use Rattle.aio_bh.specs.Enqueuing.{MissesOnce, PushesOnce, PushesAndNotifies, PushesInTheEnd, Schedules, enqueue_entries, Stands};
+ghost use Rattle.aio_bh.specs.Enqueuing.{MissesOnce, PushesOnce, PushesAndNotifies, PushesInTheEnd, Schedules, enqueue_entries, AddsOnly};
 ghost use Rattle.aio_bh.specs.Puts.{TriedToPut};
 
 use crate::put::Put;
@@ -107,7 +107,7 @@ pub fn schedule_as<J: Job, R: Wait>(
     requires handle { bh < table.now.sizes.handles }
     ensures seat { IsSeatOf table.now seat.new }
     ensures steps { Schedules bh (asked_by kind) result seat.old.known seat.new.known }
-    ensures stands { Stands (enqueue_entries bh (asked_by kind) seat.old.known.first result) seat.old.known seat.new.known }
+    ensures stands { AddsOnly (enqueue_entries bh (asked_by kind) seat.old.known.first result) seat.old.known seat.new.known }
     ensures rest { seat.new.known.phase ≡ AtRest }
 {
     match try_schedule_as(table, seat, bh, kind) {

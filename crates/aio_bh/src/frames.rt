@@ -6,7 +6,7 @@ ghost use Rattle.aio_model.specs.InFlight.{AtRest};
 ghost use Rattle.aio_model.specs.LoopFlags.{are_due, is_lot};
 ghost use Rattle.aio_model.specs.LoopLists.{out_of};
 ghost use Rattle.aio_model.specs.LoopLegal.{IsLegal};
-ghost use Rattle.aio_model.specs.LoopFrame.{Ended, Nests, Frame, Enters, Body, lent_of, nests_above};
+ghost use Rattle.aio_model.specs.LoopFrame.{Ended, Nests, Frame, EntersRunner, Body, lent_of, nests_above};
 ghost use Rattle.aio_model.specs.LoopFrame.{is_cut as is_cut_by};
 ghost use Rattle.aio_core.specs.Words.{index_count};
 ghost use Rattle.aio_core.specs.Standing.{Frees};
@@ -14,7 +14,7 @@ ghost use Rattle.aio_core.specs.Calls.{IsSeatOf};
 ghost use Rattle.aio_bh.specs.Running.{answer_by, RunsOnce};
 ghost use Rattle.aio_bh.specs.OneShots.{IsPoolFor, FreesNone, GivesFreed};
 ghost use Rattle.lot_pool.specs.Pools.{IsHomeOf};
-ghost use Rattle.aio_bh.specs.SoFar.{far, Goes, Calls, Follows, CanTake, IsBetween, FindsNone, MayEnd, TakesNext, BehindNest, noted};
+ghost use Rattle.aio_bh.specs.PollFrames.{far, GoesFurther, CallsBody, FollowsDequeue, CanTake, IsBetween, FindsNone, MayEnd, TakesNext, BehindNest, noted};
 
 use crate::call::Call;
 use crate::polled::Polled;
@@ -169,8 +169,8 @@ fn enter<J: Job + Drop, R: Runner<J>>(
     ensures between { IsBetween table.now deeper home.new.seat }
     ensures same_out { out_of home.new.seat.known.seen ≡ out_of home.old.seat.known.seen }
     ensures frees_none { FreesNone home.old.seat.known home.new.seat.known }
-    ensures nests { result ≡ true → (0 < call.nests_left) × Goes (Enters (lent_of call.bh (option_map J.number_of call.job) call.first call.nests_left) Nests) R.does (far home.old.seat.known runner.old polled.old) (far home.new.seat.known runner.new polled.new) }
-    ensures ends { result ≡ false → Goes (Body (Frame table.now.sizes deeper) call.bh (option_map J.number_of call.job) call.first call.nests_left) R.does (far home.old.seat.known runner.old polled.old) (far home.new.seat.known runner.new polled.new) }
+    ensures nests { result ≡ true → (0 < call.nests_left) × GoesFurther (EntersRunner (lent_of call.bh (option_map J.number_of call.job) call.first call.nests_left) Nests) R.does (far home.old.seat.known runner.old polled.old) (far home.new.seat.known runner.new polled.new) }
+    ensures ends { result ≡ false → GoesFurther (Body (Frame table.now.sizes deeper) call.bh (option_map J.number_of call.job) call.first call.nests_left) R.does (far home.old.seat.known runner.old polled.old) (far home.new.seat.known runner.new polled.new) }
 {
     let (first, nests) = (call.first, call.nests_left);
     let turn = lend(table, &mut home.seat, runner, call);
@@ -196,8 +196,8 @@ fn call<J: Job + Drop, R: Runner<J>>(
     ensures between { IsBetween table.now deeper home.new.seat }
     ensures same_out { out_of home.new.seat.known.seen ≡ out_of home.old.seat.known.seen }
     ensures frees_none { FreesNone home.old.seat.known home.new.seat.known }
-    ensures nests { result ≡ true → (are_due next.flags ≡ true) × (0 < nests_above deeper) × Goes (Enters (lent_of next.bh (option_map J.number_of next.job) true (nests_above deeper)) Nests) R.does (far home.old.seat.known runner.old polled.old) (far home.new.seat.known runner.new polled.new) }
-    ensures ends { result ≡ false → Goes (Calls (Frame table.now.sizes deeper) (nests_above deeper) next.bh (option_map J.number_of next.job) (are_due next.flags)) R.does (far home.old.seat.known runner.old polled.old) (far home.new.seat.known runner.new polled.new) }
+    ensures nests { result ≡ true → (are_due next.flags ≡ true) × (0 < nests_above deeper) × GoesFurther (EntersRunner (lent_of next.bh (option_map J.number_of next.job) true (nests_above deeper)) Nests) R.does (far home.old.seat.known runner.old polled.old) (far home.new.seat.known runner.new polled.new) }
+    ensures ends { result ≡ false → GoesFurther (CallsBody (Frame table.now.sizes deeper) (nests_above deeper) next.bh (option_map J.number_of next.job) (are_due next.flags)) R.does (far home.old.seat.known runner.old polled.old) (far home.new.seat.known runner.new polled.new) }
 {
     if !is_due(next.flags) {
         return false;
@@ -280,7 +280,7 @@ fn nest<J: Job + Drop, R: Runner<J>, W: Wait>(
     ensures can_run { R.can_run runner.new table.now.sizes }
     ensures between { IsBetween table.now deeper home.new.seat }
     ensures fewer { length (out_of home.new.seat.known.seen) ≤ length (out_of home.old.seat.known.seen) }
-    ensures goes { Goes (BehindNest (Frame table.now.sizes deeper) bh (nests - 1)) R.does (far home.old.seat.known runner.old polled.old) (far home.new.seat.known runner.new polled.new) }
+    ensures goes { GoesFurther (BehindNest (Frame table.now.sizes deeper) bh (nests - 1)) R.does (far home.old.seat.known runner.old polled.old) (far home.new.seat.known runner.new polled.new) }
     ensures pass { IsHomeOf pool.now pass.new }
     ensures gives { GivesFreed pool.now home.old.seat.known home.new.seat.known pass.old pass.new }
 {
@@ -326,7 +326,7 @@ fn turn<J: Job + Drop, R: Runner<J>, W: Wait>(
     ensures can_run { R.can_run runner.new table.now.sizes }
     ensures between { IsBetween table.now deeper home.new.seat }
     ensures fewer { length (out_of home.new.seat.known.seen) ≤ length (out_of home.old.seat.known.seen) }
-    ensures goes { Goes (Follows table.now.sizes (Frame table.now.sizes deeper) (nests_above deeper) next.bh (option_map J.number_of next.job) (are_due next.flags)) R.does (far home.old.seat.known runner.old polled.old) (far home.new.seat.known runner.new polled.new) }
+    ensures goes { GoesFurther (FollowsDequeue table.now.sizes (Frame table.now.sizes deeper) (nests_above deeper) next.bh (option_map J.number_of next.job) (are_due next.flags)) R.does (far home.old.seat.known runner.old polled.old) (far home.new.seat.known runner.new polled.new) }
     ensures pass { IsHomeOf pool.now pass.new }
     ensures gives { GivesFreed pool.now home.old.seat.known home.new.seat.known pass.old pass.new }
 {
@@ -370,7 +370,7 @@ pub fn frame<J: Job + Drop, R: Runner<J>, W: Wait>(
     ensures can_run { R.can_run runner.new table.now.sizes }
     ensures between { IsBetween table.now deeper home.new.seat }
     ensures none_out { out_of home.new.seat.known.seen ≡ [] }
-    ensures goes { Goes (Frame table.now.sizes (suc deeper)) R.does (far home.old.seat.known runner.old polled.old) (far home.new.seat.known runner.new polled.new) }
+    ensures goes { GoesFurther (Frame table.now.sizes (suc deeper)) R.does (far home.old.seat.known runner.old polled.old) (far home.new.seat.known runner.new polled.new) }
     ensures pass { IsHomeOf pool.now pass.new }
     ensures gives { GivesFreed pool.now home.old.seat.known home.new.seat.known pass.old pass.new }
 {

@@ -6,7 +6,7 @@ ghost use Rattle.aio_model.specs.LoopHistory.{ToCall, ToCallIdle, ToDelete};
 ghost use Rattle.aio_model.specs.InFlight.{AtRest, Announced as announced};
 ghost use Rattle.aio_core.specs.Known.{empty_stage};
 ghost use Rattle.aio_core.specs.Calls.{IsSeatOf};
-ghost use Rattle.aio_bh.specs.Enqueuing.{PushesAndNotifies, MissesOnce, Schedules, enqueue_entries, Stands};
+ghost use Rattle.aio_bh.specs.Enqueuing.{PushesAndNotifies, MissesOnce, Schedules, enqueue_entries, AddsOnly};
 ghost use Rattle.aio_bh.specs.Puts.{TriedToPut};
 ghost use Rattle.aio_bh.specs.Polling.{Polls};
 ghost use Rattle.aio_bh.specs.OneShots.{IsPoolFor, FindsNoRoom, PlacesOnce, ReturnsLots};
@@ -37,7 +37,7 @@ pub trait BottomHalves<J: Job + Drop> {
         requires handle { bh < (table self.now).sizes.handles }
         ensures seat { IsSeatOf (table self.now) seat.new }
         ensures steps { Schedules bh ToCall result seat.old.known seat.new.known }
-        ensures stands { Stands (enqueue_entries bh ToCall seat.old.known.first result) seat.old.known seat.new.known }
+        ensures stands { AddsOnly (enqueue_entries bh ToCall seat.old.known.first result) seat.old.known seat.new.known }
         ensures rest { seat.new.known.phase ≡ AtRest };
 
     /// The same, for a call that is no progress. Scheduling it again in the same round doesn't take that back.
@@ -47,7 +47,7 @@ pub trait BottomHalves<J: Job + Drop> {
         requires handle { bh < (table self.now).sizes.handles }
         ensures seat { IsSeatOf (table self.now) seat.new }
         ensures steps { Schedules bh ToCallIdle result seat.old.known seat.new.known }
-        ensures stands { Stands (enqueue_entries bh ToCallIdle seat.old.known.first result) seat.old.known seat.new.known }
+        ensures stands { AddsOnly (enqueue_entries bh ToCallIdle seat.old.known.first result) seat.old.known seat.new.known }
         ensures rest { seat.new.known.phase ≡ AtRest };
 
     /// Deletes a handle: its callback is never called again.
@@ -57,7 +57,7 @@ pub trait BottomHalves<J: Job + Drop> {
         requires handle { bh < (table self.now).sizes.handles }
         ensures seat { IsSeatOf (table self.now) seat.new }
         ensures steps { Schedules bh ToDelete result seat.old.known seat.new.known }
-        ensures stands { Stands (enqueue_entries bh ToDelete seat.old.known.first result) seat.old.known seat.new.known }
+        ensures stands { AddsOnly (enqueue_entries bh ToDelete seat.old.known.first result) seat.old.known seat.new.known }
         ensures rest { seat.new.known.phase ≡ AtRest };
 
     /// Schedules a handle, and tries once to push it. It doesn't wait.

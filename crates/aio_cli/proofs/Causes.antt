@@ -5,7 +5,7 @@ use Rattle.aio_model.specs.declared.replies.Placed.{Placed}
 use Rattle.aio_model.specs.declared.scripts.Script.{Script}
 use Rattle.aio_model.specs.SerialHistory.{eios_of}
 use Rattle.aio_model.specs.declared.loop_scripts.LoopScript.{LoopScript}
-use Rattle.aio_words.specs.Content.{Takes}
+use Rattle.aio_words.specs.Content.{TakesBytes}
 use Rattle.aio_words.specs.Faults.{HasRisen, HasRisenBy}
 use Rattle.aio_words.proofs.ContentLemmas.{Takes_to_end}
 use Rattle.aio_words.proofs.FaultLemmas.{HasRisen-from_more}
@@ -14,7 +14,7 @@ use Rattle.aio_script.specs.Grammar.{script_said}
 use Rattle.aio_script.specs.LoopGrammar.{loop_script_said}
 use Rattle.aio_cli.specs.declared.answer.Answer.{Answer}
 use Rattle.aio_cli.specs.declared.answer.Answer.TheVariants.{Done, Errors, Usage, BadScript, TooLong, TooLarge, ReadFault, WriteFault, NoMemory, DeviceFault}
-use Rattle.aio_cli.specs.Answers.{IsDone, IsOfLoop, IsRefusal, IsWhole, OnBadScript, OnCut, OnDeviceFault, OnRun, OnTooLarge, OnTooLong, OnWritten}
+use Rattle.aio_cli.specs.Answers.{LoopScriptIsDone, IsOfLoop, IsScriptRefusal, IsWholeAnswer, OnBadScript, OnCut, OnDeviceFault, OnRun, OnTooLarge, OnTooLong, OnWritten}
 use Rattle.aio_cli.specs.Rings.{RingsSaid}
 use Rattle.program_words.specs.declared.modes.Mode.{Mode}
 use Rattle.program_words.specs.declared.modes.Mode.TheVariants.{Image, Bells}
@@ -33,7 +33,7 @@ module _ (before now : Option (List ℕ)) (bytes : List ℕ) (told : before ≡ 
       let P : Option (List ℕ) → Type 0 = λ known. IfSome known (λ all. all ≡ text) in
       subst P told (Takes_to_end before now text read.taken read.ended)
 
-  longer : (now : Option (List ℕ)) (text : List ℕ) → Takes before now text → length text ≤ length bytes
+  longer : (now : Option (List ℕ)) (text : List ℕ) → TakesBytes before now text → length text ≤ length bytes
   longer None text taken = absurd (none-some bytes (sym taken ∙ told))
   longer (Some left) text taken =
       let same : text ++ left ≡ bytes = same_Some (text ++ left) bytes (sym taken ∙ told) in
@@ -75,7 +75,7 @@ module _ (before now : Option (List ℕ)) (bytes : List ℕ) (told : before ≡ 
   pub refused_loop-only : (W V : List ℕ → Type 0) (answer : Answer) → IsOfLoop answer → (answer ≡ ReadFault → ⊥)
       → OnBadScript answer (RefusesLoop before now) → OnTooLong answer (IsTooLong before now)
       → OnWritten answer (RingsSaid before now W) → OnCut answer (RingsSaid before now V)
-      → length bytes ≤ longest_script → (refusal : ScriptRefusal) → loop_script_said bytes ≡ Err refusal → IsRefusal refusal answer
+      → length bytes ≤ longest_script → (refusal : ScriptRefusal) → loop_script_said bytes ≡ Err refusal → IsScriptRefusal refusal answer
   refused_loop-only W V Done of fault bad long written cut few refusal says = absurd (not-both-loop written.script refusal (says_loop-whole written.script written.said) says)
   refused_loop-only W V (Errors n) of fault bad long written cut few refusal says = absurd of
   refused_loop-only W V Usage of fault bad long written cut few refusal says = absurd of
@@ -89,7 +89,7 @@ module _ (before now : Option (List ℕ)) (bytes : List ℕ) (told : before ≡ 
 
   pub done_loop-only : (answer : Answer) → IsOfLoop answer → (answer ≡ ReadFault → ⊥) → (answer ≡ WriteFault → ⊥)
       → OnBadScript answer (RefusesLoop before now) → OnTooLong answer (IsTooLong before now)
-      → length bytes ≤ longest_script → (script : LoopScript) → loop_script_said bytes ≡ Ok script → IsDone answer
+      → length bytes ≤ longest_script → (script : LoopScript) → loop_script_said bytes ≡ Ok script → LoopScriptIsDone answer
   done_loop-only Done of read write bad long few script says = tt
   done_loop-only (Errors n) of read write bad long few script says = of
   done_loop-only Usage of read write bad long few script says = of
@@ -106,7 +106,7 @@ module _ (before now : Option (List ℕ)) (bytes : List ℕ) (told : before ≡ 
         → OnBadScript answer (Refuses before now) → OnTooLong answer (IsTooLong before now) → OnRun answer (SaysFitting before now extent)
         → OnTooLarge answer (λ image size. SaysImage before now image × (size ≡ extent) × (size < image))
         → OnDeviceFault answer (HasRisen size_before size_now × SaysSome before now)
-        → length bytes ≤ longest_script → (refusal : ScriptRefusal) → script_said bytes ≡ Err refusal → IsRefusal refusal answer
+        → length bytes ≤ longest_script → (refusal : ScriptRefusal) → script_said bytes ≡ Err refusal → IsScriptRefusal refusal answer
     refused-only Done usage fault bad long ran large size few refusal says = absurd (not-both ran.script refusal (says-whole ran.script ran.said) says)
     refused-only (Errors n) usage fault bad long ran large size few refusal says = absurd (not-both ran.script refusal (says-whole ran.script ran.said) says)
     refused-only Usage usage fault bad long ran large size few refusal says = absurd (usage refl)
@@ -136,7 +136,7 @@ module _ (before now : Option (List ℕ)) (bytes : List ℕ) (told : before ≡ 
         → OnBadScript answer (Refuses before now) → OnTooLong answer (IsTooLong before now) → OnRun answer (SaysFitting before now extent)
         → OnTooLarge answer (λ image size. SaysImage before now image × (size ≡ extent) × (size < image))
         → OnDeviceFault answer (HasRisen size_before size_now × SaysSome before now)
-        → length bytes ≤ longest_script → (script : Script) → script_said bytes ≡ Ok script → IsWhole script.image extent answer served
+        → length bytes ≤ longest_script → (script : Script) → script_said bytes ≡ Ok script → IsWholeAnswer script.image extent answer served
     whole-only served f g Done usage read write eios still told_size bad long ran large size few script says = fits-same script says ran
     whole-only served f g (Errors n) usage read write eios still told_size bad long ran large size few script says =
         (fits-same script says ran, no_eio (eios_of served) f g eios still)

@@ -1,7 +1,7 @@
 -- How the reads of one text join up.
 use Rattle.std.proofs.Common.{◌≡◌, ℕ, ◌<◌, true, false, List, [], ◌∷◌, Option, Some, None, refl, ap, ◌∙◌, inl, inr, arith}
 use Rattle.aio_words.specs.declared.called.SourceCall.{SourceCall}
-use Rattle.aio_words.specs.Content.{Takes}
+use Rattle.aio_words.specs.Content.{TakesBytes}
 use Rattle.aio_cli.specs.Calls.{ReadsWell, Reads}
 use Rattle.aio_cli.specs.Reading.{TakesAtMost, most_read}
 
@@ -38,7 +38,7 @@ reads_to_fault before between now room well is = record { between = between; wel
 
 -- a source that wasn't called
 
-nothing : (left : Option (List ℕ)) → Takes left left []
+nothing : (left : Option (List ℕ)) → TakesBytes left left []
 nothing None = refl
 nothing (Some bytes) = refl
 

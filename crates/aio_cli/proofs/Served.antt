@@ -2,7 +2,7 @@
 use Rattle.std.proofs.Common.{◌≡◌, ℕ, List, Option, subst}
 use Rattle.aio_model.specs.declared.replies.Placed.{Placed}
 use Rattle.aio_model.specs.declared.scripts.Script.{Script}
-use Rattle.stream_ends.specs.Stops.{IsServed}
+use Rattle.stream_ends.specs.Stops.{IsScriptServed}
 use Rattle.script_generator.specs.Generated.{generated}
 use Rattle.aio_run.specs.declared.running.RunEnd.{RunEnd}
 use Rattle.aio_cli.specs.Generated.{RunsGenerated}
@@ -38,11 +38,11 @@ OnCut-both DeviceFault P Q p q = tt
 
 -- The generated script was served.
 module _ {C O : Type 0} (n from : ℕ) (script : Script) (is : script ≡ generated n from) (before now : Option (List ℕ)) (served : List Placed) (loops : List (RunEnd C O)) (Writes : List ℕ → Type 0) where
-  runs : IsServed script before now served → HaveCarried script loops → Writes (sums_printed n from served loops) → RunsGenerated n from before now served loops Writes
+  runs : IsScriptServed script before now served → HaveCarried script loops → Writes (sums_printed n from served loops) → RunsGenerated n from before now served loops Writes
   runs serves carried writes =
-      record { serves = subst (λ (s : Script). IsServed s before now served) is serves; carried = subst (λ (s : Script). HaveCarried s loops) is carried; writes = writes }
+      record { serves = subst (λ (s : Script). IsScriptServed s before now served) is serves; carried = subst (λ (s : Script). HaveCarried s loops) is carried; writes = writes }
 
-  pub runs_written : (answer : Answer) → OnRun answer (IsServed script before now served × HaveCarried script loops) → OnWritten answer (IsServed script before now served × Writes (sums_printed n from served loops)) → OnWritten answer (RunsGenerated n from before now served loops Writes)
+  pub runs_written : (answer : Answer) → OnRun answer (IsScriptServed script before now served × HaveCarried script loops) → OnWritten answer (IsScriptServed script before now served × Writes (sums_printed n from served loops)) → OnWritten answer (RunsGenerated n from before now served loops Writes)
   runs_written Done ran wrote = runs ran.0 ran.1 wrote.1
   runs_written (Errors m) ran wrote = runs ran.0 ran.1 wrote.1
   runs_written Usage ran wrote = tt
@@ -54,7 +54,7 @@ module _ {C O : Type 0} (n from : ℕ) (script : Script) (is : script ≡ genera
   runs_written NoMemory ran wrote = tt
   runs_written DeviceFault ran wrote = tt
 
-  pub runs_cut : (answer : Answer) → OnRun answer (IsServed script before now served × HaveCarried script loops) → OnCut answer (IsServed script before now served × Writes (sums_printed n from served loops)) → OnCut answer (RunsGenerated n from before now served loops Writes)
+  pub runs_cut : (answer : Answer) → OnRun answer (IsScriptServed script before now served × HaveCarried script loops) → OnCut answer (IsScriptServed script before now served × Writes (sums_printed n from served loops)) → OnCut answer (RunsGenerated n from before now served loops Writes)
   runs_cut Done ran wrote = tt
   runs_cut (Errors m) ran wrote = tt
   runs_cut Usage ran wrote = tt

@@ -96,10 +96,10 @@ TellsErrors (Errors n) served = (n ≡ errors_of served) × (0 < n)
 TellsErrors answer served = Unit {0}
 
 -- an answer to a text that is refused so
-abbrev pub IsRefusal : ScriptRefusal → Answer → Type 0
-IsRefusal refusal (BadScript told) = told ≡ refusal
-IsRefusal refusal NoMemory = Unit {0}
-IsRefusal refusal answer = ⊥
+abbrev pub IsScriptRefusal : ScriptRefusal → Answer → Type 0
+IsScriptRefusal refusal (BadScript told) = told ≡ refusal
+IsScriptRefusal refusal NoMemory = Unit {0}
+IsScriptRefusal refusal answer = ⊥
 
 -- an answer to a text that is too long
 abbrev pub IsLengthRefusal : Answer → Type 0
@@ -109,12 +109,12 @@ IsLengthRefusal answer = ⊥
 
 -- An answer to a script where nothing failed: each error is that of a request past the image's end, and an image that
 -- is larger than the device is refused.
-abbrev pub IsWhole : ℕ → ℕ → Answer → List Placed → Type 0
-IsWhole image extent Done served = image ≤ extent
-IsWhole image extent (Errors n) served = (image ≤ extent) × (eios_of served ≡ 0)
-IsWhole image extent (TooLarge i d) served = (i ≡ image) × (d ≡ extent) × (extent < image)
-IsWhole image extent NoMemory served = Unit {0}
-IsWhole image extent answer served = ⊥
+abbrev pub IsWholeAnswer : ℕ → ℕ → Answer → List Placed → Type 0
+IsWholeAnswer image extent Done served = image ≤ extent
+IsWholeAnswer image extent (Errors n) served = (image ≤ extent) × (eios_of served ≡ 0)
+IsWholeAnswer image extent (TooLarge i d) served = (i ≡ image) × (d ≡ extent) × (extent < image)
+IsWholeAnswer image extent NoMemory served = Unit {0}
+IsWholeAnswer image extent answer served = ⊥
 
 -- an answer that can come once the script was served
 abbrev pub IsOfPrinting : Answer → Type 0
@@ -139,10 +139,10 @@ FailsReadingLoop before now faults_before faults_now NoMemory = Unit {0}
 FailsReadingLoop before now faults_before faults_now answer = ⊥
 
 -- an answer to a loop script where nothing failed
-abbrev pub IsDone : Answer → Type 0
-IsDone Done = Unit {0}
-IsDone NoMemory = Unit {0}
-IsDone answer = ⊥
+abbrev pub LoopScriptIsDone : Answer → Type 0
+LoopScriptIsDone Done = Unit {0}
+LoopScriptIsDone NoMemory = Unit {0}
+LoopScriptIsDone answer = ⊥
 
 -- an answer that can come in the mode of loop scripts
 abbrev pub IsOfLoop : Answer → Type 0

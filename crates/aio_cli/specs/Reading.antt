@@ -2,7 +2,7 @@
 use Rattle.std.specs.Prelude.{◌≡◌, ◌⊎◌, ℕ, ◌≤◌, List, [], length, Option, IfSome, Ok, Err}
 use Rattle.aio_model.specs.declared.scripts.Script.{Script}
 use Rattle.aio_model.specs.declared.loop_scripts.LoopScript.{LoopScript}
-use Rattle.aio_words.specs.Content.{Takes}
+use Rattle.aio_words.specs.Content.{TakesBytes}
 use Rattle.aio_script.specs.declared.refusals.ScriptRefusal.{ScriptRefusal}
 use Rattle.aio_script.specs.Grammar.{script_said}
 use Rattle.aio_script.specs.LoopGrammar.{loop_script_said}
@@ -18,18 +18,18 @@ most_read = 1048577
 -- at most so many bytes were taken from the source
 pub record TakesAtMost (limit : ℕ) (before now : Option (List ℕ)) : Type 0 where
   pub text : List ℕ
-  pub taken : Takes before now text
+  pub taken : TakesBytes before now text
   pub few : length text ≤ limit
 
 -- This text was read: all that the source had left, or its front of so many bytes.
 pub record IsRead (limit : ℕ) (before now : Option (List ℕ)) (text : List ℕ) : Type 0 where
-  pub taken : Takes before now text
+  pub taken : TakesBytes before now text
   pub few : length text ≤ limit
   pub whole : IfSome now (λ left. left ≡ []) ⊎ (length text ≡ limit)
 
 -- This text was read to its end, and isn't too long.
 pub record IsText (before now : Option (List ℕ)) (text : List ℕ) : Type 0 where
-  pub taken : Takes before now text
+  pub taken : TakesBytes before now text
   pub ended : IfSome now (λ left. left ≡ [])
   pub few : length text ≤ longest_script
 
@@ -77,5 +77,5 @@ pub record Refuses (before now : Option (List ℕ)) (refusal : ScriptRefusal) : 
 -- one byte more was taken than a script may have
 pub record IsTooLong (before now : Option (List ℕ)) : Type 0 where
   pub text : List ℕ
-  pub taken : Takes before now text
+  pub taken : TakesBytes before now text
   pub long : length text ≡ most_read

@@ -5,13 +5,13 @@ use Rattle.aio_model.specs.LoopHistory.{History}
 use Rattle.aio_model.specs.LoopText.{IsLoopText}
 use Rattle.program_words.specs.declared.modes.Mode.{Mode}
 use Rattle.program_words.specs.declared.modes.Mode.TheVariants.{Bells}
-use Rattle.bell_script.specs.Scripts.{Tells}
+use Rattle.bell_script.specs.Scripts.{TellsScript}
 use Rattle.aio_cli.specs.Reading.{SaysLoop}
 use Rattle.aio_cli.specs.declared.answer.Answer.{Answer}
 use Rattle.aio_cli.specs.declared.answer.Answer.TheVariants.{Done, WriteFault, NoMemory}
 
 -- so much of a text of the loop script was written
-pub record Rings (script : LoopScript) (Wrote : List ℕ → Type 0) : Type 0 where
+pub record LoopTextIsWritten (script : LoopScript) (Wrote : List ℕ → Type 0) : Type 0 where
   pub text : List ℕ
   pub is_text : IsLoopText script text
   pub wrote : Wrote text
@@ -21,13 +21,13 @@ pub record Rings (script : LoopScript) (Wrote : List ℕ → Type 0) : Type 0 wh
 pub record RingsSaid (left_before left_now : Option (List ℕ)) (Wrote : List ℕ → Type 0) : Type 0 where
   pub script : LoopScript
   pub said : SaysLoop left_before left_now script
-  pub rings : Rings script Wrote
+  pub rings : LoopTextIsWritten script Wrote
 
 -- So much of a text was written. The history is one of the loop script that gives this text, then one poll whose callbacks do
 -- nothing, and then the clearing of each event that is set, in rising order.
 pub record EndsRings (script : LoopScript) (Wrote : List ℕ → Type 0) (history : History) : Type 0 where
   pub text : List ℕ
-  pub tells : Tells script text history
+  pub tells : TellsScript script text history
   pub wrote : Wrote text
 
 -- so it is for the loop script that the text says which was all that the source had left

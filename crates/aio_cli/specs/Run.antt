@@ -5,7 +5,7 @@ use Rattle.aio_model.specs.declared.replies.Placed.{Placed}
 use Rattle.aio_model.specs.declared.scripts.Script.{Script}
 use Rattle.aio_model.specs.Asked.{asked}
 use Rattle.aio_model.specs.PrintedText.{printed_text}
-use Rattle.stream_ends.specs.Stops.{IsServed}
+use Rattle.stream_ends.specs.Stops.{IsScriptServed}
 use Rattle.aio_run.specs.declared.running.RunEnd.{RunEnd}
 use Rattle.aio_run.specs.Ends.{IsOver}
 use Rattle.aio_run.specs.Readiness.{coroutines_of}
@@ -15,11 +15,11 @@ use Rattle.aio_cli.specs.Reading.{Says}
 
 -- A whole run. The text was all that the source had left, the script is the one that it says, its requests were
 -- served, and of their printed text this much was written.
-pub record Runs (left_before left_now bytes_before bytes_now : Option (List ℕ)) (served : List Placed) (Writes : List ℕ → Type 0)
+pub record RunsScript (left_before left_now bytes_before bytes_now : Option (List ℕ)) (served : List Placed) (Writes : List ℕ → Type 0)
     : Type 0 where
   pub script : Script
   pub said : Says left_before left_now script
-  pub serves : IsServed script bytes_before bytes_now served
+  pub serves : IsScriptServed script bytes_before bytes_now served
   pub writes : Writes (printed_text (asked script.lines) served)
 
 -- These are a script's loops in their order, each carried to its end. Just the streams of its home began on each, once, and its own
@@ -35,5 +35,5 @@ pub record RunsOnLoops {C O : Type 0} (left_before left_now bytes_before bytes_n
     : Type 0 where
   pub script : Script
   pub said : Says left_before left_now script
-  pub serves : IsServed script bytes_before bytes_now served
+  pub serves : IsScriptServed script bytes_before bytes_now served
   pub carried : HaveCarried script loops

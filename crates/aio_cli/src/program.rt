@@ -10,12 +10,12 @@ ghost use Rattle.aio_script.specs.Bounds.{IsBounded};
 ghost use Rattle.aio_script.specs.Grammar.{script_said};
 ghost use Rattle.aio_script.specs.LoopBounds.{IsLoopBounded};
 ghost use Rattle.aio_script.specs.LoopGrammar.{loop_script_said};
-ghost use Rattle.aio_cli.specs.Answers.{FailsReading, FailsReadingLoop, FailsText, IsDone, IsLengthRefusal, IsOfLoop, IsOfRun, IsRefusal, IsWhole, OnBadScript, OnCut, OnDeviceFault, OnRun, OnTooLarge, OnTooLong, OnUnasked, OnUnserved, OnWritten, TellsErrors};
+ghost use Rattle.aio_cli.specs.Answers.{FailsReading, FailsReadingLoop, FailsText, LoopScriptIsDone, IsLengthRefusal, IsOfLoop, IsOfRun, IsScriptRefusal, IsWholeAnswer, OnBadScript, OnCut, OnDeviceFault, OnRun, OnTooLarge, OnTooLong, OnUnasked, OnUnserved, OnWritten, TellsErrors};
 ghost use Rattle.aio_cli.specs.Calls.{Reads, is_read_fault};
 ghost use Rattle.aio_cli.specs.Generated.{RunsGenerated};
 ghost use Rattle.aio_cli.specs.Reading.{IsText, IsTooLong, Refuses, RefusesLoop, Says, SaysLoop, SaysFitting, SaysImage, SaysSome, TakesAtMost, longest_script, most_read};
 ghost use Rattle.aio_cli.specs.Rings.{AtBells, AtDone, EndsSaid, RingsSaid};
-ghost use Rattle.aio_cli.specs.Run.{Runs, RunsOnLoops};
+ghost use Rattle.aio_cli.specs.Run.{RunsScript, RunsOnLoops};
 ghost use Rattle.aio_cli.specs.Words.{InBells, InGenerated, InImage, InText};
 ghost use Rattle.program_words.specs.Words.{mode_said};
 
@@ -113,10 +113,10 @@ fn run_image<
 ) -> End<D>
     requires sixteen { vec_len clocks ≡ 16 }
     ensures written { OnWritten result.answer
-        (Runs (S.left source.old) (S.left source.new) (D.bytes device) (D.bytes result.device) result.served.items
+        (RunsScript (S.left source.old) (S.left source.new) (D.bytes device) (D.bytes result.device) result.served.items
         (λ text. K.held sink.new ≡ with_piece text (K.held sink.old))) }
     ensures cut { OnCut result.answer
-        (Runs (S.left source.old) (S.left source.new) (D.bytes device) (D.bytes result.device) result.served.items
+        (RunsScript (S.left source.old) (S.left source.new) (D.bytes device) (D.bytes result.device) result.served.items
         (AppendsFront (K.held sink.old) (K.held sink.new))) }
     ensures carried { OnRun result.answer
         (RunsOnLoops (S.left source.old) (S.left source.new) (D.bytes device) (D.bytes result.device) result.served.items result.loops.items) }
@@ -248,11 +248,11 @@ pub fn top<
 
     // At Done and Errors all of the printed text was written.
     ensures written { InImage (mode_said (map string_bytes words.now)) (OnWritten result.answer
-        (Runs (S.left source.old) (S.left source.new) (D.bytes device) (D.bytes result.device) result.served.items
+        (RunsScript (S.left source.old) (S.left source.new) (D.bytes device) (D.bytes result.device) result.served.items
         (λ text. K.held sink.new ≡ with_piece text (K.held sink.old)))) }
     // At WriteFault a front of it.
     ensures cut { InImage (mode_said (map string_bytes words.now)) (OnCut result.answer
-        (Runs (S.left source.old) (S.left source.new) (D.bytes device) (D.bytes result.device) result.served.items
+        (RunsScript (S.left source.old) (S.left source.new) (D.bytes device) (D.bytes result.device) result.served.items
         (AppendsFront (K.held sink.old) (K.held sink.new)))) }
     // At these three answers the script's loops have carried it, each to its end; at every other there is none.
     ensures carried { InImage (mode_said (map string_bytes words.now)) (OnRun result.answer
@@ -320,10 +320,10 @@ pub fn top<
         → IfSome (S.left source.old) (λ text. longest_script < length text → IsLengthRefusal result.answer)) }
     ensures refused { InImage (mode_said (map string_bytes words.now)) ((HasRisen (S.faults source.old) (S.faults source.new) → ⊥)
         → IfSome (S.left source.old) (λ text. length text ≤ longest_script
-        → (refusal : ScriptRefusal) → script_said text ≡ Err refusal → IsRefusal refusal result.answer)) }
+        → (refusal : ScriptRefusal) → script_said text ≡ Err refusal → IsScriptRefusal refusal result.answer)) }
     ensures refused_loop { InBells (mode_said (map string_bytes words.now)) ((HasRisen (S.faults source.old) (S.faults source.new) → ⊥)
         → IfSome (S.left source.old) (λ text. length text ≤ longest_script
-        → (refusal : ScriptRefusal) → loop_script_said text ≡ Err refusal → IsRefusal refusal result.answer)) }
+        → (refusal : ScriptRefusal) → loop_script_said text ≡ Err refusal → IsScriptRefusal refusal result.answer)) }
 
     // Where nothing failed, a text that says a script is served if the device holds its image, and each error is that
     // of a request past the end.
@@ -331,14 +331,14 @@ pub fn top<
         → (HasRisen (K.faults sink.old) (K.faults sink.new) → ⊥) → (HasRisen (D.faults device) (D.faults result.device) → ⊥)
         → (HasRisen (D.size_faults device) (D.size_faults result.device) → ⊥)
         → IfSome (S.left source.old) (λ text. length text ≤ longest_script
-        → (script : Script) → script_said text ≡ Ok script → IsWhole script.image (D.extent device) result.answer result.served.items)) }
+        → (script : Script) → script_said text ≡ Ok script → IsWholeAnswer script.image (D.extent device) result.answer result.served.items)) }
     ensures complete_generated { InGenerated (mode_said (map string_bytes words.now)) (λ _ _. (HasRisen (K.faults sink.old) (K.faults sink.new) → ⊥)
         → (HasRisen (D.faults device) (D.faults result.device) → ⊥) → (HasRisen (D.size_faults device) (D.size_faults result.device) → ⊥)
-        → IsWhole 1048576 (D.extent device) result.answer result.served.items) }
+        → IsWholeAnswer 1048576 (D.extent device) result.answer result.served.items) }
     ensures complete_loop { InBells (mode_said (map string_bytes words.now)) ((HasRisen (S.faults source.old) (S.faults source.new) → ⊥)
         → (HasRisen (K.faults sink.old) (K.faults sink.new) → ⊥)
         → IfSome (S.left source.old) (λ text. length text ≤ longest_script
-        → (script : LoopScript) → loop_script_said text ≡ Ok script → IsDone result.answer)) }
+        → (script : LoopScript) → loop_script_said text ≡ Ok script → LoopScriptIsDone result.answer)) }
 {
     match mode_said(words) {
         None => unserved(alloc, Answer::Usage, device),

@@ -1,6 +1,6 @@
 ghost use Rattle.std.specs.Prelude.{◌≡◌, ◌≤◌, ◌<◌, [], ◌∷◌, length, take, IfOk, IfErr, OnErr, IfSome, IsErrOf, true, false};
 ghost use Rattle.aio_words.specs.Called.{read_call};
-ghost use Rattle.aio_words.specs.Content.{Takes};
+ghost use Rattle.aio_words.specs.Content.{TakesBytes};
 ghost use Rattle.aio_words.specs.Faults.{HasRisen};
 ghost use Rattle.aio_cli.specs.Calls.{Reads};
 ghost use Rattle.aio_cli.specs.Reading.{IsRead, TakesAtMost, most_read};
@@ -35,7 +35,7 @@ fn read_piece<S: Source>(source: &mut S, chunk: &mut [u8], room: usize) -> Resul
     requires some { 0 < room }
     requires fits { room ≤ length chunk.old }
     ensures within { IfOk result (λ n. n ≤ room) }
-    ensures taken { IfOk result (λ n. Takes (S.left source.old) (S.left source.new) (take n chunk.new)) }
+    ensures taken { IfOk result (λ n. TakesBytes (S.left source.old) (S.left source.new) (take n chunk.new)) }
     ensures end { IfOk result (λ n. n ≡ 0 → IfSome (S.left source.old) (λ bytes. bytes ≡ [])) }
     ensures kept { OnErr result (S.left source.new ≡ S.left source.old) }
     ensures counted { S.faults source.old ≤ S.faults source.new }

@@ -5,7 +5,7 @@ ghost use Rattle.aio_words.specs.Faults.{HasRisen};
 ghost use Rattle.aio_script.specs.LoopBounds.{IsLoopBounded};
 ghost use Rattle.aio_cli.specs.Answers.{OnCut, OnUnserved, OnWritten};
 ghost use Rattle.aio_cli.specs.Calls.{is_read_fault};
-ghost use Rattle.aio_cli.specs.Rings.{AtDone, EndsRings, IsOfBells, Rings};
+ghost use Rattle.aio_cli.specs.Rings.{AtDone, EndsRings, IsOfBells, LoopTextIsWritten};
 
 use crate::Answer;
 use aio_model::{LoopScript, NoMemory};
@@ -33,8 +33,8 @@ pub(crate) fn ring<R: Wait, K: Sink>(
     requires bounded { IsLoopBounded script.now }
     ensures of_bells { IsOfBells result.answer }
     ensures no_read { is_read_fault result.answer ≡ false }
-    ensures written { OnWritten result.answer (Rings script.now (λ text. K.held sink.new ≡ with_piece text (K.held sink.old))) }
-    ensures cut { OnCut result.answer (Rings script.now (AppendsFront (K.held sink.old) (K.held sink.new))) }
+    ensures written { OnWritten result.answer (LoopTextIsWritten script.now (λ text. K.held sink.new ≡ with_piece text (K.held sink.old))) }
+    ensures cut { OnCut result.answer (LoopTextIsWritten script.now (AppendsFront (K.held sink.old) (K.held sink.new))) }
     ensures bells { AtDone result.answer result.bells (λ end. EndsRings script.now (λ text. K.held sink.new ≡ with_piece text (K.held sink.old)) end.known.seen) }
     ensures unserved { OnUnserved result.answer (sink.new ≡ sink.old) }
     ensures counted { K.faults sink.old ≤ K.faults sink.new }

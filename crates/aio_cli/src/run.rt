@@ -5,7 +5,7 @@ ghost use Rattle.aio_words.specs.Called.{device_call, failures_in, sizes_asked};
 ghost use Rattle.aio_words.specs.Content.{with_piece, AppendsFront};
 ghost use Rattle.aio_words.specs.Faults.{HasRisen, HasRisenBy};
 ghost use Rattle.aio_script.specs.Bounds.{IsBounded};
-ghost use Rattle.stream_ends.specs.Stops.{IsServed};
+ghost use Rattle.stream_ends.specs.Stops.{IsScriptServed};
 ghost use Rattle.aio_cli.specs.Answers.{IsOfRun, IsOfServing, OnCut, OnDeviceFault, OnRun, OnTooLarge, OnUnserved, OnWritten, TellsErrors};
 ghost use Rattle.aio_cli.specs.Calls.{is_read_fault};
 ghost use Rattle.aio_cli.specs.Printed.{text_printed};
@@ -76,7 +76,7 @@ fn serve_script<
     ensures few { IfOk result (λ served. length served.outcome.served.items ≤ 4096) }
     ensures order { IfOk result (λ served. served.room.order ≡ 4096) }
     ensures empty { IfOk result (λ served. served.room.page ≡ []) }
-    ensures serves { IfOk result (λ served. IsServed script.now (D.bytes device) (D.bytes served.outcome.device) served.outcome.served.items) }
+    ensures serves { IfOk result (λ served. IsScriptServed script.now (D.bytes device) (D.bytes served.outcome.device) served.outcome.served.items) }
     ensures carried { IfOk result (λ served. HaveCarried script.now served.outcome.loops.items) }
     ensures eios { IfOk result (λ served. HasRisenBy (eios_of served.outcome.served.items) (D.faults device) (D.faults served.outcome.device)) }
     ensures counted { IfOk result (λ served. D.faults device ≤ D.faults served.outcome.device) }
@@ -117,13 +117,13 @@ fn run_fitting<
     ensures of_run { IsOfServing result.answer }
     ensures no_read { is_read_fault result.answer ≡ false }
     ensures written { OnWritten result.answer
-        (IsServed script.now (D.bytes device) (D.bytes result.device) result.served.items
+        (IsScriptServed script.now (D.bytes device) (D.bytes result.device) result.served.items
         × (K.held sink.new ≡ with_piece (text_printed printed script.now result.served.items result.loops.items) (K.held sink.old))) }
     ensures cut { OnCut result.answer
-        (IsServed script.now (D.bytes device) (D.bytes result.device) result.served.items
+        (IsScriptServed script.now (D.bytes device) (D.bytes result.device) result.served.items
         × AppendsFront (K.held sink.old) (K.held sink.new) (text_printed printed script.now result.served.items result.loops.items)) }
     ensures carried { OnRun result.answer
-        (IsServed script.now (D.bytes device) (D.bytes result.device) result.served.items × HaveCarried script.now result.loops.items) }
+        (IsScriptServed script.now (D.bytes device) (D.bytes result.device) result.served.items × HaveCarried script.now result.loops.items) }
     ensures unserved { OnUnserved result.answer ((sink.new ≡ sink.old) × (result.device ≡ device) × (result.served.items ≡ [])) }
     ensures no_bells { result.bells ≡ None }
     ensures no_loops { OnUnserved result.answer (result.loops.items ≡ []) }
@@ -186,13 +186,13 @@ pub(crate) fn run_script<
     ensures of_run { IsOfRun result.answer }
     ensures no_read { is_read_fault result.answer ≡ false }
     ensures written { OnWritten result.answer
-        (IsServed script.now (D.bytes device) (D.bytes result.device) result.served.items
+        (IsScriptServed script.now (D.bytes device) (D.bytes result.device) result.served.items
         × (K.held sink.new ≡ with_piece (text_printed printed script.now result.served.items result.loops.items) (K.held sink.old))) }
     ensures cut { OnCut result.answer
-        (IsServed script.now (D.bytes device) (D.bytes result.device) result.served.items
+        (IsScriptServed script.now (D.bytes device) (D.bytes result.device) result.served.items
         × AppendsFront (K.held sink.old) (K.held sink.new) (text_printed printed script.now result.served.items result.loops.items)) }
     ensures carried { OnRun result.answer
-        (IsServed script.now (D.bytes device) (D.bytes result.device) result.served.items × HaveCarried script.now result.loops.items) }
+        (IsScriptServed script.now (D.bytes device) (D.bytes result.device) result.served.items × HaveCarried script.now result.loops.items) }
     ensures unserved { OnUnserved result.answer ((sink.new ≡ sink.old) × (D.bytes result.device ≡ D.bytes device) × (result.served.items ≡ [])) }
     ensures no_bells { result.bells ≡ None }
     ensures no_loops { OnUnserved result.answer (result.loops.items ≡ []) }

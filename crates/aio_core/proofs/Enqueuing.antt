@@ -5,7 +5,7 @@ use mathlib.Core.Option.{some, none}
 use lib.ListN.{get_elem?, length-set}
 use Rattle.atomic_table.specs.Table.{Me, keeps, step, Allows}
 use Rattle.aio_model.specs.FlagsWord.{word_of}
-use Rattle.aio_model.specs.LoopHistory.{Sizes, Asked, Enqueue, History}
+use Rattle.aio_model.specs.LoopHistory.{Sizes, EnqueueAsks, Enqueue, History}
 use Rattle.aio_model.specs.LoopFlags.{has_life, is_lot, is_pending, flags_of, is_once}
 use Rattle.aio_model.specs.LoopLists.{stack_of, out_of}
 use Rattle.aio_model.specs.LoopLegal.{IsLegal, MayAsk}
@@ -41,13 +41,13 @@ pub head_beside_flags : (words : List ℕ) (i x : ℕ) → slice_index (set word
 head_beside_flags words i x = read_else words (flags_at i) head_at x (λ q. omega arith)
 
 -- what the seat knows after an enqueue
-abbrev pub after_enqueuing : Known → History → ℕ → Asked → Known
+abbrev pub after_enqueuing : Known → History → ℕ → EnqueueAsks → Known
 after_enqueuing v h i asked =
     let flags = flags_of i h in
     let entry = Enqueue i asked v.first flags in
     record v { seen = entry ∷ h; mine = entry ∷ v.mine; did = done EnqueueFetchOr (flags_at i) (word_of flags) ∷ v.did; phase = after_enqueue i flags }
 
-module _ (sizes : Sizes) (h : History) (i s : ℕ) (asked : Asked) (legal : IsLegal sizes h) (below : i < index_count sizes) where
+module _ (sizes : Sizes) (h : History) (i s : ℕ) (asked : EnqueueAsks) (legal : IsLegal sizes h) (below : i < index_count sizes) where
   -- an index that wasn't pending is owed by its enqueuer
   newly_owed : is_pending i h ≡ false → IsOwed sizes (Enqueue i asked s (flags_of i h) ∷ h) s i
   newly_owed idle =
@@ -73,7 +73,7 @@ pub record IsCalm (p : Phase) : Type 0 where
 pub calm_at_rest : (p : Phase) → p ≡ AtRest → IsCalm p
 calm_at_rest p e = record { pushes = ap push_of e; stores = ap store_of e; flies = ap flight_of e }
 
-module _ (sizes : Sizes) (h : History) (words : List ℕ) (views : List Known) (id : ℕ) (v : Known) (i : ℕ) (asked : Asked) where
+module _ (sizes : Sizes) (h : History) (words : List ℕ) (views : List Known) (id : ℕ) (v : Known) (i : ℕ) (asked : EnqueueAsks) where
   pub enqueue_stands : Stands sizes h words views → get_elem? views id ≡ some v → 0 < v.count → IsCalm v.phase → has_life sizes i h ≡ true → i < index_count sizes → MayAsk sizes i asked v.first h → ((beside j job : ℕ) (u : Known) → beside ≢ id → get_elem? views beside ≡ some u → 0 < u.count → IsClaimed sizes h u.first j job → eqb j i ≡ false) → (x : ℕ) → x ≡ word_of (enqueued_flags asked (flags_of i h)) → Stands sizes (Enqueue i asked v.first (flags_of i h) ∷ h) (set words (flags_at i) x) (set views id (after_enqueuing v h i asked))
   enqueue_stands stand at numbered rest alive below may others x is =
       let entry = Enqueue i asked v.first (flags_of i h) in
@@ -107,7 +107,7 @@ module _ (sizes : Sizes) (h : History) (words : List ℕ) (views : List Known) (
             (λ no j put. (put, same_next j));
       }
 
-pub enqueue_allowed : {J : Type 0} (number : J → ℕ) (sizes : Sizes) (slots id i : ℕ) (me : Me (Option J) Known) (asked : Asked) → 0 < me.0.count → me.0.phase ≡ AtRest → is_once asked ≡ false → i < sizes.handles → Allows (Kept number sizes) slots id me (flags_at i) (λ n. bit_or n (mask_of asked)) (enqueued (step slots (flags_at i) (mask_of asked) 0 none) me)
+pub enqueue_allowed : {J : Type 0} (number : J → ℕ) (sizes : Sizes) (slots id i : ℕ) (me : Me (Option J) Known) (asked : EnqueueAsks) → 0 < me.0.count → me.0.phase ≡ AtRest → is_once asked ≡ false → i < sizes.handles → Allows (Kept number sizes) slots id me (flags_at i) (λ n. bit_or n (mask_of asked)) (enqueued (step slots (flags_at i) (mask_of asked) 0 none) me)
 enqueue_allowed number sizes slots id i me asked numbered rest once handle s kept long at fits =
     let h = kept.0 in
     let stand = kept.1 in

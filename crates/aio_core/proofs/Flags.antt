@@ -4,7 +4,7 @@ use Rattle.std.proofs.lemmas.Bool.{cond-true, cases_eq, and_parts, not-true, lt-
 use Rattle.aio_model.specs.declared.flags.Flags.{Flags}
 use Rattle.aio_model.specs.FlagsWord.{bit, word_of}
 use Rattle.aio_model.specs.LoopLists.{is_set}
-use Rattle.aio_model.specs.LoopHistory.{Sizes, Asked, ToCall, ToCallIdle, ToDelete, ToCallOnce, Enqueue, Cancel, Dequeue, History}
+use Rattle.aio_model.specs.LoopHistory.{Sizes, EnqueueAsks, ToCall, ToCallIdle, ToDelete, ToCallOnce, Enqueue, Cancel, Dequeue, History}
 use Rattle.aio_model.specs.LoopFlags.{has_life, is_lot, flags_of, is_once}
 use Rattle.aio_model.specs.LoopLegal.{MayAsk}
 use Rattle.aio_core.specs.Words.{event_at, flags_at, index_count, word_count, flags_word, free_word}
@@ -30,7 +30,7 @@ read_else words k j x other = get_or-set_other words k j x 0 other
 
 -- Flags after an entry.
 
-pub flags_of-enqueue : (i s : ℕ) (asked : Asked) (was : Flags) (h : History) → flags_of i (Enqueue i asked s was ∷ h) ≡ enqueued_flags asked (flags_of i h)
+pub flags_of-enqueue : (i s : ℕ) (asked : EnqueueAsks) (was : Flags) (h : History) → flags_of i (Enqueue i asked s was ∷ h) ≡ enqueued_flags asked (flags_of i h)
 flags_of-enqueue i s asked was h = let e : eqb i i ≡ true = eq-eqb i i refl in rw e refl
 
 pub flags_of-cancel : (i s : ℕ) (was : Flags) (h : History) → flags_of i (Cancel i s was ∷ h) ≡ canceled_flags (flags_of i h)
@@ -39,7 +39,7 @@ flags_of-cancel i s was h = let e : eqb i i ≡ true = eq-eqb i i refl in rw e r
 pub flags_of-dequeue : (i : ℕ) (ran : Bool) (h : History) → flags_of i (Dequeue i ran ∷ h) ≡ dequeued_flags (flags_of i h)
 flags_of-dequeue i ran h = let e : eqb i i ≡ true = eq-eqb i i refl in rw e refl
 
-pub flags_of-enqueue_other : (i j s : ℕ) (asked : Asked) (was : Flags) (h : History) → i ≢ j → flags_of i (Enqueue j asked s was ∷ h) ≡ flags_of i h
+pub flags_of-enqueue_other : (i j s : ℕ) (asked : EnqueueAsks) (was : Flags) (h : History) → i ≢ j → flags_of i (Enqueue j asked s was ∷ h) ≡ flags_of i h
 flags_of-enqueue_other i j s asked was h ne = let e : eqb i j ≡ false = ne_eqb i j ne in rw e refl
 
 pub flags_of-cancel_other : (i j s : ℕ) (was : Flags) (h : History) → i ≢ j → flags_of i (Cancel j s was ∷ h) ≡ flags_of i h
@@ -77,7 +77,7 @@ word_same sizes i h g life flags =
     ap (λ (b : Bool). cond b (word_of (flags_of i g)) free_word) life ∙ ap (λ (f : Flags). cond (has_life sizes i h) (word_of f) free_word) flags
 
 -- what may be asked of a handle
-pub may_ask_handle : (sizes : Sizes) (i s : ℕ) (asked : Asked) (h : History) → is_once asked ≡ false → i < sizes.handles → MayAsk sizes i asked s h
+pub may_ask_handle : (sizes : Sizes) (i s : ℕ) (asked : EnqueueAsks) (h : History) → is_once asked ≡ false → i < sizes.handles → MayAsk sizes i asked s h
 may_ask_handle sizes i s ToCall h once below = below
 may_ask_handle sizes i s ToCallIdle h once below = below
 may_ask_handle sizes i s ToDelete h once below = below

@@ -3,12 +3,12 @@ use Rattle.std.proofs.Common.{◌≡◌, ℕ, ◌<◌, ◌≤◌, Bool, true, fa
 use Rattle.std.proofs.lemmas.Bool.{agree_below_at, eqb-true}
 use Rattle.aio_model.specs.declared.flags.Flags.{Flags}
 use Rattle.aio_model.specs.FlagsWord.{bit, flags_in, word_of}
-use Rattle.aio_model.specs.LoopHistory.{Asked, ToCall, ToCallIdle, ToDelete, ToCallOnce}
+use Rattle.aio_model.specs.LoopHistory.{EnqueueAsks, ToCall, ToCallIdle, ToDelete, ToCallOnce}
 use Rattle.aio_model.specs.LoopFlags.{is_scheduling, is_idling, is_deleting, is_once}
 use Rattle.aio_model.proofs.FlagsWords.{flags_in-word_of}
 use Rattle.aio_core.specs.Standing.{mask_of, asked_with}
 
-pub asked_with-mask_of : (asked : Asked) → asked_with (mask_of asked) ≡ asked
+pub asked_with-mask_of : (asked : EnqueueAsks) → asked_with (mask_of asked) ≡ asked
 asked_with-mask_of ToCall = refl
 asked_with-mask_of ToCallIdle = refl
 asked_with-mask_of ToDelete = refl
@@ -28,7 +28,7 @@ word_of-below f =
     omega arith
 
 -- the flags once an index was asked this
-abbrev pub enqueued_flags : Asked → Flags → Flags
+abbrev pub enqueued_flags : EnqueueAsks → Flags → Flags
 enqueued_flags asked f =
     record { pending = true; scheduled = is_scheduling asked || f.scheduled; deleted = is_deleting asked || f.deleted; oneshot = is_once asked || f.oneshot; idle = is_idling asked || f.idle }
 
@@ -44,7 +44,7 @@ by_words : (step : ℕ → ℕ) (change : Flags → Flags) → ((v : ℕ) → v 
 by_words step change table f =
     eqb-true _ _ (table (word_of f) (word_of-below f)) ∙ ap (λ (g : Flags). word_of (change g)) (flags_in-word_of f)
 
-pub enqueued_word : (asked : Asked) (f : Flags) → bit_or (word_of f) (mask_of asked) ≡ word_of (enqueued_flags asked f)
+pub enqueued_word : (asked : EnqueueAsks) (f : Flags) → bit_or (word_of f) (mask_of asked) ≡ word_of (enqueued_flags asked f)
 enqueued_word ToCall f =
     by_words (λ v. bit_or v 3) (enqueued_flags ToCall) (λ v h. agree_below_at (λ n. eqb (bit_or n 3) (word_of (enqueued_flags ToCall (flags_in n)))) (λ _. true) 32 v refl h) f
 enqueued_word ToCallIdle f =

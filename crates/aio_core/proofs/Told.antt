@@ -4,7 +4,7 @@ use Rattle.aio_model.specs.declared.flags.Flags.{Flags}
 use Rattle.aio_model.specs.declared.kinds.Kind as asking
 use Rattle.aio_model.specs.declared.kinds.Kind.TheVariants.{Sched, Idle, Del}
 use Rattle.aio_model.specs.FlagsWord.{flags_in}
-use Rattle.aio_model.specs.LoopHistory.{Asked}
+use Rattle.aio_model.specs.LoopHistory.{EnqueueAsks}
 use Rattle.aio_model.specs.LoopFlags.{is_once}
 use Rattle.aio_model.proofs.FlagsWords.{flags_in-word_of}
 use Rattle.aio_core.specs.Known.{Known}
@@ -18,7 +18,7 @@ asked_is_of_handle Idle = refl
 asked_is_of_handle Del = refl
 
 -- the flags read from the word that was found
-pub enqueues_told : (i found : ℕ) (asked : Asked) (f : Flags) (v w : Known) → Enqueued i (mask_of asked) found v w → f ≡ flags_in found → Enqueues i asked f v w
+pub enqueues_told : (i found : ℕ) (asked : EnqueueAsks) (f : Flags) (v w : Known) → Enqueued i (mask_of asked) found v w → f ≡ flags_in found → Enqueues i asked f v w
 enqueues_told i found asked f v w told is =
     let same : told.flags ≡ f = sym (flags_in-word_of told.flags) ∙ ap flags_in (sym told.found_is) ∙ sym is in
     subst (λ g. Enqueues i asked g v w) same (subst (λ a. Enqueues i a told.flags v w) (asked_with-mask_of asked) told.enqueues)

@@ -2,7 +2,7 @@
 use Rattle.std.proofs.Common.{◌≡◌, ◌≢◌, ◌⊎◌, ℕ, Bool, true, false, not, cond, ◌&&◌, ◌||◌, eqb, ◌∷◌, inl, inr, refl, sym, ap, ◌∙◌, subst, ⊎_elim}
 use Rattle.std.proofs.lemmas.Bool.{cases_eq, cases_Bool, eq-eqb, ne_eqb}
 use Rattle.aio_model.specs.declared.flags.Flags.{Flags}
-use Rattle.aio_model.specs.LoopHistory.{Asked, Enqueue, Put, Cancel, Dequeue, History}
+use Rattle.aio_model.specs.LoopHistory.{EnqueueAsks, Enqueue, Put, Cancel, Dequeue, History}
 use Rattle.aio_model.specs.LoopFlags.{is_pending, flags_of, are_urgent, is_urgent}
 use Rattle.aio_model.specs.LoopLists.{was_put, is_announced, is_set}
 use Rattle.aio_model.specs.InFlight.{Reason, ForIndex, ForEvent, ForNothing, Announced, ToStore}
@@ -21,7 +21,7 @@ same_reason_index i j e = cc
 
 -- An enqueue.
 
-pub wanted_enqueue : (r : Reason) (i s : ℕ) (asked : Asked) (was : Flags) (h : History) → is_wanted r (Enqueue i asked s was ∷ h) ≡ true → (is_wanted r h ≡ true) ⊎ (ForIndex i ≡ r)
+pub wanted_enqueue : (r : Reason) (i s : ℕ) (asked : EnqueueAsks) (was : Flags) (h : History) → is_wanted r (Enqueue i asked s was ∷ h) ≡ true → (is_wanted r h ≡ true) ⊎ (ForIndex i ≡ r)
 wanted_enqueue (ForIndex j) i s asked was h is =
     ⊎_elim (λ (e : j ≡ i). inr (ap ForIndex (sym e))) (λ (ne : j ≢ i). inl (sym (ap are_urgent (flags_of-enqueue_other j i s asked was h ne)) ∙ is)) (cases_eq j i)
 wanted_enqueue (ForEvent e) i s asked was h is = inl is
@@ -31,7 +31,7 @@ announced_if : (p w : Bool) → p ≡ true → (true && not w) ≡ true → (p &
 announced_if true w e a = a
 announced_if false w e a = absurd cc
 
-pub announced_enqueue : (j i s : ℕ) (asked : Asked) (was : Flags) (h : History) → is_announced j (Enqueue i asked s was ∷ h) ≡ true → (is_announced j h ≡ true) ⊎ ((j ≡ i) × (is_pending i h ≡ false))
+pub announced_enqueue : (j i s : ℕ) (asked : EnqueueAsks) (was : Flags) (h : History) → is_announced j (Enqueue i asked s was ∷ h) ≡ true → (is_announced j h ≡ true) ⊎ ((j ≡ i) × (is_pending i h ≡ false))
 announced_enqueue j i s asked was h is =
     ⊎_elim (λ (e : j ≡ i). ⊎_elim (λ (p : is_pending i h ≡ true). inl (subst (λ k. is_announced k h ≡ true) (sym e) (here p (subst (λ k. is_announced k (Enqueue i asked s was ∷ h) ≡ true) e is)))) (λ (p : is_pending i h ≡ false). inr (e, p)) (cases_Bool (is_pending i h))) (λ (ne : j ≢ i). inl (let other : eqb j i ≡ false = ne_eqb j i ne in rw other at is)) (cases_eq j i)
   where

@@ -5,7 +5,7 @@ use Rattle.aio_model.specs.declared.flags.Flags.{Flags}
 use Rattle.aio_model.specs.declared.kinds.Kind as asking
 use Rattle.aio_model.specs.declared.kinds.Kind.TheVariants.{Sched, Idle, Del}
 use Rattle.aio_model.specs.FlagsWord.{word_of}
-use Rattle.aio_model.specs.LoopHistory.{Asked, ToCall, ToCallIdle, ToDelete, ToCallOnce, Entry, New, Free, Enqueue, Put, Cancel, Take, Dequeue}
+use Rattle.aio_model.specs.LoopHistory.{EnqueueAsks, ToCall, ToCallIdle, ToDelete, ToCallOnce, Entry, New, Free, Enqueue, Put, Cancel, Take, Dequeue}
 use Rattle.aio_model.specs.LoopFlags.{flags_of, are_due}
 use Rattle.aio_model.specs.LoopLists.{seat_of, out_of}
 use Rattle.aio_model.specs.LoopLegal.{IsLegal}
@@ -14,19 +14,19 @@ use Rattle.aio_core.specs.Words.{head_at, notified_at, notify_me_at, notifier_at
 use Rattle.aio_core.specs.Known.{Kind, EnqueueFetchOr, HeadLoad, NextStore, HeadCompare, TakeSwap, NextLoad, DequeueFetchAnd, CancelFetchAnd, NotifiedStore, NotifyMeLoad, NotifierSwap, LotClaimCompare, LotFreeStore, Done, Known, part_of}
 
 -- what a call of this kind asks
-abbrev pub asked_by : asking.Kind → Asked
+abbrev pub asked_by : asking.Kind → EnqueueAsks
 asked_by Sched = ToCall
 asked_by Idle = ToCallIdle
 asked_by Del = ToDelete
 
 -- the bits that an enqueue sets
-abbrev pub mask_of : Asked → ℕ
+abbrev pub mask_of : EnqueueAsks → ℕ
 mask_of ToCall = 3
 mask_of ToCallIdle = 19
 mask_of ToDelete = 5
 mask_of ToCallOnce = 11
 
-abbrev pub asked_with : ℕ → Asked
+abbrev pub asked_with : ℕ → EnqueueAsks
 asked_with mask =
     if mask == 3 then ToCall else if mask == 19 then ToCallIdle else if mask == 5 then ToDelete else ToCallOnce
 
@@ -58,7 +58,7 @@ after_enqueue i flags = if flags.pending then ToStore (ForIndex i) else Announce
 -- Steps of any seat.
 
 -- the index was asked this, and had these flags
-pub record Enqueues (i : ℕ) (asked : Asked) (flags : Flags) (before after : Known) : Type 0 where
+pub record Enqueues (i : ℕ) (asked : EnqueueAsks) (flags : Flags) (before after : Known) : Type 0 where
   pub makes : Makes (Enqueue i asked before.first flags) before after
   pub rest : after ≡ record before { seen = after.seen; mine = after.mine; did = done EnqueueFetchOr (flags_at i) (word_of flags) ∷ before.did; phase = after_enqueue i flags }
 

@@ -8,7 +8,7 @@ use Rattle.aio_chain.proofs.Steps.{contains-without_same, contains-from_without}
 use Rattle.aio_handlers.specs.declared.places.Slot.{Slot}
 use Rattle.aio_handlers.specs.declared.places.Places.{Places}
 use Rattle.aio_handlers.specs.Slots.{or_no_slot, key_of, slot_of, id_at}
-use Rattle.aio_handlers.specs.Placing.{HasSlot, AllHaveSlots, Puts, Takes}
+use Rattle.aio_handlers.specs.Placing.{HasSlot, AllHaveSlots, Puts, TakesEvent}
 use Rattle.aio_handlers.proofs.Watched.{contains-push_other}
 
 -- where an event has no handler, fewer than all have one
@@ -62,7 +62,7 @@ module _ (old new : Places) (live : List ℕ) (have : AllHaveSlots old live) (ev
           ];
         }
 
-  module _ (takes : Takes old new event) (here : contains event live ≡ true) (added : ℕ) (numbered : AreNumbered (slot_of old) live added) where
+  module _ (takes : TakesEvent old new event) (here : contains event live ≡ true) (added : ℕ) (numbered : AreNumbered (slot_of old) live added) where
     left : (k : ℕ) → contains k (without event live) ≡ true → contains k live ≡ true
     left k h = contains-from_without k event live h
 

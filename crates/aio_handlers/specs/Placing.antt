@@ -22,6 +22,6 @@ pub record Puts (old new : Places) (event : ℕ) (slot : Slot) : Type 0 where
   pub have : (other : ℕ) → other ≢ event → HasSlot old other → HasSlot new other
 
 -- what lies under other keys than the event's is as it was
-pub record Takes (old new : Places) (event : ℕ) : Type 0 where
+pub record TakesEvent (old new : Places) (event : ℕ) : Type 0 where
   pub others : (other : ℕ) → key_of old other ≢ key_of old event → slot_of new other ≡ slot_of old other
   pub have : (other : ℕ) → key_of old other ≢ key_of old event → HasSlot old other → HasSlot new other

@@ -2,7 +2,7 @@
 ghost use Rattle.std.specs.Prelude.{◌≡◌, ◌+◌, ◌<◌, ◌≤◌, length, IfOk};
 ghost use Rattle.slab.specs.Slab.{slab_len, HasRoomFor};
 ghost use Rattle.aio_handlers.specs.Slots.{slot_of};
-ghost use Rattle.aio_handlers.specs.Placing.{HasSlot, Puts, Takes};
+ghost use Rattle.aio_handlers.specs.Placing.{HasSlot, Puts, TakesEvent};
 
 use slab::Slab;
 use std::alloc::{AllocError, Global};
@@ -58,7 +58,7 @@ impl Places {
     pub(crate) fn take(&mut self, event: u32) -> Slot
         requires { HasSlot self.old event }
         ensures was { result ≡ slot_of self.old event }
-        ensures takes { Takes self.old self.new event }
+        ensures takes { TakesEvent self.old self.new event }
         ensures sized { length self.new.keys.items ≡ length self.old.keys.items }
         ensures filled { slab_len self.new.slab + 1 ≡ slab_len self.old.slab }
         ensures holds { self.new.slab.capacity ≡ self.old.slab.capacity }

@@ -7,11 +7,11 @@ use Rattle.aio_core.specs.Known.{Known, Sleep, Running, Scanning, Armed, ToDisar
 use Rattle.aio_core.specs.SleepSteps.{LoadsEvent, after_any_load}
 use Rattle.aio_core.specs.Calls.{TableState, SeatState, IsSeatOf}
 use Rattle.aio_notify.specs.Watching.{watches, LooksAt, FindsBits}
-use Rattle.aio_bh.specs.Running.{GivesBack}
+use Rattle.aio_bh.specs.Running.{SeatComesBack}
 use Rattle.aio_loop.specs.Homes.{IsHomeFree}
 
 -- behind an entry into the runner
-pub free_behind : (table : TableState) (made : History) (a b : SeatState) → IsHomeFree table a → IsSeatOf table b → GivesBack made a.known b.known → IsHomeFree table b
+pub free_behind : (table : TableState) (made : History) (a b : SeatState) → IsHomeFree table a → IsSeatOf table b → SeatComesBack made a.known b.known → IsHomeFree table b
 free_behind table made a b free of back = record {
   of_table = of;
   rest = ap (λ (k : Known). k.phase) back.rest ∙ free.rest;
@@ -19,7 +19,7 @@ free_behind table made a b free of back = record {
   empty = ap (λ (k : Known). k.stage) back.rest ∙ free.empty;
 }
 
-pub legal_behind : (table : TableState) (made : History) (a b : SeatState) → IsHomeFree table a → GivesBack made a.known b.known → IsLegal table.sizes b.known.seen
+pub legal_behind : (table : TableState) (made : History) (a b : SeatState) → IsHomeFree table a → SeatComesBack made a.known b.known → IsLegal table.sizes b.known.seen
 legal_behind table made a b free back =
     subst (λ s. IsLegal s b.known.seen) free.of_table.sizes back.legal
 

@@ -7,10 +7,10 @@ use Rattle.aio_model.specs.declared.timer_calls.TimerCall.{TimerCall}
 use Rattle.aio_handlers.specs.StandsFor as handlers_as
 use Rattle.aio_timers.specs.StandsFor as timers_as
 use Rattle.aio_core.specs.Known.{Known}
-use Rattle.aio_bh.specs.Running.{GivesBack}
-use Rattle.aio_bh.proofs.Lent.{GivesBack-nothing}
+use Rattle.aio_bh.specs.Running.{SeatComesBack}
+use Rattle.aio_bh.proofs.Lent.{SeatComesBack-nothing}
 use Rattle.aio_loop.specs.declared.side.Side.{Side}
-use Rattle.aio_loop.specs.Entering.{LoopLent, LoopEntered, Each, is_callees_on_handlers, is_callees_on_timers, ChangesSide, RunsOneEntry}
+use Rattle.aio_loop.specs.Entering.{LoopLent, LoopEntered, EachPasses, is_callees_on_handlers, is_callees_on_timers, ChangesSide, RunsOneEntry}
 
 -- the side was left alone
 pub changes_nothing : (side : Side) → ChangesSide [] [] side side
@@ -43,7 +43,7 @@ changes_timers on_timers before after stands room same = record {
 }
 
 -- one entry, from what was made through the seat and what was done to the side
-pub runs_entry : {R : Type 0} (does : R → LoopEntered → R → Type 0) (what : LoopLent) (runner runner_after : R) (side side_after : Side) (a b : Known) (made : History) (on_handlers : List HandlerCall) (on_timers : List TimerCall) → GivesBack made a b → Each is_callees_on_handlers on_handlers → Each is_callees_on_timers on_timers → ChangesSide on_handlers on_timers side side_after → does runner (record { what = what; made = made; on_handlers = on_handlers; on_timers = on_timers }) runner_after → RunsOneEntry does what runner side a runner_after side_after b
+pub runs_entry : {R : Type 0} (does : R → LoopEntered → R → Type 0) (what : LoopLent) (runner runner_after : R) (side side_after : Side) (a b : Known) (made : History) (on_handlers : List HandlerCall) (on_timers : List TimerCall) → SeatComesBack made a b → EachPasses is_callees_on_handlers on_handlers → EachPasses is_callees_on_timers on_timers → ChangesSide on_handlers on_timers side side_after → does runner (record { what = what; made = made; on_handlers = on_handlers; on_timers = on_timers }) runner_after → RunsOneEntry does what runner side a runner_after side_after b
 runs_entry does what runner runner_after side side_after a b made on_handlers on_timers back of_handlers of_timers changes did =
     record {
       made = made;
@@ -59,9 +59,9 @@ runs_entry does what runner runner_after side side_after a b made on_handlers on
     }
 
 -- what a callee makes where it leaves the seat alone
-pub gives_back_nothing : (sizes : Sizes) (a : Known) → a.sizes ≡ sizes → IsLegal sizes a.seen → GivesBack [] a a
+pub gives_back_nothing : (sizes : Sizes) (a : Known) → a.sizes ≡ sizes → IsLegal sizes a.seen → SeatComesBack [] a a
 gives_back_nothing sizes a same legal =
-    GivesBack-nothing a (subst (λ s. IsLegal s a.seen) (sym same) legal)
+    SeatComesBack-nothing a (subst (λ s. IsLegal s a.seen) (sym same) legal)
 
 -- one entry whose callee leaves the seat and the side alone
 pub runs_alone : {R : Type 0} (does : R → LoopEntered → R → Type 0) (what : LoopLent) (runner runner_after : R) (side : Side) (a : Known) (sizes : Sizes) → a.sizes ≡ sizes → IsLegal sizes a.seen → does runner (record { what = what; made = []; on_handlers = []; on_timers = [] }) runner_after → RunsOneEntry does what runner side a runner_after side a

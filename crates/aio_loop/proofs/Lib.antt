@@ -2,4 +2,4 @@ mod Behind
 pub mod Callees
 pub mod Logged
 mod Pairs
-mod SoFar
+mod TurnParts

@@ -1,9 +1,9 @@
 -- What a turn does to its runner, as one list of entries.
 use Rattle.std.proofs.Common.{ℕ, zero, suc, Bool, List, [], ◌∷◌, ◌++◌, refl, sym, ap, subst}
-use Rattle.aio_model.specs.LoopFrame.{Entered, Runs}
+use Rattle.aio_model.specs.LoopFrame.{Entered, DoesEntries}
 use Rattle.lot_pool.specs.Pools.{PoolState, PassState}
 use Rattle.aio_loop.specs.declared.turned.Turned.{Turned}
-use Rattle.aio_loop.specs.Entering.{LoopEntered, ForBottom, ForReady, ForExpired, WithSide, does_bottom, Each}
+use Rattle.aio_loop.specs.Entering.{LoopEntered, ForBottom, ForReady, ForExpired, WithSide, does_bottom, EachPasses}
 use Rattle.aio_loop.specs.Walks.{LoopFar, EntersEachReady}
 use Rattle.aio_loop.specs.Expiring.{EntersEachExpired}
 use Rattle.aio_loop.specs.Turns.{Turns}
@@ -22,7 +22,7 @@ kept_by_log does Keeps step [] x y runs kept = subst Keeps (sym runs) kept
 kept_by_log does Keeps step (entered ∷ log) x y runs kept =
     step runs.0 y entered runs.2 (kept_by_log does Keeps step log x runs.0 runs.1 kept)
 
-log_of_poll : {R : Type 0} (does : R → LoopEntered → R → Type 0) (entries : List Entered) (x y : WithSide R) → Runs (does_bottom does) x entries y → (log : List LoopEntered) × Each (λ (e : LoopEntered). is_bottom e.what) log × RunsLog does x.runner log y.runner
+log_of_poll : {R : Type 0} (does : R → LoopEntered → R → Type 0) (entries : List Entered) (x y : WithSide R) → DoesEntries (does_bottom does) x entries y → (log : List LoopEntered) × EachPasses (λ (e : LoopEntered). is_bottom e.what) log × RunsLog does x.runner log y.runner
 log_of_poll does [] x y runs = ([], refl, ap (λ b. b.runner) runs)
 log_of_poll does (e ∷ entries) x y runs =
     let before = log_of_poll does entries x runs.0 runs.1 in
@@ -32,7 +32,7 @@ log_of_poll does (e ∷ entries) x y runs =
       (runs.0.runner, before.2, entry.did),
     )
 
-log_of_walk : {R : Type 0} (does : R → LoopEntered → R → Type 0) (events count : ℕ) (x y : LoopFar R) → EntersEachReady does events count x y → (log : List LoopEntered) × Each (λ (e : LoopEntered). is_ready e.what) log × RunsLog does x.runner log y.runner
+log_of_walk : {R : Type 0} (does : R → LoopEntered → R → Type 0) (events count : ℕ) (x y : LoopFar R) → EntersEachReady does events count x y → (log : List LoopEntered) × EachPasses (λ (e : LoopEntered). is_ready e.what) log × RunsLog does x.runner log y.runner
 log_of_walk does events zero x y enters =
     ([], refl, ap (λ far. far.runner) enters)
 log_of_walk does events (suc count) x y enters =
@@ -44,7 +44,7 @@ log_of_walk does events (suc count) x y enters =
       (enters.0.runner, before.2, entry.did),
     )
 
-log_of_run : {R : Type 0} (does : R → LoopEntered → R → Type 0) (count : ℕ) (x y : LoopFar R) → EntersEachExpired does count x y → (log : List LoopEntered) × Each (λ (e : LoopEntered). is_expired e.what) log × RunsLog does x.runner log y.runner
+log_of_run : {R : Type 0} (does : R → LoopEntered → R → Type 0) (count : ℕ) (x y : LoopFar R) → EntersEachExpired does count x y → (log : List LoopEntered) × EachPasses (λ (e : LoopEntered). is_expired e.what) log × RunsLog does x.runner log y.runner
 log_of_run does zero x y enters = ([], refl, ap (λ far. far.runner) enters)
 log_of_run does (suc count) x y enters =
     let before = log_of_run does count x enters.0 enters.1 in

@@ -11,7 +11,7 @@ use Rattle.aio_handlers.specs.StandsFor as handlers_as
 use Rattle.aio_timers.specs.declared.timers.TimerId.{TimerId}
 use Rattle.aio_timers.specs.StandsFor as timers_as
 use Rattle.aio_core.specs.Known.{Known}
-use Rattle.aio_bh.specs.Running.{GivesBack}
+use Rattle.aio_bh.specs.Running.{SeatComesBack}
 use Rattle.aio_loop.specs.declared.side.Side.{Side}
 
 -- what the runner is entered for
@@ -40,9 +40,9 @@ is_callees_on_timers (of_timers.Arm timer expire) = true
 is_callees_on_timers (of_timers.Disarm timer) = true
 is_callees_on_timers _ = false
 
-abbrev pub Each : {A : Type 0} → (A → Bool) → List A → Type 0
-Each test [] = true ≡ true
-Each test (item ∷ rest) = (test item ≡ true) × Each test rest
+abbrev pub EachPasses : {A : Type 0} → (A → Bool) → List A → Type 0
+EachPasses test [] = true ≡ true
+EachPasses test (item ∷ rest) = (test item ≡ true) × EachPasses test rest
 
 -- the handlers and the timers are as these calls leave them, and the walk is under way or not as before
 pub record ChangesSide (on_handlers : List HandlerCall) (on_timers : List TimerCall) (before after : Side) : Type 0 where
@@ -56,15 +56,15 @@ pub record ChangesSide (on_handlers : List HandlerCall) (on_timers : List TimerC
 pub record EntersFor {R : Type 0} (does : R → LoopEntered → R → Type 0) (what : LoopLent) (made : History) (runner : R) (side : Side) (runner_after : R) (side_after : Side) : Type 0 where
   pub on_handlers : List HandlerCall
   pub on_timers : List TimerCall
-  pub callees_on_handlers : Each is_callees_on_handlers on_handlers
-  pub callees_on_timers : Each is_callees_on_timers on_timers
+  pub callees_on_handlers : EachPasses is_callees_on_handlers on_handlers
+  pub callees_on_timers : EachPasses is_callees_on_timers on_timers
   pub changes : ChangesSide on_handlers on_timers side side_after
   pub did : does runner (record { what = what; made = made; on_handlers = on_handlers; on_timers = on_timers }) runner_after
 
 -- the seat was lent for one entry, and came back
 pub record RunsOneEntry {R : Type 0} (does : R → LoopEntered → R → Type 0) (what : LoopLent) (runner : R) (side : Side) (before : Known) (runner_after : R) (side_after : Side) (after : Known) : Type 0 where
   pub made : History
-  pub back : GivesBack made before after
+  pub back : SeatComesBack made before after
   pub enters : EntersFor does what made runner side runner_after side_after
 
 -- a runner with the side

@@ -2,7 +2,7 @@
 use Rattle.std.specs.Prelude.{◌≡◌, ℕ, zero, suc, ◌≤◌, nat_lt, Bool, List, ◌∷◌}
 use Rattle.aio_model.specs.declared.timer_calls.TimerCall.{TimerCall}
 use Rattle.aio_model.specs.declared.timer_calls.TimerCall.TheVariants.{RunBegin, Give}
-use Rattle.aio_model.specs.TimerCalls.{is_marked, IsFirst, IsNone}
+use Rattle.aio_model.specs.TimerCalls.{is_marked, IsFirstOfKind, IsNone}
 use Rattle.aio_timers.specs.declared.timers.TimerId.{TimerId}
 use Rattle.aio_timers.specs.StandsFor.{StandsFor}
 use Rattle.aio_loop.specs.declared.side.Side.{Side}
@@ -16,7 +16,7 @@ pub record OneTimerCall (call : TimerCall) (before after : Side) : Type 0 where
 
 -- the run gave its first timer, and then the runner was entered for it
 pub record EntersExpired {R : Type 0} (does : R → LoopEntered → R → Type 0) (id : TimerId) (before after : LoopFar R) : Type 0 where
-  pub first : (calls : List TimerCall) → StandsFor before.side.timers calls → IsFirst is_marked calls id.number
+  pub first : (calls : List TimerCall) → StandsFor before.side.timers calls → IsFirstOfKind is_marked calls id.number
   pub given : Side
   pub gives : OneTimerCall (Give id.number) before.side given
   pub runs : RunsOneEntry does (ForExpired id) before.runner given before.known after.runner after.side after.known

@@ -9,7 +9,7 @@ use Rattle.aio_model.specs.declared.replies.Reply.TheVariants.{Put, Zeroed, Eio}
 use Rattle.aio_model.specs.declared.replies.Placed.{Placed}
 use Rattle.aio_model.specs.declared.scripts.Step.{Step}
 use Rattle.aio_model.specs.Asked.{Asked, asked, request_named}
-use Rattle.aio_model.specs.Serving.{put_at, Answers, Fits, bytes_after}
+use Rattle.aio_model.specs.Serving.{put_at, MayAnswer, Fits, bytes_after}
 use Rattle.aio_model.specs.SerialHistory.{asked_name, placed_name, bytes_behind, bytes_left, FitAlong, IsSerialHistory}
 use Rattle.aio_model.proofs.PutAt.{length-put_at, drop-put_at}
 use Rattle.aio_model.proofs.Names.{CountsFrom-asked}
@@ -69,7 +69,7 @@ module _ (asked : List Asked) where
       taken-le : (k : ℕ) (piece : List ℕ) → length (take k piece) ≤ length piece
       taken-le k piece = simp length-take (omega arith)
 
-      bytes_after-keeps : (request : Request) (reply : Reply) → Answers size request reply → KeepsRest (bytes_after request reply bytes)
+      bytes_after-keeps : (request : Request) (reply : Reply) → MayAnswer size request reply → KeepsRest (bytes_after request reply bytes)
       unfolding KeepsRest
       bytes_after-keeps (Write at piece) (Put n) h = put_at-keeps at piece h.0
       bytes_after-keeps (Write at piece) (Eio k) h = put_at-keeps at (take k piece) (omega (arith, taken-le k piece, h.0))

@@ -2,7 +2,7 @@
 use Rattle.std.proofs.Common.{◌≡◌, ℕ, ◌+◌, ◌<◌, ◌≤◌, Bool, true, false, not, ◌&&◌, ◌||◌, eqb, ltb, [], ◌∷◌, ◌++◌, length, length-append, Some, refl, arith}
 use Rattle.std.proofs.lemmas.Bool.{eq-eqb, lt-ltb}
 use Rattle.aio_model.specs.FlagsWord.{bit}
-use Rattle.aio_model.specs.LoopHistory.{Sizes, Asked, ToCall, ToCallIdle, ToDelete, ToCallOnce, New, Enqueue, Put, Cancel, Take, Dequeue, Free, SetEvent, ClearEvent, History}
+use Rattle.aio_model.specs.LoopHistory.{Sizes, EnqueueAsks, ToCall, ToCallIdle, ToDelete, ToCallOnce, New, Enqueue, Put, Cancel, Take, Dequeue, Free, SetEvent, ClearEvent, History}
 use Rattle.aio_model.specs.LoopFlags.{has_life, lives, is_lot, was_dequeued, is_pending}
 use Rattle.aio_model.specs.LoopLists.{was_put, is_announced, claimer_of, stack_of, taken_of, dequeue_count, out_of, head_of}
 use Rattle.aio_model.specs.LoopLegal.{MayFollow, MayAsk, IsLegal}
@@ -83,13 +83,13 @@ module _ (sizes : Sizes) where
   dead_is_not_pending i P f lot dead =
       dead-idle (ltb i sizes.handles) (lives i P) _ (is_pending i P) lot dead f.alive
 
-  lot_not_dequeued : (i : ℕ) (P : History) (asked : Asked) (s : ℕ) → Fits sizes i P → MayAsk sizes i asked s P → is_lot sizes i ≡ true → was_dequeued i P ≡ false
+  lot_not_dequeued : (i : ℕ) (P : History) (asked : EnqueueAsks) (s : ℕ) → Fits sizes i P → MayAsk sizes i asked s P → is_lot sizes i ≡ true → was_dequeued i P ≡ false
   lot_not_dequeued i P ToCallOnce s f h lot = (f.fresh s h.1).1
   lot_not_dequeued i P ToCall s f h lot = absurd (lot_is_no_handle i lot h)
   lot_not_dequeued i P ToCallIdle s f h lot = absurd (lot_is_no_handle i lot h)
   lot_not_dequeued i P ToDelete s f h lot = absurd (lot_is_no_handle i lot h)
 
-  enqueue_same : (P : History) (i : ℕ) (asked : Asked) (s : ℕ) (was : _) → Fits sizes i P → MayFollow sizes (Enqueue i asked s was) P → Fits sizes i (Enqueue i asked s was ∷ P)
+  enqueue_same : (P : History) (i : ℕ) (asked : EnqueueAsks) (s : ℕ) (was : _) → Fits sizes i P → MayFollow sizes (Enqueue i asked s was) P → Fits sizes i (Enqueue i asked s was ∷ P)
   enqueue_same P i asked s was f h =
       let e : eqb i i ≡ true = eq-eqb i i refl in
       record {
@@ -100,7 +100,7 @@ module _ (sizes : Sizes) where
         done = rw e (λ lot d. absurd (let n = lot_not_dequeued i P asked s f h.2 lot in cc));
       }
 
-  enqueue_other : (P : History) (i j : ℕ) (asked : Asked) (s : ℕ) (was : _) → Fits sizes i P → eqb i j ≡ false → Fits sizes i (Enqueue j asked s was ∷ P)
+  enqueue_other : (P : History) (i j : ℕ) (asked : EnqueueAsks) (s : ℕ) (was : _) → Fits sizes i P → eqb i j ≡ false → Fits sizes i (Enqueue j asked s was ∷ P)
   enqueue_other P i j asked s was f e =
       record {
         once = rw e f.once;

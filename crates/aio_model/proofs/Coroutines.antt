@@ -2,11 +2,11 @@
 use Rattle.std.proofs.Common.{◌≡◌, ℕ, Bool, true, false, cond, ◌||◌, eqb, List, [], ◌∷◌, ◌++◌, drop, refl, sym, ap, ◌∙◌, append_assoc}
 use Rattle.std.proofs.lemmas.Bool.{eq-eqb}
 use Rattle.aio_model.specs.declared.causes.Cause.{Cause}
-use Rattle.aio_model.specs.CoroutineHistory.{Schedule, Push, Enter, History, Place, Free, Scheduled, Pushed, pushed, place_of, queue_of, IsLegal}
+use Rattle.aio_model.specs.CoroutineHistory.{Schedule, Push, Enter, History, CoPlace, Free, Scheduled, Pushed, pushed, place_of, queue_of, IsLegal}
 use Rattle.aio_model.specs.CoroutineLaws.{pushed_of, entered_of, IsInOrder, enters, some_entry, IsEnteredBetween}
 use Rattle.aio_model.proofs.Indices.{drop-head}
 
-abbrev pub is_free : Place → Bool
+abbrev pub is_free : CoPlace → Bool
 is_free Free = true
 is_free (Scheduled seat given) = false
 is_free (Pushed seat given) = false
@@ -23,20 +23,20 @@ pub legal_cut : (n : ℕ) (newer older : History) → IsLegal n (newer ++ older)
 legal_cut n [] older h = h
 legal_cut n (e ∷ newer) older h = legal_cut n newer older h.1
 
-is_free-pushed : (p : Place) → is_free (pushed p) ≡ is_free p
+is_free-pushed : (p : CoPlace) → is_free (pushed p) ≡ is_free p
 is_free-pushed Free = refl
 is_free-pushed (Scheduled s g) = refl
 is_free-pushed (Pushed s g) = refl
 
-scheduled_on : (b : Bool) (s : ℕ) (g : Bool) (p : Place) → is_free p ≡ false → is_free (cond b (Scheduled s g) p) ≡ false
+scheduled_on : (b : Bool) (s : ℕ) (g : Bool) (p : CoPlace) → is_free p ≡ false → is_free (cond b (Scheduled s g) p) ≡ false
 scheduled_on true s g p older = refl
 scheduled_on false s g p older = older
 
-pushed_on : (b : Bool) (p : Place) → is_free p ≡ false → is_free (cond b (pushed p) p) ≡ false
+pushed_on : (b : Bool) (p : CoPlace) → is_free p ≡ false → is_free (cond b (pushed p) p) ≡ false
 pushed_on true p older = is_free-pushed p ∙ older
 pushed_on false p older = older
 
-entered_on : (b rest : Bool) (p : Place) → (b || rest) ≡ false → (rest ≡ false → is_free p ≡ false) → is_free (cond b Free p) ≡ false
+entered_on : (b rest : Bool) (p : CoPlace) → (b || rest) ≡ false → (rest ≡ false → is_free p ≡ false) → is_free (cond b Free p) ≡ false
 entered_on true rest p none older = absurd cc
 entered_on false rest p none older = older none
 

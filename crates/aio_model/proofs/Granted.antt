@@ -9,7 +9,7 @@ use Rattle.aio_model.specs.declared.holds.RwAnswer.TheVariants.{Got, Queued}
 use Rattle.aio_model.specs.declared.holds.Wish.{Wish}
 use Rattle.aio_model.specs.declared.holds.Wish.TheVariants as wish
 use Rattle.aio_model.specs.Readers.{Holders, Readers, Writer, Ticket, ReadersWriter, is_reader, other_readers, waits_by, waiting, hold_in, hold_of}
-use Rattle.aio_model.specs.Holds.{Has, granted, after_wake, OnlyGranted, answered, AreApart, AreOnce, IsSettled}
+use Rattle.aio_model.specs.Holds.{Has, granted, after_wake, OnlyGranted, answered, WriterIsAlone, ReadersAreOnce, IsSettled}
 use Rattle.aio_model.specs.RwTable.{Woke, with_ticket, read_by, read_locked, written_by, write_locked, granted_to, wake_first, wake_one, without_holder, released, unlocked, with_reader, downgraded, stepped_back, upgraded_by, upgraded}
 
 -- Who writes is alone.
@@ -37,7 +37,7 @@ apart_in i j (Readers readers) wi wj li lj e h = absurd (not_written (is_reader 
 apart_in i j (Writer w) wi wj li lj e h =
     eqb-true i w (test_writes (eqb i w) wi li (subst Has (sym e) tt)) ∙ sym (eqb-true j w (test_writes (eqb j w) wj lj h))
 
-pub writer_alone : (state : ReadersWriter) → AreApart (hold_of state)
+pub writer_alone : (state : ReadersWriter) → WriterIsAlone (hold_of state)
 writer_alone state i j e h =
     apart_in i j state.holders (waiting i state.tickets) (waiting j state.tickets) (waits_only i state.tickets) (waits_only j state.tickets) e h
 

@@ -8,7 +8,7 @@ use Rattle.aio_model.specs.declared.holds.RwAnswer.TheVariants.{Got, Queued}
 use Rattle.aio_model.specs.declared.holds.Wish.{Wish}
 use Rattle.aio_model.specs.declared.holds.Wish.TheVariants as wish
 use Rattle.aio_model.specs.Readers.{Holders, Readers, Writer, Ticket, ReadersWriter, is_reader, other_readers, waits_by, waiting, hold_in, hold_of}
-use Rattle.aio_model.specs.Holds.{Has, Waits, granted, after_wake, answered, AreOnce, IsOrderly, IsSettled}
+use Rattle.aio_model.specs.Holds.{Has, HasTicket, granted, after_wake, answered, ReadersAreOnce, IsOrderly, IsSettled}
 use Rattle.aio_model.specs.RwTable.{Woke, Exchanged, queued_again, with_ticket, read_by, read_locked, written_by, write_locked, granted_to, wake_first, wake_one, without_holder, released, unlocked, with_reader, downgraded, stepped_back, upgraded_by, upgraded}
 use Rattle.aio_model.proofs.Granted.{waits-nonfree, waits_only, not_written, test_writes, reader_added-same, reader_added-other, reader_gone-same, reader_gone-other, ticket_added-same, ticket_added-other, granted_no_more, wakes}
 use Rattle.aio_model.proofs.Orderly.{free_parts, free_no_reader, admits_reader, admits_writer, queues, releases, wake_keeps, wake_settles}
@@ -179,17 +179,17 @@ module _ (state : ReadersWriter) (ok : IsOrderly state) (who : ℕ) (writes : ho
 
 -- Who is woken waited, and holds.
 
-wish_waits : (wish : Wish) → Waits (waits_by wish)
+wish_waits : (wish : Wish) → HasTicket (waits_by wish)
 wish_waits wish.Read = tt
 wish_waits wish.Write = tt
 
-owner_waits : (who : ℕ) (wish : Wish) (rest : List Ticket) → Waits (waiting who (record { owner = who; wish = wish } ∷ rest))
+owner_waits : (who : ℕ) (wish : Wish) (rest : List Ticket) → HasTicket (waiting who (record { owner = who; wish = wish } ∷ rest))
 owner_waits who wish rest =
     let e : eqb who who ≡ true = eq-eqb who who refl in
-    subst (λ b. Waits (cond b (waits_by wish) (waiting who rest))) (sym e) (wish_waits wish)
+    subst (λ b. HasTicket (cond b (waits_by wish) (waiting who rest))) (sym e) (wish_waits wish)
 
 abbrev GrantsWaiting : ReadersWriter → Woke → Type 0
-GrantsWaiting state woke = IfSome woke.woken (λ w. Waits (waiting w state.tickets) × Has (hold_of woke.state w))
+GrantsWaiting state woke = IfSome woke.woken (λ w. HasTicket (waiting w state.tickets) × Has (hold_of woke.state w))
 
 granted_waited : (room who : ℕ) (wish : Wish) (holders : Holders) (rest : List Ticket)
     → let state : ReadersWriter = record { room = room; holders = holders; tickets = record { owner = who; wish = wish } ∷ rest } in GrantsWaiting state (granted_to who wish state holders rest)
@@ -204,27 +204,27 @@ woke_waited : (room : ℕ) (holders : Holders) (tickets : List Ticket) → let s
 woke_waited room holders [] = tt
 woke_waited room holders (t ∷ ts) = granted_waited room t.owner t.wish holders ts
 
-free_waits_not : (hold : Hold) → Waits hold → hold ≡ Free → ⊥
-free_waits_not hold waits e = subst Waits e waits
+free_waits_not : (hold : Hold) → HasTicket hold → hold ≡ Free → ⊥
+free_waits_not hold waits e = subst HasTicket e waits
 
 -- who waits holds nothing
-waits_shown : (state : ReadersWriter) → IsOrderly state → (who : ℕ) → Waits (waiting who state.tickets) → hold_of state who ≡ waiting who state.tickets
+waits_shown : (state : ReadersWriter) → IsOrderly state → (who : ℕ) → HasTicket (waiting who state.tickets) → hold_of state who ≡ waiting who state.tickets
 waits_shown state ok who waits = held_free who state.holders (waiting who state.tickets) (lacking who state.holders (λ has. free_waits_not _ waits (ok.apart who has)))
 
 -- Who a wake grants a hold waited in a state with the same ticket of its.
-pub woken_of : (state before : ReadersWriter) → IsOrderly before → ((w : ℕ) → Waits (waiting w state.tickets) → waiting w state.tickets ≡ waiting w before.tickets) → IfSome (wake_one state).woken (λ w. Waits (hold_of before w) × Has (hold_of (wake_one state).state w))
+pub woken_of : (state before : ReadersWriter) → IsOrderly before → ((w : ℕ) → HasTicket (waiting w state.tickets) → waiting w state.tickets ≡ waiting w before.tickets) → IfSome (wake_one state).woken (λ w. HasTicket (hold_of before w) × Has (hold_of (wake_one state).state w))
 woken_of state before ok same = by_woken (wake_one state).woken (woke_waited state.room state.holders state.tickets)
   where
-    by_woken : (woken : Option ℕ) → IfSome woken (λ w. Waits (waiting w state.tickets) × Has (hold_of (wake_one state).state w)) → IfSome woken (λ w. Waits (hold_of before w) × Has (hold_of (wake_one state).state w))
+    by_woken : (woken : Option ℕ) → IfSome woken (λ w. HasTicket (waiting w state.tickets) × Has (hold_of (wake_one state).state w)) → IfSome woken (λ w. HasTicket (hold_of before w) × Has (hold_of (wake_one state).state w))
     by_woken None h = tt
     by_woken (Some w) h =
-        let waits : Waits (waiting w before.tickets) = subst Waits (same w h.0) h.0 in
-        (subst Waits (sym (waits_shown before ok w waits)) waits, h.1)
+        let waits : HasTicket (waiting w before.tickets) = subst HasTicket (same w h.0) h.0 in
+        (subst HasTicket (sym (waits_shown before ok w waits)) waits, h.1)
 
-pub unlocked-woken : (state : ReadersWriter) → IsOrderly state → (who : ℕ) → IfSome (unlocked who state).woken (λ w. Waits (hold_of state w) × Has (hold_of (unlocked who state).state w))
+pub unlocked-woken : (state : ReadersWriter) → IsOrderly state → (who : ℕ) → IfSome (unlocked who state).woken (λ w. HasTicket (hold_of state w) × Has (hold_of (unlocked who state).state w))
 unlocked-woken state ok who = woken_of (released who state) state ok (λ w waits. refl)
 
-pub downgraded-woken : (state : ReadersWriter) → IsOrderly state → (who : ℕ) → IfSome (downgraded who state).woken (λ w. Waits (hold_of state w) × Has (hold_of (downgraded who state).state w))
+pub downgraded-woken : (state : ReadersWriter) → IsOrderly state → (who : ℕ) → IfSome (downgraded who state).woken (λ w. HasTicket (hold_of state w) × Has (hold_of (downgraded who state).state w))
 downgraded-woken state ok who = woken_of (with_reader who state) state ok (λ w waits. refl)
 
 -- Stepping back from reading to writing.
@@ -259,15 +259,15 @@ module _ (state : ReadersWriter) (ok : IsOrderly state) (who : ℕ) (has : Has (
       ∙ ap (λ h. after_wake (wake_one (stepped_back who state)).woken who h) (queued-same who wish.Write (without_holder who state.holders) state.tickets (released-own state ok who has))
       ∙ other_woken who (wake_one (stepped_back who state)).woken WaitsWrite ne
 
-  pub stepped_back-woken : (wake_one (stepped_back who state)).woken ≢ Some who → IfSome (wake_one (stepped_back who state)).woken (λ w. Waits (hold_of state w) × Has (hold_of (wake_one (stepped_back who state)).state w))
+  pub stepped_back-woken : (wake_one (stepped_back who state)).woken ≢ Some who → IfSome (wake_one (stepped_back who state)).woken (λ w. HasTicket (hold_of state w) × Has (hold_of (wake_one (stepped_back who state)).state w))
   stepped_back-woken ne = by_woken (wake_one (stepped_back who state)).woken refl (woke_waited state.room (without_holder who state.holders) (stepped_back who state).tickets)
     where
-      by_woken : (woken : Option ℕ) → (wake_one (stepped_back who state)).woken ≡ woken → IfSome woken (λ w. Waits (waiting w (stepped_back who state).tickets) × Has (hold_of (wake_one (stepped_back who state)).state w)) → IfSome woken (λ w. Waits (hold_of state w) × Has (hold_of (wake_one (stepped_back who state)).state w))
+      by_woken : (woken : Option ℕ) → (wake_one (stepped_back who state)).woken ≡ woken → IfSome woken (λ w. HasTicket (waiting w (stepped_back who state).tickets) × Has (hold_of (wake_one (stepped_back who state)).state w)) → IfSome woken (λ w. HasTicket (hold_of state w) × Has (hold_of (wake_one (stepped_back who state)).state w))
       by_woken None is h = tt
       by_woken (Some w) is h =
           let other = ticket_added-other w who wish.Write state.tickets (λ e. ne (is ∙ ap Some e)) in
-          let waits : Waits (waiting w state.tickets) = subst Waits other h.0 in
-          (subst Waits (sym (waits_shown state ok w waits)) waits, h.1)
+          let waits : HasTicket (waiting w state.tickets) = subst HasTicket other h.0 in
+          (subst HasTicket (sym (waits_shown state ok w waits)) waits, h.1)
 
 -- Another's ticket is the first, or a reader is left.
 
@@ -319,7 +319,7 @@ pub record Exchanges (state : ReadersWriter) (who : ℕ) (left : Exchanged) : Ty
   pub settles : IsSettled left.state
   pub own : hold_of left.state who ≡ answered left.answer Writes WaitsWrite
   pub others : (i : ℕ) → i ≢ who → hold_of left.state i ≡ after_wake left.woken i (hold_of state i)
-  pub woken : IfSome left.woken (λ w. Waits (hold_of state w) × Has (hold_of left.state w))
+  pub woken : IfSome left.woken (λ w. HasTicket (hold_of state w) × Has (hold_of left.state w))
   pub room : left.state.room ≡ state.room
 
 pub wakes_room : (state : ReadersWriter) → (wake_one state).state.room ≡ state.room

@@ -3,7 +3,7 @@ use Rattle.std.proofs.Common.{◌≡◌, ℕ, ◌<◌, Bool, true, false, cond, 
 use Rattle.std.proofs.lemmas.Bool.{eq-eqb, lt-ltb, false_from_ne_true}
 use Rattle.aio_model.specs.declared.flags.Flags.{Flags}
 use Rattle.aio_model.specs.declared.bottom_halves.BottomHalf.{BottomHalf}
-use Rattle.aio_model.specs.LoopHistory.{Sizes, Asked, ToCall, ToCallIdle, ToDelete, ToCallOnce, Enqueue, Put, Dequeue, History}
+use Rattle.aio_model.specs.LoopHistory.{Sizes, EnqueueAsks, ToCall, ToCallIdle, ToDelete, ToCallOnce, Enqueue, Put, Dequeue, History}
 use Rattle.aio_model.specs.LoopFlags.{has_life, lives, is_pending, flags_of, is_due, ends_round, enqueues}
 use Rattle.aio_model.specs.LoopLists.{was_put, announcer_of, or_else, out_of, head_of, seat_of}
 use Rattle.aio_model.specs.LoopLegal.{MayFollow}
@@ -24,13 +24,13 @@ no_announcer i [] h = refl
 no_announcer i (e ∷ H) h =
     no_announcer-more (ends_round i e) (enqueues i e) (is_pending i H) (announcer_of i H) (seat_of e) (no_announcer i H) h
 
-half_of-enqueue : (i : ℕ) (asked : Asked) (seat : ℕ) (was : Flags) (H : History) → asked_half (added_by asked) (half_of i H) ≡ half_of i (Enqueue i asked seat was ∷ H)
+half_of-enqueue : (i : ℕ) (asked : EnqueueAsks) (seat : ℕ) (was : Flags) (H : History) → asked_half (added_by asked) (half_of i H) ≡ half_of i (Enqueue i asked seat was ∷ H)
 half_of-enqueue i ToCall seat was H = let e : eqb i i ≡ true = eq-eqb i i refl in rw e refl
 half_of-enqueue i ToCallIdle seat was H = let e : eqb i i ≡ true = eq-eqb i i refl in rw e refl
 half_of-enqueue i ToDelete seat was H = let e : eqb i i ≡ true = eq-eqb i i refl in rw e refl
 half_of-enqueue i ToCallOnce seat was H = let e : eqb i i ≡ true = eq-eqb i i refl in rw e refl
 
-module _ (st : LoopState) (i : ℕ) (asked : Asked) (seat : ℕ) (log : Log) (stands : StandsFor st log) (below : i < length st.halves) (may : MayFollow st.sizes (Enqueue i asked seat (flags_before i log)) (history_of log)) where
+module _ (st : LoopState) (i : ℕ) (asked : EnqueueAsks) (seat : ℕ) (log : Log) (stands : StandsFor st log) (below : i < length st.halves) (may : MayFollow st.sizes (Enqueue i asked seat (flags_before i log)) (history_of log)) where
   enqueued_halves : (j : ℕ) → get_or (set st.halves i (asked_half (added_by asked) (half_at i st))) j blank ≡ half_of j (history_of (asked_log i asked seat log))
   enqueued_halves j =
       by_query i j (λ k. get_or (set st.halves i (asked_half (added_by asked) (half_at i st))) k blank ≡ half_of k (history_of (asked_log i asked seat log))) (rw (get_or-set_same, stands.halves i) (half_of-enqueue i asked seat (flags_before i log) (history_of log))) (λ ne e. rw (get_or-set_other st.halves i j _ blank ne, e) (stands.halves j))

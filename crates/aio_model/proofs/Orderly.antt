@@ -9,7 +9,7 @@ use Rattle.aio_model.specs.declared.holds.Hold.TheVariants.{Free, Reads, Writes,
 use Rattle.aio_model.specs.declared.holds.Wish.{Wish}
 use Rattle.aio_model.specs.declared.holds.Wish.TheVariants as wish
 use Rattle.aio_model.specs.Readers.{Holders, Readers, Writer, Ticket, ReadersWriter, is_reader, other_readers, waits_by, waiting, hold_in, hold_of}
-use Rattle.aio_model.specs.Holds.{Has, AreOnce, WaitOnce, IsOrderly, IsSettled}
+use Rattle.aio_model.specs.Holds.{Has, ReadersAreOnce, WaitOnce, IsOrderly, IsSettled}
 use Rattle.aio_model.specs.RwTable.{Woke, with_ticket, granted_to, wake_first, wake_one, without_holder, released, with_reader}
 use Rattle.aio_model.proofs.Granted.{waits-nonfree, reader_added-same, reader_added-other, reader_gone-same, reader_gone-other, ticket_added-same, ticket_added-other, not_reader}
 

@@ -4,7 +4,7 @@ use Rattle.std.proofs.lemmas.Bool.{false≢true}
 use Rattle.std.proofs.lemmas.Bool.Decides.{nat_tests}
 use Rattle.aio_model.specs.declared.timer_calls.TimerCall.{TimerCall}
 use Rattle.aio_model.specs.declared.timer_calls.TimerCall.TheVariants.{Add, Arm, RunBegin, Give}
-use Rattle.aio_model.specs.TimerCalls.{made, is_armed, expiry, place, is_marked, StandsBefore, IsFirst}
+use Rattle.aio_model.specs.TimerCalls.{made, is_armed, expiry, place, is_marked, StandsBefore, IsFirstOfKind}
 
 -- what the three timers have
 abbrev of_three : {A : Type 0} → (ℕ → List TimerCall → A) → List TimerCall → List A
@@ -62,5 +62,5 @@ third_before (suc (suc zero)) _ e = absurd (e refl)
 third_before (suc (suc (suc n))) h _ =
     absurd (false≢true (sym (not_above (suc (suc (suc n))) (omega arith)) ∙ h))
 
-third_is_first : IsFirst is_marked (RunBegin 100 ∷ three_armed) 2
+third_is_first : IsFirstOfKind is_marked (RunBegin 100 ∷ three_armed) 2
 third_is_first = record { of_kind = refl; before = third_before }

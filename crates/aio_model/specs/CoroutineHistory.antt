@@ -21,17 +21,17 @@ seat_of (Push c seat) = seat
 seat_of (Enter c) = 64
 
 -- Where a coroutine stands: nowhere, scheduled and to be pushed by this seat, or pushed; and whether a state came with it.
-pub data Place : Type 0 where
-  Free : Place
-  Scheduled : ℕ → Bool → Place
-  Pushed : ℕ → Bool → Place
+pub data CoPlace : Type 0 where
+  Free : CoPlace
+  Scheduled : ℕ → Bool → CoPlace
+  Pushed : ℕ → Bool → CoPlace
 
-abbrev pub pushed : Place → Place
+abbrev pub pushed : CoPlace → CoPlace
 pushed Free = Free
 pushed (Scheduled seat given) = Pushed seat given
 pushed (Pushed seat given) = Pushed seat given
 
-abbrev pub place_of : ℕ → History → Place
+abbrev pub place_of : ℕ → History → CoPlace
 place_of c [] = Free
 place_of c (Schedule d cause given seat ∷ older) =
     if c == d then Scheduled seat given else place_of c older

@@ -17,12 +17,12 @@ Has WaitsRead = ⊥
 Has WaitsWrite = ⊥
 
 -- it has a ticket
-abbrev pub Waits : Hold → Type 0
-Waits WaitsRead = Unit {0}
-Waits WaitsWrite = Unit {0}
-Waits Free = ⊥
-Waits Reads = ⊥
-Waits Writes = ⊥
+abbrev pub HasTicket : Hold → Type 0
+HasTicket WaitsRead = Unit {0}
+HasTicket WaitsWrite = Unit {0}
+HasTicket Free = ⊥
+HasTicket Reads = ⊥
+HasTicket Writes = ⊥
 
 -- what a hold becomes when it is granted
 abbrev pub granted : Hold → Hold
@@ -47,13 +47,13 @@ answered Got held waits = held
 answered Queued held waits = waits
 
 -- who writes is alone
-abbrev pub AreApart : (ℕ → Hold) → Type 0
-AreApart hold = (i j : ℕ) → hold i ≡ Writes → Has (hold j) → i ≡ j
+abbrev pub WriterIsAlone : (ℕ → Hold) → Type 0
+WriterIsAlone hold = (i j : ℕ) → hold i ≡ Writes → Has (hold j) → i ≡ j
 
 -- each reader stands there once
-abbrev pub AreOnce : Holders → Type 0
-AreOnce (Readers readers) = IsDistinct nat_eq readers
-AreOnce (Writer writer) = Unit {0}
+abbrev pub ReadersAreOnce : Holders → Type 0
+ReadersAreOnce (Readers readers) = IsDistinct nat_eq readers
+ReadersAreOnce (Writer writer) = Unit {0}
 
 -- each owner has one ticket at most
 abbrev pub WaitOnce : List Ticket → Type 0
@@ -62,7 +62,7 @@ WaitOnce (ticket ∷ rest) = (waiting ticket.owner rest ≡ Free) × WaitOnce re
 
 -- nobody stands twice among holders and tickets
 pub record IsOrderly (state : ReadersWriter) : Type 0 where
-  pub once : AreOnce state.holders
+  pub once : ReadersAreOnce state.holders
   pub waits_once : WaitOnce state.tickets
   -- who holds doesn't wait
   pub apart : (who : ℕ) → Has (hold_in who state.holders Free) → waiting who state.tickets ≡ Free

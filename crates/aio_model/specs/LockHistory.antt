@@ -12,9 +12,9 @@ pub data LockEntry (T : Type 0) : Type 0 where
   -- the pass gives the lock up and leaves this value
   Release : ℕ → T → LockEntry T
 
-abbrev pub Waits : ℕ → List ℕ → Type 0
-Waits p [] = ⊥
-Waits p (q ∷ rest) = (q ≡ p) ⊎ Waits p rest
+abbrev pub IsWaitingIn : ℕ → List ℕ → Type 0
+IsWaitingIn p [] = ⊥
+IsWaitingIn p (q ∷ rest) = (q ≡ p) ⊎ IsWaitingIn p rest
 
 abbrev pub without_first : List ℕ → List ℕ
 without_first [] = []
@@ -59,7 +59,7 @@ module _ {T : Type 0} where
 
   abbrev pub MayCome : LockEntry T → List (LockEntry T) → Type 0
   MayCome (Got p) older = (owner_of older ≡ None) × (waiters_of older ≡ [])
-  MayCome (Wait p co) older = (owner_of older ≢ Some p) × ¬ (Waits p (waiters_of older))
+  MayCome (Wait p co) older = (owner_of older ≢ Some p) × ¬ (IsWaitingIn p (waiters_of older))
   MayCome (Grant p q) older = (owner_of older ≡ None) × IsFirst q (waiters_of older)
   MayCome (Release p x) older = owner_of older ≡ Some p
 

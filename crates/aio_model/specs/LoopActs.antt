@@ -4,7 +4,7 @@ use Rattle.aio_model.specs.declared.flags.Flags.{Flags}
 use Rattle.aio_model.specs.declared.loop_scripts.Act.{Act}
 use Rattle.aio_model.specs.declared.loop_scripts.ActKind.{ActKind}
 use Rattle.aio_model.specs.declared.loop_scripts.ActKind.TheVariants.{Schedule, Idle, Delete, Cancel as CancelOf, Nest}
-use Rattle.aio_model.specs.LoopHistory.{Asked, ToCall, ToCallIdle, ToDelete, Enqueue, Put, Cancel, History}
+use Rattle.aio_model.specs.LoopHistory.{EnqueueAsks, ToCall, ToCallIdle, ToDelete, Enqueue, Put, Cancel, History}
 use Rattle.aio_model.specs.LoopSeats.{home}
 use Rattle.aio_model.specs.LoopFrame.{Answer, Ended, Nests, Entered}
 
@@ -32,7 +32,7 @@ behind_nest [] = None
 behind_nest (act ∷ later) = if is_nest act then Some later else behind_nest later
 
 -- an enqueue by home that found these flags, and a push where it found the index not pending
-abbrev pub enqueue_made : ℕ → Asked → Flags → History
+abbrev pub enqueue_made : ℕ → EnqueueAsks → Flags → History
 enqueue_made i asked was =
     if was.pending then Enqueue i asked home was ∷ [] else Put i home ∷ (Enqueue i asked home was ∷ [])
 

@@ -1,7 +1,7 @@
 -- Lives and rounds, and the flags of an index.
 use Rattle.std.specs.Prelude.{ℕ, ◌+◌, Bool, true, false, not, ◌&&◌, ◌||◌, ◌==◌, nat_lt, if◌then◌else◌, [], ◌∷◌}
 use Rattle.aio_model.specs.declared.flags.Flags.{Flags}
-use Rattle.aio_model.specs.LoopHistory.{Asked, ToCallIdle, ToDelete, ToCallOnce, Entry, New, Enqueue, Put, Cancel, Dequeue, Free, History, Sizes}
+use Rattle.aio_model.specs.LoopHistory.{EnqueueAsks, ToCallIdle, ToDelete, ToCallOnce, Entry, New, Enqueue, Put, Cancel, Dequeue, Free, History, Sizes}
 
 -- What one entry does to an index.
 
@@ -30,24 +30,24 @@ dequeues i (Dequeue j ran) = i == j
 dequeues i _ = false
 
 -- a scheduling kind of enqueue asks for a call
-abbrev pub is_scheduling : Asked → Bool
+abbrev pub is_scheduling : EnqueueAsks → Bool
 is_scheduling ToDelete = false
 is_scheduling _ = true
 
-abbrev pub is_idling : Asked → Bool
+abbrev pub is_idling : EnqueueAsks → Bool
 is_idling ToCallIdle = true
 is_idling _ = false
 
-abbrev pub is_deleting : Asked → Bool
+abbrev pub is_deleting : EnqueueAsks → Bool
 is_deleting ToDelete = true
 is_deleting _ = false
 
-abbrev pub is_once : Asked → Bool
+abbrev pub is_once : EnqueueAsks → Bool
 is_once ToCallOnce = true
 is_once _ = false
 
 -- the entry is an enqueue of the index whose kind passes the test
-abbrev pub asks : (Asked → Bool) → ℕ → Entry → Bool
+abbrev pub asks : (EnqueueAsks → Bool) → ℕ → Entry → Bool
 asks test i (Enqueue j asked seat was) = (i == j) && test asked
 asks test i _ = false
 

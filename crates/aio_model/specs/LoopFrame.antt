@@ -23,13 +23,13 @@ pub record Entered : Type 0 where
   pub made : History
 
 -- how far a poll has come: what was seen, the entries into the runner, newest first, and whether there was progress
-pub record Place : Type 0 where
+pub record PollPlace : Type 0 where
   pub seen : History
   pub log : List Entered
   pub progress : Bool
 
 -- home made the entry, after some of others
-pub record Makes (e : Entry) (before after : Place) : Type 0 where
+pub record Makes (e : Entry) (before after : PollPlace) : Type 0 where
   pub others : History
   pub not_home : entries_of home others ≡ []
   pub seen : after.seen ≡ e ∷ (others ++ before.seen)
@@ -37,7 +37,7 @@ pub record Makes (e : Entry) (before after : Place) : Type 0 where
   pub progress : after.progress ≡ before.progress
 
 -- home dequeued the index; there is progress where that is called and not idle
-pub record Dequeues (i : ℕ) (ran : Bool) (before after : Place) : Type 0 where
+pub record Dequeues (i : ℕ) (ran : Bool) (before after : PollPlace) : Type 0 where
   pub others : History
   pub not_home : entries_of home others ≡ []
   pub seen : after.seen ≡ Dequeue i ran ∷ (others ++ before.seen)
@@ -57,7 +57,7 @@ are_of_callback [] = true
 are_of_callback (e ∷ older) = is_of_callback e && are_of_callback older
 
 -- the home's seat was lent for one entry into the runner, and came back
-pub record Enters (lent : Lent) (answer : Answer) (before after : Place) : Type 0 where
+pub record EntersRunner (lent : Lent) (answer : Answer) (before after : PollPlace) : Type 0 where
   pub between : History
   pub made : History
   pub just_these : entries_of home between ≡ made
@@ -73,31 +73,31 @@ lent_of bh job first nests =
 -- Each definition below takes the frames of the next depth as a relation.
 
 -- the entries of one callback, with at most so many frames between them: where it nests and may, a frame follows and then one further entry; else it has ended
-abbrev pub Body : (Place → Place → Type 0) → ℕ → Option ℕ → Bool → ℕ → Place → Place → Type 0
+abbrev pub Body : (PollPlace → PollPlace → Type 0) → ℕ → Option ℕ → Bool → ℕ → PollPlace → PollPlace → Type 0
 Body frame bh job first zero before after =
-    (answer : Answer) × Enters (lent_of bh job first zero) answer before after
+    (answer : Answer) × EntersRunner (lent_of bh job first zero) answer before after
 Body frame bh job first (suc nests) before after =
-    Enters (lent_of bh job first (suc nests)) Ended before after ⊎ ((asked : Place) × (back : Place) × Enters (lent_of bh job first (suc nests)) Nests before asked × frame asked back × Body frame bh None false nests back after)
+    EntersRunner (lent_of bh job first (suc nests)) Ended before after ⊎ ((asked : PollPlace) × (back : PollPlace) × EntersRunner (lent_of bh job first (suc nests)) Nests before asked × frame asked back × Body frame bh None false nests back after)
 
 -- the first of out is dequeued, called or not, and freed if it is a lot
-pub record Turn (sizes : Sizes) (frame : Place → Place → Type 0) (nests : ℕ) (before after : Place) : Type 0 where
+pub record Turn (sizes : Sizes) (frame : PollPlace → PollPlace → Type 0) (nests : ℕ) (before after : PollPlace) : Type 0 where
   pub index : ℕ
   pub ran : Bool
-  pub dequeued : Place
-  pub ended : Place
+  pub dequeued : PollPlace
+  pub ended : PollPlace
   pub dequeue : Dequeues index ran before dequeued
   pub body : MatchBool ran (Body frame index (if is_lot sizes index then job_of index dequeued.seen else None) true nests dequeued ended) (ended ≡ dequeued)
   pub free : MatchBool (is_lot sizes index) (Makes (Free index) ended after) (after ≡ ended)
 
 -- so many turns, one after another
-abbrev pub Turns : Sizes → (Place → Place → Type 0) → ℕ → ℕ → Place → Place → Type 0
+abbrev pub Turns : Sizes → (PollPlace → PollPlace → Type 0) → ℕ → ℕ → PollPlace → PollPlace → Type 0
 Turns sizes frame nests zero before after = after ≡ before
 Turns sizes frame nests (suc more) before after =
-    (mid : Place) × Turn sizes frame nests before mid × Turns sizes frame nests more mid after
+    (mid : PollPlace) × Turn sizes frame nests before mid × Turns sizes frame nests more mid after
 
 -- one take, and then turns until nothing is out
-pub record TakesAndTurns (sizes : Sizes) (frame : Place → Place → Type 0) (nests : ℕ) (before after : Place) : Type 0 where
-  pub taken : Place
+pub record TakesAndTurns (sizes : Sizes) (frame : PollPlace → PollPlace → Type 0) (nests : ℕ) (before after : PollPlace) : Type 0 where
+  pub taken : PollPlace
   pub count : ℕ
   pub take : Makes Take before taken
   pub turns : Turns sizes frame nests count taken after
@@ -109,20 +109,20 @@ nests_above zero = 0
 nests_above (suc deeper) = 4
 
 -- the frame of a poll with so many depths left, its own among them
-unfoldable pub Frame : Sizes → ℕ → Place → Place → Type 0
+unfoldable pub Frame : Sizes → ℕ → PollPlace → PollPlace → Type 0
 Frame sizes zero before after = ⊥
 Frame sizes (suc deeper) before after =
     TakesAndTurns sizes (Frame sizes deeper) (nests_above deeper) before after
 
 -- where a poll begins
-abbrev pub start_of : History → Place
+abbrev pub start_of : History → PollPlace
 start_of seen = record { seen = seen; log = []; progress = false }
 
 -- the runner does these entries, newest first, and no others
-abbrev pub Runs : {R : Type 0} → (R → Entered → R → Type 0) → R → List Entered → R → Type 0
-Runs does before [] after = after ≡ before
-Runs {R} does before (entered ∷ older) after =
-    (mid : R) × Runs does before older mid × does mid entered after
+abbrev pub DoesEntries : {R : Type 0} → (R → Entered → R → Type 0) → R → List Entered → R → Type 0
+DoesEntries does before [] after = after ≡ before
+DoesEntries {R} does before (entered ∷ older) after =
+    (mid : R) × DoesEntries does before older mid × does mid entered after
 
 -- how many callbacks were called, nested ones included
 abbrev pub ran_of : List Entered → ℕ

@@ -3,18 +3,18 @@ use Rattle.std.specs.Prelude.{ℕ, Bool, List}
 use Rattle.aio_model.specs.declared.flags.Flags.{Flags}
 
 -- what an enqueue asks: a call, a call that need not wake the loop, an end of all calls, or the one call of a lot
-pub data Asked : Type 0 where
-  ToCall : Asked
-  ToCallIdle : Asked
-  ToDelete : Asked
-  ToCallOnce : Asked
+pub data EnqueueAsks : Type 0 where
+  ToCall : EnqueueAsks
+  ToCallIdle : EnqueueAsks
+  ToDelete : EnqueueAsks
+  ToCallOnce : EnqueueAsks
 
 -- an entry names the bottom half by its index, and the seat that made it by its number; the others are made by the home thread
 pub data Entry : Type 0 where
   -- the seat begins a life of this lot, for a job of this number
   New : ℕ → ℕ → ℕ → Entry
   -- the seat asks this of the index, and found these flags
-  Enqueue : ℕ → Asked → ℕ → Flags → Entry
+  Enqueue : ℕ → EnqueueAsks → ℕ → Flags → Entry
   -- the seat pushes the index
   Put : ℕ → ℕ → Entry
   -- the seat cancels the index, and found these flags

@@ -16,7 +16,7 @@ abbrev pub pending_bit : BottomHalf → ℕ
 pending_bit half = bit half.flags.pending
 
 -- what is pending stands once in one of the two lists, and nothing else does
-pub record IsKept (halves : List BottomHalf) (stack out : List ℕ) : Type 0 where
+pub record PendingIsListed (halves : List BottomHalf) (stack out : List ℕ) : Type 0 where
   pub once : (i : ℕ) → times_of i stack + times_of i out ≡ pending_bit (slice_index_or halves i blank)
   pub total : length stack + length out ≡ sum_by pending_bit halves
 
@@ -27,4 +27,4 @@ pub record IsSound (a : Inside) : Type 0 where
   pub halves : length a.halves.items ≡ a.handles + a.lots
   pub stack_room : a.handles + a.lots ≤ vec_capacity a.stack
   pub out_room : a.handles + a.lots ≤ vec_capacity a.out
-  pub kept : IsKept a.halves.items a.stack.items a.out.items
+  pub kept : PendingIsListed a.halves.items a.stack.items a.out.items

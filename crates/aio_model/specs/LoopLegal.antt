@@ -1,11 +1,11 @@
 -- Which histories are legal: each entry agrees with the entries before it.
 use Rattle.std.specs.Prelude.{◌≡◌, ℕ, ◌<◌, true, false, Some, [], ◌∷◌}
-use Rattle.aio_model.specs.LoopHistory.{Asked, ToCallOnce, Entry, New, Enqueue, Put, Cancel, Take, Dequeue, Free, SetEvent, ClearEvent, History, Sizes}
+use Rattle.aio_model.specs.LoopHistory.{EnqueueAsks, ToCallOnce, Entry, New, Enqueue, Put, Cancel, Take, Dequeue, Free, SetEvent, ClearEvent, History, Sizes}
 use Rattle.aio_model.specs.LoopFlags.{has_life, lives, is_lot, was_dequeued, flags_of, is_due}
 use Rattle.aio_model.specs.LoopLists.{is_announced, announcer_of, claimer_of, out_of, head_of, is_set}
 
 -- this seat may ask this of the index: a one-shot is asked of a lot by the seat that began its life, and once; all else of handles
-abbrev pub MayAsk : Sizes → ℕ → Asked → ℕ → History → Type 0
+abbrev pub MayAsk : Sizes → ℕ → EnqueueAsks → ℕ → History → Type 0
 MayAsk sizes i ToCallOnce seat before = (is_lot sizes i ≡ true) × (claimer_of i before ≡ Some seat)
 MayAsk sizes i _ seat before = i < sizes.handles
 

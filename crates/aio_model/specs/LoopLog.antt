@@ -4,7 +4,7 @@ use Rattle.aio_model.specs.declared.flags.Flags.{Flags}
 use Rattle.aio_model.specs.declared.commits.Commit.{Commit}
 use Rattle.aio_model.specs.declared.commits.Commit.TheVariants.{Sleep, Awake}
 use Rattle.aio_model.specs.declared.commits.Why.TheVariants.{Urgent, Event, Notified}
-use Rattle.aio_model.specs.LoopHistory.{Asked, ToCallOnce, Entry, New, Enqueue, Put, Cancel, Take, Dequeue, Free, SetEvent, ClearEvent, History, Sizes}
+use Rattle.aio_model.specs.LoopHistory.{EnqueueAsks, ToCallOnce, Entry, New, Enqueue, Put, Cancel, Take, Dequeue, Free, SetEvent, ClearEvent, History, Sizes}
 use Rattle.aio_model.specs.LoopFlags.{lives, is_pending, flags_of, is_due, is_urgent}
 use Rattle.aio_model.specs.LoopLists.{stack_of, out_of, head_of, is_set}
 
@@ -43,11 +43,11 @@ first_from test start (suc more) = if test start then Some start else first_from
 abbrev pub flags_before : ℕ → Log → Flags
 flags_before i log = flags_of i (history_of log)
 
-abbrev pub asked_log : ℕ → Asked → ℕ → Log → Log
+abbrev pub asked_log : ℕ → EnqueueAsks → ℕ → Log → Log
 asked_log i asked seat log = Made (Enqueue i asked seat (flags_before i log)) ∷ log
 
 -- an enqueue, and a push where it found the index not pending
-abbrev pub enqueued_log : ℕ → Asked → ℕ → Log → Log
+abbrev pub enqueued_log : ℕ → EnqueueAsks → ℕ → Log → Log
 enqueued_log i asked seat log =
     if is_pending i (history_of log) then asked_log i asked seat log else Made (Put i seat) ∷ asked_log i asked seat log
 

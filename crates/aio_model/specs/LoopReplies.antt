@@ -11,7 +11,7 @@ use Rattle.aio_model.specs.LoopHistory.{ToCall, ToCallIdle, ToDelete, History, S
 use Rattle.aio_model.specs.LoopFlags.{is_lot, lives}
 use Rattle.aio_model.specs.LoopLegal.{IsLegal}
 use Rattle.aio_model.specs.LoopSeats.{home, entries_of}
-use Rattle.aio_model.specs.LoopFrame.{Lent, Place, start_of, Frame, Runs, called_of, cut_nests_of}
+use Rattle.aio_model.specs.LoopFrame.{Lent, PollPlace, start_of, Frame, DoesEntries, called_of, cut_nests_of}
 use Rattle.aio_model.specs.LoopLog.{Made, Log, history_of, flags_before, enqueued_log, canceled_log, begun_log, set_log, is_set_in, cleared_log, commit_of, committed_log}
 use Rattle.aio_model.specs.LoopActs.{DoesActs, acts_of}
 
@@ -40,7 +40,7 @@ abbrev pub called_as : Lent → Called
 called_as lent = called_by lent.bh lent.job
 
 -- the first of those that were called, how many it leaves out, whether there was progress, and how many nests were cut
-abbrev pub poll_reply : Place → LoopReply
+abbrev pub poll_reply : PollPlace → LoopReply
 poll_reply place =
     let called = map called_as (called_of place.log) in
     Ran (take named_most called) (counted (length called - named_most)) place.progress (counted (cut_nests_of place.log))
@@ -56,38 +56,38 @@ FindsNoLot sizes tag before after reply =
 
 -- One frame with eight depths, which home alone makes, and in which callbacks do their actions. Its history is legal,
 -- so just those are called that are due.
-pub record Polls (script : LoopScript) (before after : Log) (reply : LoopReply) : Type 0 where
-  pub end : Place
+pub record PollsInScript (script : LoopScript) (before after : Log) (reply : LoopReply) : Type 0 where
+  pub end : PollPlace
   pub added : History
   pub frame : Frame (sizes_of script) 8 (start_of (history_of before)) end
   pub seen : end.seen ≡ added ++ history_of before
   pub alone : entries_of home added ≡ added
   pub legal : IsLegal (sizes_of script) end.seen
-  pub runs : Runs (DoesActs (acts_of script.acts)) [] end.log []
+  pub runs : DoesEntries (DoesActs (acts_of script.acts)) [] end.log []
   pub log : after ≡ made_log added before
   pub replies : reply ≡ poll_reply end
 
 -- One command, from a log to a log, and its reply. Entries outside of polls are of any seat.
-abbrev pub Does : LoopScript → Command → Log → Log → LoopReply → Type 0
-Does script (Schedule i) before after reply =
+abbrev pub DoesCommand : LoopScript → Command → Log → Log → LoopReply → Type 0
+DoesCommand script (Schedule i) before after reply =
     (seat : ℕ) × (after ≡ enqueued_log i ToCall seat before) × (reply ≡ Flagged (Schedule i) (flags_before i before))
-Does script (Idle i) before after reply =
+DoesCommand script (Idle i) before after reply =
     (seat : ℕ) × (after ≡ enqueued_log i ToCallIdle seat before) × (reply ≡ Flagged (Idle i) (flags_before i before))
-Does script (Delete i) before after reply =
+DoesCommand script (Delete i) before after reply =
     (seat : ℕ) × (after ≡ enqueued_log i ToDelete seat before) × (reply ≡ Flagged (Delete i) (flags_before i before))
-Does script (Cancel i) before after reply =
+DoesCommand script (Cancel i) before after reply =
     (seat : ℕ) × (after ≡ canceled_log i seat before) × (reply ≡ Flagged (Cancel i) (flags_before i before))
-Does script (Once tag) before after reply =
+DoesCommand script (Once tag) before after reply =
     PutsOnce (sizes_of script) tag before after reply ⊎ FindsNoLot (sizes_of script) tag before after reply
-Does script Poll before after reply = Polls script before after reply
-Does script Commit before after reply =
+DoesCommand script Poll before after reply = PollsInScript script before after reply
+DoesCommand script Commit before after reply =
     (after ≡ committed_log before) × (reply ≡ Committed (commit_of (sizes_of script) before))
-Does script (Set e) before after reply = (seat : ℕ) × (after ≡ set_log e seat before) × (reply ≡ WasSet e)
-Does script (Clear e) before after reply =
+DoesCommand script (Set e) before after reply = (seat : ℕ) × (after ≡ set_log e seat before) × (reply ≡ WasSet e)
+DoesCommand script (Clear e) before after reply =
     (after ≡ cleared_log e before) × (reply ≡ Cleared e (is_set_in e before))
 
 -- the commands in order, each on the log that the one before it leaves
 abbrev pub DoesAll : LoopScript → List Command → Log → Log → List LoopReply → Type 0
 DoesAll script [] before after replies = (after ≡ before) × (replies ≡ [])
 DoesAll script (command ∷ commands) before after replies =
-    (mid : Log) × (reply : LoopReply) × (later : List LoopReply) × Does script command before mid reply × DoesAll script commands mid after later × (replies ≡ reply ∷ later)
+    (mid : Log) × (reply : LoopReply) × (later : List LoopReply) × DoesCommand script command before mid reply × DoesAll script commands mid after later × (replies ≡ reply ∷ later)

@@ -2,7 +2,7 @@
 use Rattle.std.specs.Prelude.{ℕ, true, false, ◌||◌, if◌then◌else◌, ◌∷◌, slice_set}
 use Rattle.aio_model.specs.declared.flags.Flags.{Flags}
 use Rattle.aio_model.specs.declared.bottom_halves.BottomHalf.{BottomHalf}
-use Rattle.aio_model.specs.LoopHistory.{Asked, ToCall, ToCallIdle, ToDelete, ToCallOnce}
+use Rattle.aio_model.specs.LoopHistory.{EnqueueAsks, ToCall, ToCallIdle, ToDelete, ToCallOnce}
 use Rattle.aio_model.specs.LoopState.{LoopState, half_at}
 
 abbrev pub flags_or : Flags → Flags → Flags
@@ -10,7 +10,7 @@ flags_or add was =
     record { pending = add.pending || was.pending; scheduled = add.scheduled || was.scheduled; deleted = add.deleted || was.deleted; oneshot = add.oneshot || was.oneshot; idle = add.idle || was.idle }
 
 -- the flags that an enqueue adds
-abbrev pub added_by : Asked → Flags
+abbrev pub added_by : EnqueueAsks → Flags
 added_by ToCall = record { pending = true; scheduled = true; deleted = false; oneshot = false; idle = false }
 added_by ToCallIdle = record { pending = true; scheduled = true; deleted = false; oneshot = false; idle = true }
 added_by ToDelete = record { pending = true; scheduled = false; deleted = true; oneshot = false; idle = false }

@@ -7,7 +7,7 @@ use Rattle.aio_model.specs.declared.holds.Wish.TheVariants as wish
 use Rattle.aio_model.specs.Readers.{Holders, Readers, Writer, Ticket, ReadersWriter, other_readers}
 
 -- of a call that asks for a hold
-pub record Asked : Type 0 where
+pub record HoldAsked : Type 0 where
   pub answer : RwAnswer
   pub state : ReadersWriter
 
@@ -27,22 +27,22 @@ abbrev pub with_ticket : ℕ → Wish → ReadersWriter → ReadersWriter
 with_ticket who wish state = record state { tickets = state.tickets ++ record { owner = who; wish = wish } ∷ [] }
 
 -- A reader is let in where nobody holds, and beside readers where nobody waits.
-abbrev pub read_by : ℕ → ReadersWriter → Holders → List Ticket → Asked
+abbrev pub read_by : ℕ → ReadersWriter → Holders → List Ticket → HoldAsked
 read_by who state (Readers []) tickets = record { answer = Got; state = record state { holders = Readers (who ∷ []) } }
 read_by who state (Readers (r ∷ rs)) [] = record { answer = Got; state = record state { holders = Readers (r ∷ rs ++ who ∷ []) } }
 read_by who state (Readers (r ∷ rs)) (t ∷ ts) = record { answer = Queued; state = with_ticket who wish.Read state }
 read_by who state (Writer writer) tickets = record { answer = Queued; state = with_ticket who wish.Read state }
 
-abbrev pub read_locked : ℕ → ReadersWriter → Asked
+abbrev pub read_locked : ℕ → ReadersWriter → HoldAsked
 read_locked who state = read_by who state state.holders state.tickets
 
 -- A writer is let in where nobody holds.
-abbrev pub written_by : ℕ → ReadersWriter → Holders → Asked
+abbrev pub written_by : ℕ → ReadersWriter → Holders → HoldAsked
 written_by who state (Readers []) = record { answer = Got; state = record state { holders = Writer who } }
 written_by who state (Readers (r ∷ rs)) = record { answer = Queued; state = with_ticket who wish.Write state }
 written_by who state (Writer writer) = record { answer = Queued; state = with_ticket who wish.Write state }
 
-abbrev pub write_locked : ℕ → ReadersWriter → Asked
+abbrev pub write_locked : ℕ → ReadersWriter → HoldAsked
 write_locked who state = written_by who state state.holders
 
 abbrev pub none_woken : ReadersWriter → Woke

@@ -44,10 +44,10 @@ IsCutShort request k = (k % 4096 ≡ 0) × (k < length_of request)
 
 -- The reply is one that the request may get on an image of this size, but for the bytes that a read finds. Einval
 -- stands exactly where the request reaches past the image's end.
-abbrev pub Answers : ℕ → Request → Reply → Type 0
-Answers size request Einval = size < end_of request
-Answers size request (Eio k) = (end_of request ≤ size) × IsCutShort request k
-Answers size request reply = (end_of request ≤ size) × IsGood request reply
+abbrev pub MayAnswer : ℕ → Request → Reply → Type 0
+MayAnswer size request Einval = size < end_of request
+MayAnswer size request (Eio k) = (end_of request ≤ size) × IsCutShort request k
+MayAnswer size request reply = (end_of request ≤ size) × IsGood request reply
 
 -- a read finds the bytes that are there
 abbrev pub FindsBytes : List ℕ → Request → Reply → Type 0
@@ -56,7 +56,7 @@ FindsBytes bytes request reply = Unit {0}
 
 -- The reply fits the request on these bytes. Where they aren't told, what a read finds is left open.
 pub record Fits (size : ℕ) (bytes : Option (List ℕ)) (request : Request) (reply : Reply) : Type 0 where
-  pub answers : Answers size request reply
+  pub answers : MayAnswer size request reply
   pub finds : IfSome bytes (λ told. FindsBytes told request reply)
 
 -- The bytes after a request that got this reply: what it was to put is there, or the good bytes of it alone.

@@ -49,7 +49,7 @@ pub record StandsBefore (calls : List TimerCall) (first second : ℕ) : Type 0 w
   pub of_equals : expiry first calls ≡ expiry second calls → place first calls < place second calls
 
 -- the timer of a kind that stands before all others of it
-pub record IsFirst (kind : ℕ → List TimerCall → Bool) (calls : List TimerCall) (timer : ℕ) : Type 0 where
+pub record IsFirstOfKind (kind : ℕ → List TimerCall → Bool) (calls : List TimerCall) (timer : ℕ) : Type 0 where
   pub of_kind : IsTrue (kind timer calls)
   pub before : (other : ℕ) → IsTrue (kind other calls) → other ≢ timer → StandsBefore calls timer other
 
@@ -59,4 +59,4 @@ IsNone kind calls = (timer : ℕ) → kind timer calls ≡ false
 
 -- this is the earliest expiry of the armed timers
 abbrev pub IsEarliest : List TimerCall → ℕ → Type 0
-IsEarliest calls expire = (timer : ℕ) × IsFirst is_armed calls timer × (expiry timer calls ≡ expire)
+IsEarliest calls expire = (timer : ℕ) × IsFirstOfKind is_armed calls timer × (expiry timer calls ≡ expire)

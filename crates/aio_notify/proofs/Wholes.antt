@@ -13,7 +13,7 @@ use Rattle.aio_core.specs.Joining.{joined_known, told_of, IsJoined}
 use Rattle.aio_core.specs.Splitting.{front_known, back_known}
 use Rattle.aio_core.specs.Standing.{Looks}
 use Rattle.aio_core.specs.SleepSteps.{watched_in, OwnsAll}
-use Rattle.aio_notify.specs.Settling.{is_committed, least_pending, least_set, LooksAtFlags, LooksAtEvents, SameButDone, IsWhole, IsAtHome, Rings, EndsQuiet, IsGivenBack, FindsPending, FindsSetEvent}
+use Rattle.aio_notify.specs.Settling.{is_committed, least_pending, least_set, LooksAtFlags, LooksAtEvents, SameButDone, IsWhole, HomeHasAll, NotifierStands, EndsQuiet, IsGivenBack, FindsPending, FindsSetEvent}
 
 committed_is : (s : Sleep) → is_committed s ≡ true → s ≡ Committed (watched_in s)
 committed_is Running is = absurd cc
@@ -38,7 +38,7 @@ whole_is notifier sizes seat home united whole sizes_are both all parts history 
       loads = subst (λ k. Looks NotifierLoad notifier_at look.0 k whole) both look.2;
     }
 
-pub at_home : (found : ℕ) (home united whole : Known) → is_committed home.sleep ≡ true → united.phase ≡ AtRest → (united.stage ≡ home.stage) × (united.sleep ≡ calmed home.sleep) → Looks NotifierLoad notifier_at found united whole → IsAtHome home whole
+pub at_home : (found : ℕ) (home united whole : Known) → is_committed home.sleep ≡ true → united.phase ≡ AtRest → (united.stage ≡ home.stage) × (united.sleep ≡ calmed home.sleep) → Looks NotifierLoad notifier_at found united whole → HomeHasAll home whole
 at_home found home united whole committed rest same look =
     record {
       stage = ap (λ (k : Known). k.stage) look.rest ∙ same.0;
@@ -46,7 +46,7 @@ at_home found home united whole committed rest same look =
       rest = ap (λ (k : Known). k.phase) look.rest ∙ rest;
     }
 
-pub it_rings : (found : ℕ) (notifier : Bool) (home united whole : Known) → is_committed home.sleep ≡ true → united.phase ≡ AtRest → united.sleep ≡ calmed home.sleep → Looks NotifierLoad notifier_at found united whole → (united.phase ≡ AtRest → (watched : List ℕ) → united.sleep ≡ Committed watched → (reason : Reason) → is_wanted reason united.seen ≡ true → is_open [] watched reason ≡ false → notifier ≡ true) → Rings notifier home whole
+pub it_rings : (found : ℕ) (notifier : Bool) (home united whole : Known) → is_committed home.sleep ≡ true → united.phase ≡ AtRest → united.sleep ≡ calmed home.sleep → Looks NotifierLoad notifier_at found united whole → (united.phase ≡ AtRest → (watched : List ℕ) → united.sleep ≡ Committed watched → (reason : Reason) → is_wanted reason united.seen ≡ true → is_open [] watched reason ≡ false → notifier ≡ true) → NotifierStands notifier home whole
 it_rings found notifier home united whole committed rest same look told reason wanted closed =
     told rest (watched_in home.sleep) (same ∙ calmed_is home.sleep committed ∙ committed_is home.sleep committed) reason (ap (is_wanted reason) (sym (ap (λ (k : Known). k.seen) look.rest)) ∙ wanted) closed
 
@@ -56,7 +56,7 @@ first_passes test start zero n is = absurd cc
 first_passes test start (suc count) n is =
     ⊎_elim (λ (yes : test start ≡ true). let here : Some start ≡ Some n = ap (λ (b : Bool). cond b (Some start) (first_from test (suc start) count)) (sym yes) ∙ is in let same : start ≡ n = cc in ap test (sym same) ∙ yes) (λ (nay : test start ≡ false). first_passes test (suc start) count n (ap (λ (b : Bool). cond b (Some start) (first_from test (suc start) count)) (sym nay) ∙ is)) (cases_Bool (test start))
 
-pub given_back : (seat home whole looked seat_after home_after : Known) → is_committed home.sleep ≡ true → IsAtHome home whole → SameButDone whole looked → seat_after ≡ front_known 64 looked → home_after ≡ back_known 64 looked → IsGivenBack seat home looked seat_after home_after
+pub given_back : (seat home whole looked seat_after home_after : Known) → is_committed home.sleep ≡ true → HomeHasAll home whole → SameButDone whole looked → seat_after ≡ front_known 64 looked → home_after ≡ back_known 64 looked → IsGivenBack seat home looked seat_after home_after
 given_back seat home whole looked seat_after home_after committed kept same front back =
     record {
       seat_is = front;
@@ -67,7 +67,7 @@ given_back seat home whole looked seat_after home_after committed kept same fron
 
 -- of the answers
 
-module _ (notifier : Bool) (sizes : Sizes) (seat home whole : Known) (sizes_are : seat.sizes ≡ sizes) (is : IsWhole notifier seat home whole) (kept : IsAtHome home whole) (rings : Rings notifier home whole) (committed : is_committed home.sleep ≡ true) where
+module _ (notifier : Bool) (sizes : Sizes) (seat home whole : Known) (sizes_are : seat.sizes ≡ sizes) (is : IsWhole notifier seat home whole) (kept : HomeHasAll home whole) (rings : NotifierStands notifier home whole) (committed : is_committed home.sleep ≡ true) where
   pub finds_pending : (i : ℕ) (looked seat_after home_after : Known) → LooksAtFlags (suc i) whole looked → Some i ≡ least_pending sizes whole.seen → SameButDone whole looked → seat_after ≡ front_known 64 looked → home_after ≡ back_known 64 looked → FindsPending i notifier seat home seat_after home_after
   finds_pending i looked seat_after home_after flags least same front back =
       record {

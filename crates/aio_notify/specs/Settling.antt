@@ -60,14 +60,14 @@ pub record IsWhole (notifier : Bool) (seat home whole : Known) : Type 0 where
   pub loads : Looks NotifierLoad notifier_at found (joined_known seat home) whole
 
 -- what home has taken, and how far it is, is where all numbers are; nobody is under way
-pub record IsAtHome (home whole : Known) : Type 0 where
+pub record HomeHasAll (home whole : Known) : Type 0 where
   pub stage : whole.stage ≡ home.stage
   pub sleep : whole.sleep ≡ home.sleep
   pub rest : whole.phase ≡ AtRest
 
 -- the notifier is set for all that home isn't to sleep over
-abbrev pub Rings : Bool → Known → Known → Type 0
-Rings notifier home whole =
+abbrev pub NotifierStands : Bool → Known → Known → Type 0
+NotifierStands notifier home whole =
     (reason : Reason) → is_wanted reason whole.seen ≡ true → is_open [] (watched_in home.sleep) reason ≡ false → notifier ≡ true
 
 -- A loop has come to its end: all numbers are owned, nothing is pending, and no event is set.

@@ -5,7 +5,7 @@ ghost use Rattle.aio_model.specs.InFlight.{AtRest};
 ghost use Rattle.aio_core.specs.Words.{index_count};
 ghost use Rattle.aio_core.specs.Splitting.{front_known, back_known};
 ghost use Rattle.aio_core.specs.Calls.{IsSeatOf};
-ghost use Rattle.aio_notify.specs.Settling.{is_committed, least_pending, least_set, looked_at, LooksAtFlags, LooksAtEvents, SameButDone, IsWhole, IsAtHome, Rings, EndsQuiet, FindsPending, FindsSetEvent};
+ghost use Rattle.aio_notify.specs.Settling.{is_committed, least_pending, least_set, looked_at, LooksAtFlags, LooksAtEvents, SameButDone, IsWhole, HomeHasAll, NotifierStands, EndsQuiet, FindsPending, FindsSetEvent};
 ghost use Rattle.aio_notify.specs.Settled.{MatchSettled};
 
 use crate::loop_end::{LoopEnd, Settled, Unsettled};
@@ -52,8 +52,8 @@ fn whole_of<J: Job>(table: &LoopTable<J>, home: Home<J>, seat: Seat<J>) -> (Whol
     requires rest { (seat.known.phase ≡ AtRest) × (home.seat.known.phase ≡ AtRest) }
     ensures seat { IsSeatOf table.now result.0.seat }
     ensures whole { IsWhole result.1 seat.known home.seat.known result.0.seat.known }
-    ensures at_home { IsAtHome home.seat.known result.0.seat.known }
-    ensures rings { Rings result.1 home.seat.known result.0.seat.known }
+    ensures at_home { HomeHasAll home.seat.known result.0.seat.known }
+    ensures rings { NotifierStands result.1 home.seat.known result.0.seat.known }
 {
     let mut whole = table.unite_all(home, seat);
     let notifier = table.look_at_notifier(&mut whole);

@@ -5,7 +5,7 @@ use Rattle.aio_model.specs.declared.causes.Cause.{Cause}
 use Rattle.aio_model.specs.declared.causes.Cause.TheVariants.{Wake, Move}
 use Rattle.aio_model.specs.LoopLaws.{some_entry}
 use Rattle.aio_core.specs.Calls.{SeatState}
-use Rattle.co_state.specs.Asked.{Asked}
+use Rattle.co_state.specs.Wants.{Wants}
 use Rattle.co_state.specs.declared.co.CoStep.{CoStep}
 use Rattle.loop_rows.specs.declared.opening.Homes.{Homes}
 use Rattle.loop_rows.specs.declared.rows.Row.{Row}
@@ -72,7 +72,7 @@ module _ {C K O : Type 0} where
       by true is has older = record { place = zero; within = omega arith; asked = λ r. is }
       by false is has older = later (older has)
 
-module _ {C K O : Type 0} (E R : Type 0) (is_of : ℕ → C → O → Type 0) (resumes : C → O → Asked → CoStep → C → Type 0) (time : K → ℕ) (shared : List (LoopShared C O)) where
+module _ {C K O : Type 0} (E R : Type 0) (is_of : ℕ → C → O → Type 0) (resumes : C → O → Wants → CoStep → C → Type 0) (time : K → ℕ) (shared : List (LoopShared C O)) where
   abbrev SetOn : O → Part C (CoWork C K O) O → Type 0
   SetOn origin part =
       HasSent (length shared) (λ t co. Unit {0}) SetOnceAsked origin part.work (loop_of part)

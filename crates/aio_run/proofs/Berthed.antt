@@ -10,7 +10,7 @@ use Rattle.img_shared.specs.Notes.{Note}
 use Rattle.img_streams.specs.declared.stream.Stream.{Stream}
 use Rattle.img_streams.specs.Streams.{IsStreamAt, source}
 use Rattle.stream_ends.specs.Stops.{HasStopped}
-use Rattle.aio_run.specs.Berths.{AllOf, AreBerthed}
+use Rattle.aio_run.specs.Berths.{BerthsAreOf, AreBerthed}
 
 none_is_none : {A : Type 0} (o : Option A) (x : A) → o ≡ None → o ≡ Some x → ⊥
 none_is_none o x none some_x = let no : None ≡ Some x = sym none ∙ some_x in cc
@@ -57,6 +57,6 @@ module _ {P D : Type 0} (bytes : D → Option (List ℕ)) (script : Script) (loc
   berthed_unset berths at below are =
       record { many = length-set berths at None ∙ are.many; each = there_unset (HasStopped bytes script lock) berths at below are.each }
 
-  pub of_unset : (cos : List (Option (Stream P (ImageState D) (Note D)))) (at : ℕ) → at < length cos → AllOf bytes script lock cos → AllOf bytes script lock (slice_set cos at None)
+  pub of_unset : (cos : List (Option (Stream P (ImageState D) (Note D)))) (at : ℕ) → at < length cos → BerthsAreOf bytes script lock cos → BerthsAreOf bytes script lock (slice_set cos at None)
   of_unset cos at below are =
       there_unset (λ k co. IsStreamAt bytes k co (source lock script)) cos at below are

@@ -5,7 +5,7 @@ use Rattle.aio_core.specs.Known.{Known}
 use Rattle.aio_model.specs.CoroutineHistory.{IsLegal}
 use Rattle.co_schedule.specs.Calls.{AreFree}
 use Rattle.co_loop.specs.declared.working.CoWork.{CoWork}
-use Rattle.co_loop.specs.Rows.{AreOf}
+use Rattle.co_loop.specs.Rows.{AreOfOrigin}
 use Rattle.co_loop.specs.Working.{CanWork}
 use Rattle.loop_rows.specs.declared.shared.LoopShared.{LoopShared}
 use Rattle.loop_rows.specs.declared.opening.Homes.{Homes}
@@ -28,7 +28,7 @@ all_of_places P (x ∷ xs) each =
     (each 0 x (omega arith), all_of_places P xs (λ k d below. each (suc k) d (omega arith)))
 
 module _ {C K O : Type 0} (is_of : ℕ → C → O → Type 0) (does : List (LoopShared C O) → CoWork C K O → LoopState C O → Bool → CoWork C K O → LoopState C O → Type 0)
-    (origin : O) (shared : List (LoopShared C O)) (of : AreOf origin shared) where
+    (origin : O) (shared : List (LoopShared C O)) (of : AreOfOrigin origin shared) where
   -- the coroutines that have ended on a loop that was carried are of the loops' origin
   pub ended_of : (row : Row C O) (part : Part C (CoWork C K O) O) (member : Member C (CoWork C K O) O) → Runs (CanWork is_of) does shared row part member → (k : ℕ) (co : C) → slice_index_or member.work.crew.ended.items k None ≡ Some co → is_of k co origin
   ended_of row part member runs k co there =

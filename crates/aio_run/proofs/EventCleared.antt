@@ -3,7 +3,7 @@ use Rattle.std.proofs.Common.{◌≡◌, ℕ, ◌<◌, ◌-◌, true, false, inl
 use Rattle.std.proofs.lemmas.Bool.{false≢true}
 use Rattle.aio_model.specs.LoopLaws.{some_entry}
 use Rattle.aio_core.specs.Known.{Known}
-use Rattle.co_state.specs.Asked.{Asked}
+use Rattle.co_state.specs.Wants.{Wants}
 use Rattle.co_state.specs.declared.co.CoStep.{CoStep}
 use Rattle.co_schedule.specs.Calls.{SeatState as CoSeatState}
 use Rattle.co_loop.specs.declared.working.CoWork.{CoWork}
@@ -17,7 +17,7 @@ use Rattle.loop_threads.specs.declared.hands.Hand.{Hand}
 use Rattle.loop_threads.specs.declared.members.Member.{Member}
 use Rattle.loop_threads.specs.declared.parts.Part.{Part}
 use Rattle.loop_threads.specs.Ending.{EndsLoop}
-use Rattle.loop_threads.specs.Running.{Begins, Runs}
+use Rattle.loop_threads.specs.Running.{BeginsRun, Runs}
 use Rattle.aio_run.specs.Posting.{HaveSizes}
 use Rattle.aio_run.specs.Readiness.{AreQuiet}
 use Rattle.aio_run.specs.Runs.{AreRun}
@@ -34,10 +34,10 @@ end_on shared member seats run over test stands =
     (by_more joined.0 over.asleep.known.seen over.calls.whole.seen joined.1 test
     (commit_on 0 shared.bottoms.sizes.events _ 0 _ member.home.seat.known over.asleep.known over.sleeps.commits test stands))
 
-module _ {C K O : Type 0} (E R : Type 0) (is_of : ℕ → C → O → Type 0) (resumes : C → O → Asked → CoStep → C → Type 0) (time : K → ℕ) (shared : List (LoopShared C O)) (sized : HaveSizes shared) where
+module _ {C K O : Type 0} (E R : Type 0) (is_of : ℕ → C → O → Type 0) (resumes : C → O → Wants → CoStep → C → Type 0) (time : K → ℕ) (shared : List (LoopShared C O)) (sized : HaveSizes shared) where
   -- one loop from its beginning to its end
   tells_whole : (homes : Homes C O) (hand : Hand (CoWork C K O)) (first : Part C (CoWork C K O) O) (member : Member C (CoWork C K O) O) (row : Row C O) (t : LoopShared C O) (s : Seats C O) (run : LoopRun C (CoWork C K O) O)
-      → Begins homes hand first → first.number < length shared → hand.work.is_ended ≡ false → Runs (CanWork is_of) (Works E R is_of resumes time) shared row first member → EndsLoop t member s run → Tells homes.coroutines.known member.coroutines.known true run.calls.known.seen
+      → BeginsRun homes hand first → first.number < length shared → hand.work.is_ended ≡ false → Runs (CanWork is_of) (Works E R is_of resumes time) shared row first member → EndsLoop t member s run → Tells homes.coroutines.known member.coroutines.known true run.calls.known.seen
   tells_whole homes hand first member row t s run begins low quiet runs over =
       let comes = runs.carried.comes in
       let last = runs.last in

@@ -13,7 +13,7 @@ use Rattle.aio_core.specs.SleepSteps.{Learns, Disarms, LoadsEvent, ClearsEvent}
 use Rattle.aio_notify.specs.Commits.{AcceptsAll, Commits, PastDeadline, PastEvents, ArmsAndTests, is_past, sleep_bound}
 use Rattle.aio_notify.specs.Waiting.{LooksInVain, FindsNotifier, PassesTime, Waits}
 use Rattle.aio_notify.specs.Watching.{watches, LooksAt, LooksBelow, FindsBits, FindsSet}
-use Rattle.aio_bh.specs.Running.{GivesBack}
+use Rattle.aio_bh.specs.Running.{SeatComesBack}
 use Rattle.aio_loop.specs.declared.side.Side.{Side}
 use Rattle.aio_loop.specs.Blocking.{FollowsCommit}
 use Rattle.aio_loop.specs.Turns.{Awakes}
@@ -128,7 +128,7 @@ pub accepts_on : (a b : Known) → AcceptsAll a b → StandsOn a.seen b.seen
 accepts_on a b accepts =
     by_same a.seen b.seen (ap (λ (k : Known). k.seen) accepts.accepts.rest ∙ ap (λ (k : Known). k.seen) accepts.clears.rest)
 
-pub back_on : (made : History) (a b : Known) → GivesBack made a b → StandsOn a.seen b.seen
+pub back_on : (made : History) (a b : Known) → SeatComesBack made a b → StandsOn a.seen b.seen
 back_on made a b back = by_more back.between a.seen b.seen back.seen
 
 pub clear_on : (events event : ℕ) (a b : Known) → ClearsFirst events event a b → StandsOn a.seen b.seen

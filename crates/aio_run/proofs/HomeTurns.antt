@@ -2,7 +2,7 @@
 use Rattle.std.proofs.Common.{◌≡◌, ℕ, zero, suc, ◌<◌, Bool, true, false, ◌==◌, ◌||◌, nat_lt, MatchBool, List, [], ◌∷◌, ◌⊎◌, inl, inr, refl, sym, ap, ◌∙◌, subst, length, arith}
 use Rattle.std.proofs.lemmas.Bool.{false≢true, eq-eqb, eqb-true, and_parts, or_parts, lt-ltb}
 use mathlib.Core.Logic.{⊎_elim}
-use Rattle.aio_model.specs.LoopFrame.{Entered, Runs}
+use Rattle.aio_model.specs.LoopFrame.{Entered, DoesEntries}
 use Rattle.aio_model.specs.LoopHistory.{History, Sizes}
 use Rattle.aio_model.specs.LoopLaws.{some_entry}
 use Rattle.aio_core.specs.Known.{Known}
@@ -15,7 +15,7 @@ use Rattle.aio_loop.specs.Entering.{LoopEntered, WithSide, does_bottom}
 use Rattle.aio_loop.specs.Expiring.{EntersEachExpired}
 use Rattle.aio_loop.specs.Turns.{AwakesAndPolls, Turns}
 use Rattle.aio_loop.specs.Walks.{LoopFar, loop_far, ClearsFirst, EntersEachReady}
-use Rattle.co_state.specs.Asked.{Asked}
+use Rattle.co_state.specs.Wants.{Wants}
 use Rattle.co_state.specs.declared.co.CoStep.{CoStep}
 use Rattle.co_schedule.specs.Known.{Known as CoKnown}
 use Rattle.co_schedule.specs.Calls.{SeatState as CoSeatState}
@@ -68,14 +68,14 @@ cleared_by events event a b true some clears_it is before = clear_on events even
 cleared_by events event a b false some clears_it is before =
     first_cleared events a b some (subst (λ (n : ℕ). ClearsFirst events n a b) (eqb-true event 0 is) clears_it)
 
-module _ {C E W O : Type 0} (is_of : ℕ → C → O → Type 0) (resumes : C → O → Asked → CoStep → C → Type 0) (start : CoKnown) where
+module _ {C E W O : Type 0} (is_of : ℕ → C → O → Type 0) (resumes : C → O → Wants → CoStep → C → Type 0) (start : CoKnown) where
   abbrev Does : CoLoop C E W O → LoopEntered → CoLoop C E W O → Type 0
   Does a entered b = (b.shared ≡ a.shared) × (b.env ≡ a.env) × RunnerDoes is_of resumes a.shared.now entered (on_loop a.crew a.home a.is_ended) (on_loop b.crew b.home b.is_ended)
 
   abbrev TellsAt : LoopFar (CoLoop C E W O) → Type 0
   TellsAt here = Tells start here.runner.home.known here.runner.is_ended here.known.seen
 
-  bottoms : (log : List Entered) (x y : WithSide (CoLoop C E W O)) → Runs (does_bottom Does) x log y → (y.runner.is_ended ≡ x.runner.is_ended) × (some_for 0 log ≡ false → y.runner.home.known ≡ x.runner.home.known)
+  bottoms : (log : List Entered) (x y : WithSide (CoLoop C E W O)) → DoesEntries (does_bottom Does) x log y → (y.runner.is_ended ≡ x.runner.is_ended) × (some_for 0 log ≡ false → y.runner.home.known ≡ x.runner.home.known)
   bottoms [] x y same = (ap (λ (w : WithSide (CoLoop C E W O)). w.runner.is_ended) same, λ none. ap (λ (w : WithSide (CoLoop C E W O)). w.runner.home.known) same)
   bottoms (e ∷ older) x y runs =
       let before = bottoms older x runs.0 runs.1 in
@@ -133,7 +133,7 @@ module _ {C E W O : Type 0} (is_of : ℕ → C → O → Type 0) (resumes : C �
       let walked = tell_ready events walk.enters.count (loop_far walk.looked walk.begun a.runner) (loop_far turns.behind_walk.known walk.given turns.behind_walk.runner) some walk.enters.enters looked in
       tell_expired turns.expires.enters.count (loop_far turns.behind_walk.known turns.expires.begun turns.behind_walk.runner) after turns.expires.enters.enters walked
 
-module _ {C K O : Type 0} (E W : Type 0) (is_of : ℕ → C → O → Type 0) (resumes : C → O → Asked → CoStep → C → Type 0) (time : K → ℕ) (shared : List (LoopShared C O)) (sized : HaveSizes shared) (start : CoKnown) where
+module _ {C K O : Type 0} (E W : Type 0) (is_of : ℕ → C → O → Type 0) (resumes : C → O → Wants → CoStep → C → Type 0) (time : K → ℕ) (shared : List (LoopShared C O)) (sized : HaveSizes shared) (start : CoKnown) where
   -- a turn of the loop's work
   tell_worked : (work : CoWork C K O) (loop : LoopState C O) (ended : Bool) (work_after : CoWork C K O) (loop_after : LoopState C O) → loop.number < length shared → Works E W is_of resumes time shared work loop ended work_after loop_after
       → Tells start loop.coroutines.known work.is_ended loop.home.known.seen → Tells start loop_after.coroutines.known work_after.is_ended loop_after.home.known.seen

@@ -9,7 +9,7 @@ use Rattle.aio_model.specs.declared.scripts.What.TheVariants as what
 use Rattle.aio_script.specs.Bounds.{IsBounded, IsWithin}
 use Rattle.co_loop.specs.Crews.{destination}
 use Rattle.co_mutex.specs.declared.lock.CoMutex.{CoMutex}
-use Rattle.co_state.specs.Asked.{Asked}
+use Rattle.co_state.specs.Wants.{Wants}
 use Rattle.co_state.specs.declared.co.CoStep.TheVariants as step
 use Rattle.img_shared.specs.Images.{ImageState}
 use Rattle.img_shared.specs.Notes.{Note}
@@ -34,7 +34,7 @@ module _ {P D : Type 0} (bytes : D → Option (List ℕ)) (script : Script) (loc
       (All-from_recursion (IsWithin script.loops script.streams) script.lines bounded.each (line_from was.id script.lines was.line) (line_of was home) stands.inside) in
       subst (λ (n : ℕ). home < n) many within.little
 
-  pub moves_by_line : (own number : ℕ) (was after : Stream P (ImageState D) (Note D)) (asked : Asked) (home : ℕ)
+  pub moves_by_line : (own number : ℕ) (was after : Stream P (ImageState D) (Note D)) (asked : Wants) (home : ℕ)
       → IsStreamOf bytes after (source lock script) → after.co.co ≡ number → Resumes bytes was (source lock script) asked (step.Move home) after
       → has_move script (destination own loops home) number ≡ true
   moves_by_line own number was after asked home of is resumed =

@@ -1,7 +1,7 @@
 -- Who moves to a loop in a run goes there by an answer of its own.
 use Rattle.std.proofs.Common.{◌≡◌, ℕ, ◌-◌, ◌*◌, ◌<◌, ◌≤◌, true, false, MatchOption, Option, None, List, [], ◌∷◌, length, slice_index_or, refl, sym, ap, ◌∙◌, subst, arith}
 use Rattle.aio_model.specs.declared.causes.Cause.TheVariants.{Wake, Move}
-use Rattle.co_state.specs.Asked.{Asked}
+use Rattle.co_state.specs.Wants.{Wants}
 use Rattle.co_state.specs.declared.co.CoStep.{CoStep}
 use Rattle.co_state.specs.declared.co.CoStep.TheVariants as step
 use Rattle.co_schedule.specs.Known.{Known}
@@ -15,7 +15,7 @@ use Rattle.co_loop.specs.declared.leaving.Leaving.{Leaving}
 use Rattle.co_loop.specs.declared.working.CoWork.{CoWork}
 use Rattle.co_loop.specs.Crews.{destination}
 use Rattle.co_loop.specs.Quits.{SetsEnd}
-use Rattle.co_loop.specs.Rows.{AreOf}
+use Rattle.co_loop.specs.Rows.{AreOfOrigin}
 use Rattle.co_loop.specs.Working.{CanWork, Works}
 use Rattle.co_loop.proofs.Sent.{HasSent, turn_keeps}
 use Rattle.loop_threads.specs.declared.ending.LoopRun.{LoopRun}
@@ -46,8 +46,8 @@ module _ {C O : Type 0} (Sent : ℕ → ℕ → Type 0) where
   ended : (t : ℕ) (b a : Seats C O) → SetsEnd b a → MovedBy t b → MovedBy t a
   ended t b a is was = subst (λ (s : SeatState O). AllMove (Sent t) s.known.mine) (sym is.same) was
 
-module _ {C K O : Type 0} (E R : Type 0) (is_of : ℕ → C → O → Type 0) (resumes : C → O → Asked → CoStep → C → Type 0) (time : K → ℕ) (shared : List (LoopShared C O)) (origin : O) (of : AreOf origin shared) (Sent : ℕ → ℕ → Type 0)
-    (answers : (own co : ℕ) (was after : C) (asked : Asked) (home : ℕ) → is_of co after origin → resumes was origin asked (step.Move home) after → Sent (destination own (length shared) home) co) where
+module _ {C K O : Type 0} (E R : Type 0) (is_of : ℕ → C → O → Type 0) (resumes : C → O → Wants → CoStep → C → Type 0) (time : K → ℕ) (shared : List (LoopShared C O)) (origin : O) (of : AreOfOrigin origin shared) (Sent : ℕ → ℕ → Type 0)
+    (answers : (own co : ℕ) (was after : C) (asked : Wants) (home : ℕ) → is_of co after origin → resumes was origin asked (step.Move home) after → Sent (destination own (length shared) home) co) where
   abbrev SentOn : Part C (CoWork C K O) O → Type 0
   SentOn part =
       HasSent (length shared) Sent (λ asked. MovedBy Sent) origin part.work (loop_of part)

@@ -11,7 +11,7 @@ use Rattle.co_schedule.specs.Standing.{Makes, Missed, SchedulesAtLast}
 use Rattle.loop_rows.specs.declared.seats.Seats.{Seats}
 use Rattle.loop_rows.specs.Posts.{Posts, DoesAt}
 use Rattle.loop_rows.specs.Stepping.{OthersStay}
-use Rattle.aio_run.specs.Posting.{HaveOwn}
+use Rattle.aio_run.specs.Posting.{AllHaveOwn}
 
 abbrev Owns : Known → Type 0
 Owns known = known.mine ≡ own_entries seat_of (numbers_of known) known.seen
@@ -36,7 +36,7 @@ scheduled_own c cause given v w steps own =
 
 module _ {C O : Type 0} where
   -- behind a post to one loop
-  pub own_posted : (loops to co : ℕ) (cause : Cause) (given : Bool) (before after : List (Seats C O)) → HaveOwn loops before → OthersStay to before after → DoesAt to (Posts co cause given) before after → HaveOwn loops after
+  pub own_posted : (loops to co : ℕ) (cause : Cause) (given : Bool) (before after : List (Seats C O)) → AllHaveOwn loops before → OthersStay to before after → DoesAt to (Posts co cause given) before after → AllHaveOwn loops after
   own_posted loops to co cause given before after was others does t s below =
       ⊎_elim
       (λ (same : t ≡ to).

@@ -4,7 +4,7 @@ use Rattle.std.proofs.Math.ListN.{get_or-map}
 use Rattle.table_seats.specs.Seats.{Numbers, own_entries}
 use Rattle.aio_model.specs.declared.causes.Cause.TheVariants.{Wake, Move}
 use Rattle.aio_model.specs.CoroutineHistory.{History, seat_of}
-use Rattle.co_state.specs.Asked.{Asked}
+use Rattle.co_state.specs.Wants.{Wants}
 use Rattle.co_state.specs.declared.co.CoStep.{CoStep}
 use Rattle.co_schedule.specs.Known.{Known, numbers_of}
 use Rattle.co_schedule.specs.Calls.{SeatState}
@@ -25,7 +25,7 @@ use Rattle.loop_threads.specs.declared.parts.Part.{Part}
 use Rattle.loop_threads.specs.Dealing.{SeesAs}
 use Rattle.loop_threads.specs.Parts.{TakesTurns, loop_of}
 use Rattle.loop_threads.specs.Running.{Runs}
-use Rattle.aio_run.specs.Posting.{all_numbers, begun_on, HaveBegun, HaveBegunAlone, HaveOwn}
+use Rattle.aio_run.specs.Posting.{all_numbers, begun_on, HaveBegun, HaveBegunAlone, AllHaveOwn}
 use Rattle.aio_run.specs.Runs.{AreRun}
 use Rattle.aio_run.specs.Serving.{begins_of, beginning_on, entries_for, AreEntered}
 use Rattle.aio_run.proofs.Begun.{at_place}
@@ -54,7 +54,7 @@ numbers_are : (known : Known) (first count : ℕ) → known.first ≡ first → 
 numbers_are known first count e f = λ i. record { first = e i; count = f i }
 
 -- what the row of all numbers posted is all that there is, also once events were set
-pub begun_alone : {C O : Type 0} (shared : List (LoopShared C O)) (row : Row C O) (after : List (Seats C O)) (many : ℕ) (homes : List ℕ) → IsRow shared row → HasNumbers 0 64 row → HaveBegun many homes (length shared) row.seats.items → HaveOwn (length shared) row.seats.items → CoroutinesStay row.seats.items after → HaveBegunAlone many homes (length shared) after
+pub begun_alone : {C O : Type 0} (shared : List (LoopShared C O)) (row : Row C O) (after : List (Seats C O)) (many : ℕ) (homes : List ℕ) → IsRow shared row → HasNumbers 0 64 row → HaveBegun many homes (length shared) row.seats.items → AllHaveOwn (length shared) row.seats.items → CoroutinesStay row.seats.items after → HaveBegunAlone many homes (length shared) after
 begun_alone {C} {O} shared row after many homes is has begun own stay t s low =
     let seat = slice_index_or row.seats.items t s in
     let at = is.each t (at_place shared t low) s low in
@@ -73,7 +73,7 @@ module _ {C O : Type 0} where
   stands_own part history first count e f made =
       ap (λ (n : Numbers). own_entries seat_of n history) (sym (numbers_are part.coroutines.known first count e f)) ∙ made
 
-module _ {C K O : Type 0} (E R : Type 0) (is_of : ℕ → C → O → Type 0) (resumes : C → O → Asked → CoStep → C → Type 0) (time : K → ℕ) (shared : List (LoopShared C O)) where
+module _ {C K O : Type 0} (E R : Type 0) (is_of : ℕ → C → O → Type 0) (resumes : C → O → Wants → CoStep → C → Type 0) (time : K → ℕ) (shared : List (LoopShared C O)) where
   turns_keep : (turns : List (Part C (CoWork C K O) O)) (before after : Part C (CoWork C K O) O) → TakesTurns (CanWork is_of) (Works E R is_of resumes time) shared turns before after → map begun_by after.row.seats.items ≡ map begun_by before.row.seats.items
   turns_keep [] before after same = ap (λ (p : Part C (CoWork C K O) O). map begun_by p.row.seats.items) same
   turns_keep (mid ∷ older) before after takes =

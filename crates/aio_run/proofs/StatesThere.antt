@@ -8,7 +8,7 @@ use Rattle.table_seats.proofs.Entries.{own-here}
 use Rattle.aio_model.specs.declared.causes.Cause.{Cause}
 use Rattle.aio_model.specs.declared.causes.Cause.TheVariants.{Begin, Wake, Move}
 use Rattle.aio_model.specs.CoroutineHistory.{Entry, Schedule, Push, Enter, History, seat_of, IsLegal}
-use Rattle.co_state.specs.Asked.{Asked}
+use Rattle.co_state.specs.Wants.{Wants}
 use Rattle.co_state.specs.declared.co.CoStep.{CoStep}
 use Rattle.co_schedule.specs.Calls.{SeatState}
 use Rattle.co_schedule.specs.Known.{Known}
@@ -98,7 +98,7 @@ module _ {C O : Type 0} where
   ended : (b a : Seats C O) → SetsEnd b a → brought_by a ≡ brought_by b
   ended b a is = ap (λ (s : SeatState O). brings_states s.known.mine) is.same
 
-module _ {C K O : Type 0} (E R : Type 0) (is_of : ℕ → C → O → Type 0) (resumes : C → O → Asked → CoStep → C → Type 0) (time : K → ℕ) (shared : List (LoopShared C O)) where
+module _ {C K O : Type 0} (E R : Type 0) (is_of : ℕ → C → O → Type 0) (resumes : C → O → Wants → CoStep → C → Type 0) (time : K → ℕ) (shared : List (LoopShared C O)) where
   turns_keep : (turns : List (Part C (CoWork C K O) O)) (before after : Part C (CoWork C K O) O) → TakesTurns (CanWork is_of) (Works E R is_of resumes time) shared turns before after → map brought_by after.row.seats.items ≡ map brought_by before.row.seats.items
   turns_keep [] before after same = ap (λ (p : Part C (CoWork C K O) O). map brought_by p.row.seats.items) same
   turns_keep (mid ∷ older) before after takes =

@@ -7,7 +7,7 @@ use Rattle.aio_chain.specs.LinkList.{contains}
 use Rattle.aio_model.specs.declared.causes.Cause.TheVariants.{Begin, Wake, Move}
 use Rattle.aio_model.specs.CoroutineHistory.{Entry, Schedule, Push, Enter, History, seat_of}
 use Rattle.aio_model.specs.LoopLaws.{some_entry}
-use Rattle.co_state.specs.Asked.{Asked}
+use Rattle.co_state.specs.Wants.{Wants}
 use Rattle.co_state.specs.declared.co.CoStep.{CoStep}
 use Rattle.co_schedule.specs.Known.{Known as CoKnown, numbers_of}
 use Rattle.co_schedule.specs.Calls.{new_known}
@@ -98,7 +98,7 @@ none_entered co (Push d seat ∷ older) none entered =
     by more false is = more is
 none_entered co (Enter d ∷ older) none entered = absurd (not_none (Enter d) _ none)
 
-module _ {C K O : Type 0} (E R : Type 0) (is_of : ℕ → C → O → Type 0) (resumes : C → O → Asked → CoStep → C → Type 0) (time : K → ℕ) (shared : List (LoopShared C O)) (sized : HaveSizes shared)
+module _ {C K O : Type 0} (E R : Type 0) (is_of : ℕ → C → O → Type 0) (resumes : C → O → Wants → CoStep → C → Type 0) (time : K → ℕ) (shared : List (LoopShared C O)) (sized : HaveSizes shared)
     (homes : List (Homes C O)) (hands : List (Hand (CoWork C K O))) (row : Row C O) (ends : List (LoopRun C (CoWork C K O) O)) (are : AreRun (CanWork is_of) (Works E R is_of resumes time) shared homes hands row ends)
     (homes_long : length homes ≡ length shared) (hands_long : length hands ≡ length shared) (quiet : AreQuiet (length shared) hands) (k : ℕ) (r : LoopRun C (CoWork C K O) O) (low : k < length shared) where
   pub called_where_began : (coroutines : ℕ) → HaveEntered (length shared) coroutines homes → (many : ℕ) (homes_are : List ℕ) → begins_of (slice_index_or ends k r).coroutines.history ≡ beginning_on many homes_are k → ((c : ℕ) → AreEntered (entries_for c (slice_index_or ends k r).coroutines.history))

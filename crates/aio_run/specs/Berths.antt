@@ -10,8 +10,8 @@ use Rattle.stream_ends.specs.Stops.{HasStopped}
 
 module _ {P D : Type 0} (bytes : D → Option (List ℕ)) (script : Script) (lock : CoMutex P (ImageState D) (Note D)) where
   -- each coroutine that is there is of the lock and the script, and has the number of its place
-  abbrev pub AllOf : List (Option (Stream P (ImageState D) (Note D))) → Type 0
-  AllOf cos =
+  abbrev pub BerthsAreOf : List (Option (Stream P (ImageState D) (Note D))) → Type 0
+  BerthsAreOf cos =
       (k : ℕ) (co : Stream P (ImageState D) (Note D)) → slice_index_or cos k None ≡ Some co → IsStreamAt bytes k co (source lock script)
 
   -- each that has come to its place is that of the stream line of this number, and has retired

@@ -32,8 +32,8 @@ HaveBegunAlone {C} {O} many homes loops seats =
     (t : ℕ) (s : Seats C O) → t < loops → own_entries seat_of all_numbers (slice_index_or seats t s).coroutines.known.seen ≡ begun_on many homes t
 
 -- In what these seats have seen of their coroutines, nobody else made an entry under their numbers.
-abbrev pub HaveOwn : {C O : Type 0} → ℕ → List (Seats C O) → Type 0
-HaveOwn {C} {O} loops seats =
+abbrev pub AllHaveOwn : {C O : Type 0} → ℕ → List (Seats C O) → Type 0
+AllHaveOwn {C} {O} loops seats =
     (t : ℕ) (s : Seats C O) → t < loops → (slice_index_or seats t s).coroutines.known.mine ≡ own_entries seat_of (numbers_of (slice_index_or seats t s).coroutines.known) (slice_index_or seats t s).coroutines.known.seen
 
 -- the tables of all loops are made for so many coroutines

@@ -2,7 +2,7 @@
 use Rattle.std.specs.Prelude.{◌≡◌, ℕ, ◌<◌, ◌≤◌, max, false, List, [], None, length, replicate, slice_index_or, vec_len, vec_capacity}
 use Rattle.aio_model.specs.declared.scripts.Script.{Script}
 use Rattle.co_loop.specs.declared.working.CoWork.{CoWork}
-use Rattle.co_loop.specs.Rows.{AreOf}
+use Rattle.co_loop.specs.Rows.{AreOfOrigin}
 use Rattle.co_mutex.specs.declared.lock.CoMutex.{CoMutex}
 use Rattle.co_schedule.specs.Calls.{new_known}
 use Rattle.img_shared.specs.Images.{ImageState}
@@ -10,7 +10,7 @@ use Rattle.img_shared.specs.Notes.{Note}
 use Rattle.loop_rows.specs.declared.shared.LoopShared.{LoopShared}
 use Rattle.loop_rows.specs.declared.opening.Homes.{Homes}
 use Rattle.loop_rows.specs.LoopStates.{LoopState}
-use Rattle.loop_rows.specs.Opening.{AreNew, HomesEach}
+use Rattle.loop_rows.specs.Opening.{AreNewLoops, HomesEach}
 use Rattle.loop_rows.specs.Rows.{IsRow, HasNumbers}
 use Rattle.loop_threads.specs.declared.hands.Hand.{Hand}
 use Rattle.loop_threads.specs.Reserving.{IsReserved}
@@ -19,7 +19,7 @@ use Rattle.stream_ends.specs.Images.{IsLockFor, homes_of}
 use Rattle.stream_ends.specs.Starts.{IsEndRoom}
 use Rattle.aio_run.specs.declared.opening.Loops.{Loops}
 use Rattle.aio_run.specs.declared.preparing.Prepared.{Prepared}
-use Rattle.aio_run.specs.Posting.{HaveBegun, HaveCoroutines, HaveOwn, HaveSizes}
+use Rattle.aio_run.specs.Posting.{HaveBegun, HaveCoroutines, AllHaveOwn, HaveSizes}
 
 -- how many coroutines the tables of a script's loops are made for
 abbrev pub coroutines_of : Script → ℕ
@@ -51,7 +51,7 @@ module _ {C K O : Type 0} (can_work : CoWork C K O → List (LoopShared C O) →
 
   -- the loops of the script are new, with nobody on them
   pub record AreOpen (script : Script) (origin : O) (loops : Loops C K O) : Type 0 where
-    pub tables : AreNew script.loops (coroutines_of script) origin loops.opened
+    pub tables : AreNewLoops script.loops (coroutines_of script) origin loops.opened
     pub rest : HaveHands script loops
 
   -- The row of all numbers has posted each stream's coroutine to its home, and made nothing else on the tables of coroutines; no home
@@ -59,7 +59,7 @@ module _ {C K O : Type 0} (can_work : CoWork C K O → List (LoopShared C O) →
   pub record ArePosted (script : Script) (origin : O) (loops : Loops C K O) : Type 0 where
     pub long : length loops.opened.shared.items ≡ script.loops
     pub homes_long : length loops.opened.homes.items ≡ script.loops
-    pub of : AreOf origin loops.opened.shared.items
+    pub of : AreOfOrigin origin loops.opened.shared.items
     pub tables : HaveCoroutines (coroutines_of script) loops.opened.shared.items
     pub sized : HaveSizes loops.opened.shared.items
     pub homes_each : HomesEach script.loops loops.opened.shared.items loops.opened.homes.items
@@ -67,11 +67,11 @@ module _ {C K O : Type 0} (can_work : CoWork C K O → List (LoopShared C O) →
     pub is_row : IsRow loops.opened.shared.items loops.opened.row
     pub numbers : HasNumbers 0 64 loops.opened.row
     pub begun : HaveBegun (length script.streams) (homes_of script.streams) script.loops loops.opened.row.seats.items
-    pub own : HaveOwn script.loops loops.opened.row.seats.items
+    pub own : AllHaveOwn script.loops loops.opened.row.seats.items
     pub rest : HaveHands script loops
 
   -- the device lies behind the lock, and each stream's coroutine is posted
-  pub record IsReady {P D : Type 0} (script : Script) (source : CoMutex P (ImageState D) (Note D) → O) (ready : Prepared P C K (ImageState D) (Note D) O) : Type 0 where
+  pub record HasPostedAll {P D : Type 0} (script : Script) (source : CoMutex P (ImageState D) (Note D) → O) (ready : Prepared P C K (ImageState D) (Note D) O) : Type 0 where
     pub lock : IsLockFor script ready.lock
     pub room : IsEndRoom script ready.lock ready.room
     pub posted : ArePosted script (source ready.lock) ready.loops

@@ -1,6 +1,6 @@
 //! Loops are carried to their ends.
 ghost use Rattle.std.specs.Prelude.{◌≡◌, ◌≤◌, length, vec_len, vec_capacity};
-ghost use Rattle.co_loop.specs.Rows.{AreOf};
+ghost use Rattle.co_loop.specs.Rows.{AreOfOrigin};
 ghost use Rattle.co_loop.specs.Working.{CanWork, Works};
 ghost use Rattle.loop_rows.specs.Opening.{HomesEach};
 ghost use Rattle.loop_rows.specs.Rows.{IsRow, HasNumbers};
@@ -28,7 +28,7 @@ fn run_loops<C: Co<E> + Drop + Send, E: Sync, K: Clock + Drop + Send, R: Threads
     hands: Vec<Hand<CoWork<C, K>>>,
     row: Row<C>,
 ) -> Joined<C, CoWork<C, K>>
-    requires lent { AreOf (C.source_of env.now) shared.now }
+    requires lent { AreOfOrigin (C.source_of env.now) shared.now }
     requires few { length shared.now ≤ 16 }
     requires reserved { IsReserved (length shared.now) reserved }
     requires homes { (vec_len homes ≡ length shared.now) × HomesEach (length shared.now) shared.now homes.items }
@@ -58,7 +58,7 @@ pub(crate) fn carry<
     hands: Vec<Hand<CoWork<C, K>>>,
     row: Row<C>,
 ) -> Vec<LoopRun<C, CoWork<C, K>>>
-    requires lent { AreOf (C.source_of env.now) shared.items }
+    requires lent { AreOfOrigin (C.source_of env.now) shared.items }
     requires few { length shared.items ≤ 16 }
     requires reserved { IsReserved (length shared.items) reserved }
     requires homes { (vec_len homes ≡ length shared.items) × HomesEach (length shared.items) shared.items homes.items }

@@ -2,7 +2,7 @@
 ghost use Rattle.std.specs.Prelude.{◌≡◌, ◌<◌, ◌≤◌, ◌+◌, ◌∷◌, ℕ, true, false, length, slice_index, slice_index_or};
 ghost use Rattle.aio_model.specs.declared.causes.Cause.TheVariants.{Begin};
 ghost use Rattle.aio_model.specs.CoroutineHistory.{Schedule, Push};
-ghost use Rattle.co_loop.specs.Rows.{AreOf};
+ghost use Rattle.co_loop.specs.Rows.{AreOfOrigin};
 ghost use Rattle.co_schedule.specs.Standing.{was_scheduled};
 ghost use Rattle.img_streams.specs.Streams.{IsStreamAt, source};
 ghost use Rattle.loop_rows.specs.declared.shared.LoopShared.{LoopShared};
@@ -11,7 +11,7 @@ ghost use Rattle.loop_rows.specs.Rows.{IsRow, HasNumbers};
 ghost use Rattle.loop_rows.specs.Stepping.{OthersStay, CoroutinesStay};
 ghost use Rattle.stream_ends.specs.Images.{homes_of};
 ghost use Rattle.stream_ends.specs.Starts.{HaveStarted};
-ghost use Rattle.aio_run.specs.Posting.{HaveBegun, HaveCoroutines, HaveOwn, HaveSet};
+ghost use Rattle.aio_run.specs.Posting.{HaveBegun, HaveCoroutines, AllHaveOwn, HaveSet};
 ghost use Rattle.aio_run.specs.Readiness.{coroutines_of};
 
 use aio_model::{Cause, Script};
@@ -39,7 +39,7 @@ fn post_one<D: Device, R: Wait>(
     ensures row { IsRow shared.now row.new × HasNumbers 0 64 row.new }
     ensures others { OthersStay to row.old.seats.items row.new.seats.items }
     ensures made { (b a : Seats _ _) → (slice_index_or row.new.seats.items to a).coroutines.known.mine ≡ Push co 0 ∷ Schedule co Begin true 0 ∷ (slice_index_or row.old.seats.items to b).coroutines.known.mine }
-    ensures own { (loops : ℕ) → HaveOwn loops row.old.seats.items → HaveOwn loops row.new.seats.items }
+    ensures own { (loops : ℕ) → AllHaveOwn loops row.old.seats.items → AllHaveOwn loops row.new.seats.items }
 {
     match row.post(rt, shared, to, co, Cause::Begin, Some(stream)) {
         Ok(()) => {}
@@ -69,13 +69,13 @@ pub(crate) fn post_each<D: Device, R: Wait>(
     requires few { length script.now.streams ≤ 64 }
     requires homes { (k : ℕ) → k < length script.now.streams → slice_index (homes_of script.now.streams) k < length shared.now }
     requires tables { HaveCoroutines (coroutines_of script.now) shared.now }
-    requires of { AreOf (source lock.now script.now) shared.now }
+    requires of { AreOfOrigin (source lock.now script.now) shared.now }
     requires started { HaveStarted D.bytes script.now lock.now streams.items }
     requires row { IsRow shared.now row.old × HasNumbers 0 64 row.old }
     requires none { HaveBegun 0 (homes_of script.now.streams) (length shared.now) row.old.seats.items }
     ensures row { IsRow shared.now row.new × HasNumbers 0 64 row.new }
     ensures begun { HaveBegun (length script.now.streams) (homes_of script.now.streams) (length shared.now) row.new.seats.items }
-    ensures own { HaveOwn (length shared.now) row.old.seats.items → HaveOwn (length shared.now) row.new.seats.items }
+    ensures own { AllHaveOwn (length shared.now) row.old.seats.items → AllHaveOwn (length shared.now) row.new.seats.items }
 {
     let _ = lock;
     let mut streams = VecDeque::from_vec(streams);

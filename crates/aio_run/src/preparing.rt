@@ -5,7 +5,7 @@ ghost use Rattle.co_loop.specs.Working.{CanWork};
 ghost use Rattle.img_streams.specs.Streams.{IsStreamAt, source};
 ghost use Rattle.stream_ends.specs.Starts.{HaveStarted};
 ghost use Rattle.stream_ends.specs.Images.{device_behind};
-ghost use Rattle.aio_run.specs.Readiness.{AreOpen, ArePosted, IsReady};
+ghost use Rattle.aio_run.specs.Readiness.{AreOpen, ArePosted, HasPostedAll};
 
 use crate::opening::{Loops, open_for};
 use crate::posting::post_each;
@@ -79,7 +79,7 @@ pub fn prepare<D: Device + Drop, K: Clock + Drop, R: Wait>(
     requires bounded { IsBounded script.now }
     requires fits { script.now.image ≤ D.extent device }
     requires clocks { vec_len clocks ≡ script.now.loops }
-    ensures ready { IfOk result (λ ready. IsReady (CanWork (λ k c o. IsStreamAt D.bytes k c o)) script.now (λ lock. source lock script.now) ready) }
+    ensures ready { IfOk result (λ ready. HasPostedAll (CanWork (λ k c o. IsStreamAt D.bytes k c o)) script.now (λ lock. source lock script.now) ready) }
     ensures behind { IfOk result (λ ready. device_behind ready.lock ≡ device) }
     ensures unmade { IfErr result (λ unmade. unmade.back ≡ device) }
 {

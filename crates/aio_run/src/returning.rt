@@ -2,7 +2,7 @@
 ghost use Rattle.std.specs.Prelude.{◌≡◌, ◌<◌, ◌≤◌, ◌||◌, ◌==◌, true, IsTrue, [], length, vec_capacity};
 ghost use Rattle.img_streams.specs.Streams.{HasGone, IsStreamOf, source};
 ghost use Rattle.stream_ends.specs.Stops.{HasStopped, HaveStopped};
-ghost use Rattle.aio_run.specs.Berths.{AllOf, AreBerthed};
+ghost use Rattle.aio_run.specs.Berths.{BerthsAreOf, AreBerthed};
 ghost use Rattle.aio_run.specs.Ends.{has_asked};
 
 use aio_model::Script;
@@ -52,9 +52,9 @@ fn take_one<D: Device, R: Wait>(
     berths: &mut Vec<Option<StreamCo<D>>>,
 )
     requires at { at < length ended.old.items }
-    requires ended { AllOf D.bytes script.now lock.now ended.old.items }
+    requires ended { BerthsAreOf D.bytes script.now lock.now ended.old.items }
     requires berths { AreBerthed D.bytes script.now lock.now berths.old.items }
-    ensures ended { AllOf D.bytes script.now lock.now ended.new.items × (length ended.new.items ≡ length ended.old.items) }
+    ensures ended { BerthsAreOf D.bytes script.now lock.now ended.new.items × (length ended.new.items ≡ length ended.old.items) }
     ensures berths { AreBerthed D.bytes script.now lock.now berths.new.items }
 {
     if let Some(stream) = ended[at].take() {
@@ -70,7 +70,7 @@ pub(crate) fn take_back<D: Device, R: Wait>(
     ended: Vec<Option<StreamCo<D>>>,
     berths: &mut Vec<Option<StreamCo<D>>>,
 )
-    requires ended { AllOf D.bytes script.now lock.now ended.items }
+    requires ended { BerthsAreOf D.bytes script.now lock.now ended.items }
     requires berths { AreBerthed D.bytes script.now lock.now berths.old.items }
     ensures berths { AreBerthed D.bytes script.now lock.now berths.new.items }
 {

@@ -5,7 +5,7 @@ ghost use Rattle.aio_model.specs.SerialHistory.{eios_of};
 ghost use Rattle.aio_script.specs.Bounds.{IsBounded};
 ghost use Rattle.aio_words.specs.Called.{failures_in, sizes_asked};
 ghost use Rattle.aio_words.specs.Faults.{HasRisenBy};
-ghost use Rattle.co_loop.specs.Rows.{AreOf};
+ghost use Rattle.co_loop.specs.Rows.{AreOfOrigin};
 ghost use Rattle.co_loop.specs.Working.{CanWork};
 ghost use Rattle.img_streams.specs.Streams.{IsStreamAt, source};
 ghost use Rattle.loop_rows.specs.Opening.{HomesEach};
@@ -15,12 +15,12 @@ ghost use Rattle.loop_threads.specs.declared.ending.LoopRun.{LoopRun};
 ghost use Rattle.loop_threads.specs.Reserving.{IsReserved};
 ghost use Rattle.loop_threads.specs.Running.{CanBeginEach};
 ghost use Rattle.stream_ends.specs.Images.{device_behind, homes_of};
-ghost use Rattle.stream_ends.specs.Stops.{HaveStopped, IsServed};
-ghost use Rattle.aio_run.specs.Berths.{AllOf, AreBerthed};
+ghost use Rattle.stream_ends.specs.Stops.{HaveStopped, IsScriptServed};
+ghost use Rattle.aio_run.specs.Berths.{BerthsAreOf, AreBerthed};
 ghost use Rattle.aio_run.specs.declared.running.RunEnd.{RunEnd};
 ghost use Rattle.aio_run.specs.Ends.{IsOver, end_of};
 ghost use Rattle.aio_run.specs.Posting.{HaveBegunAlone, HaveCoroutines, HaveSet, HaveSizes};
-ghost use Rattle.aio_run.specs.Readiness.{AreQuiet, ArePosted, HaveEntered, IsReady, coroutines_of};
+ghost use Rattle.aio_run.specs.Readiness.{AreQuiet, ArePosted, HaveEntered, HasPostedAll, coroutines_of};
 ghost use Rattle.aio_run.specs.Serving.{HasServed};
 ghost use Rattle.aio_run.specs.Turned.{HasTurned};
 
@@ -94,7 +94,7 @@ fn end_one<D: Device, K: Drop, R: Wait>(
     run: LoopRun<StreamCo<D>, CoWork<StreamCo<D>, K>>,
     berths: &mut Vec<Option<StreamCo<D>>>,
 ) -> RunEnd<StreamCo<D>>
-    requires ended { AllOf D.bytes script.now lock.now run.work.crew.ended.items }
+    requires ended { BerthsAreOf D.bytes script.now lock.now run.work.crew.ended.items }
     requires berths { AreBerthed D.bytes script.now lock.now berths.old.items }
     ensures berths { AreBerthed D.bytes script.now lock.now berths.new.items }
     ensures ends { result ≡ end_of run }
@@ -119,7 +119,7 @@ fn end_loops<D: Device, K: Drop, R: Wait>(
     berths: &mut Vec<Option<StreamCo<D>>>,
     ends: &mut Vec<RunEnd<StreamCo<D>>>,
 )
-    requires runs { AllByRecursion (λ run. AllOf D.bytes script.now lock.now run.work.crew.ended.items) runs.items }
+    requires runs { AllByRecursion (λ run. BerthsAreOf D.bytes script.now lock.now run.work.crew.ended.items) runs.items }
     requires berths { AreBerthed D.bytes script.now lock.now berths.old.items }
     requires room { (ends.old.items ≡ []) × (length runs.items ≤ vec_capacity ends.old) }
     ensures berths { AreBerthed D.bytes script.now lock.now berths.new.items }
@@ -148,7 +148,7 @@ fn gather<D: Device, K: Drop, R: Wait>(
     streams: Vec<StreamCo<D>>,
     mut ends: Vec<RunEnd<StreamCo<D>>>,
 ) -> Gathered<StreamCo<D>>
-    requires ended { AllByRecursion (λ run. AllOf D.bytes script.now lock.now run.work.crew.ended.items) runs.items }
+    requires ended { AllByRecursion (λ run. BerthsAreOf D.bytes script.now lock.now run.work.crew.ended.items) runs.items }
     requires berths { berths.items ≡ replicate (length script.now.streams) None }
     requires streams { (streams.items ≡ []) × (length script.now.streams ≤ vec_capacity streams) }
     requires ends { (ends.items ≡ []) × (length runs.items ≤ vec_capacity ends) }
@@ -194,7 +194,7 @@ fn carry_streams<
     requires bounded { IsBounded env.now.script.now }
     requires loops { env.now.script.now.loops ≡ length opened.shared.items }
     requires few { length opened.shared.items ≤ 16 }
-    requires of { AreOf (source env.now.lock.now env.now.script.now) opened.shared.items }
+    requires of { AreOfOrigin (source env.now.lock.now env.now.script.now) opened.shared.items }
     requires tables { HaveCoroutines (coroutines_of env.now.script.now) opened.shared.items × HaveSizes opened.shared.items }
     requires homes { (vec_len opened.homes ≡ length opened.shared.items) × HomesEach (length opened.shared.items) opened.shared.items opened.homes.items }
     requires hands { (vec_len hands ≡ length opened.shared.items) × CanBeginEach (CanWork (λ k c o. IsStreamAt D.bytes k c o)) opened.shared.items opened.homes.items hands.items }
@@ -206,7 +206,7 @@ fn carry_streams<
     requires begun { HaveBegunAlone (length env.now.script.now.streams) (homes_of env.now.script.now.streams) (length opened.shared.items) opened.row.seats.items }
     requires set { length env.now.script.now.streams ≡ 0 → HaveSet (length opened.shared.items) opened.row.seats.items }
     ensures long { length result.items ≡ length opened.shared.items }
-    ensures ended { AllByRecursion (λ run. AllOf D.bytes env.now.script.now env.now.lock.now run.work.crew.ended.items) result.items }
+    ensures ended { AllByRecursion (λ run. BerthsAreOf D.bytes env.now.script.now env.now.lock.now run.work.crew.ended.items) result.items }
     ensures over { AllByRecursion (λ run. IsOver (coroutines_of env.now.script.now) run.calls.known run.coroutines) result.items }
     ensures served { (k : ℕ) (r : LoopRun _ _ _) → k < length result.items → HasServed env.now.script.now k (slice_index_or result.items k r).coroutines.history }
     ensures turned { (k : ℕ) (r : LoopRun _ _ _) → k < length result.items → HasTurned env.now.script.now k (slice_index_or result.items k r).calls.known.seen }
@@ -255,8 +255,8 @@ pub fn run<D: Device + Send, K: Clock + Drop + Send, G: Gate + Sync, R: Threads 
 ) -> Outcome<D, StreamCo<D>>
     requires bounded { IsBounded script.now }
     requires fits { script.now.image ≤ D.extent (device_behind prepared.lock) }
-    requires ready { IsReady (CanWork (λ k c o. IsStreamAt D.bytes k c o)) script.now (λ lock. source lock script.now) prepared }
-    ensures serves { IsServed script.now (D.bytes (device_behind prepared.lock)) (D.bytes result.device) result.served.items }
+    requires ready { HasPostedAll (CanWork (λ k c o. IsStreamAt D.bytes k c o)) script.now (λ lock. source lock script.now) prepared }
+    ensures serves { IsScriptServed script.now (D.bytes (device_behind prepared.lock)) (D.bytes result.device) result.served.items }
     ensures few { length result.served.items ≤ 4096 }
     ensures loops { (length result.loops.items ≡ script.now.loops) × AllByRecursion (λ end. IsOver (coroutines_of script.now) end.calls.known end.coroutines) result.loops.items }
     ensures began { (k : ℕ) (end : RunEnd _ _) → k < script.now.loops → HasServed script.now k (slice_index_or result.loops.items k end).coroutines.history }

@@ -5,7 +5,7 @@ use Rattle.aio_words.specs.Content.{with_piece, AppendsFront}
 use Rattle.aio_words.proofs.ContentLemmas.{with_piece-nil, with_piece-with_piece, AppendsFront-longer, AppendsFront-behind}
 use Rattle.aio_words.proofs.FaultLemmas.{HasRisen-earlier}
 use Rattle.aio_script.specs.declared.print.WriteFault.{WriteFault}
-use Rattle.aio_script.specs.Printing.{Gathers, Prints}
+use Rattle.aio_script.specs.Printing.{PutsOnPage, Prints}
 
 -- what was handed over, and then a part of what was left and of what came behind it
 regroup : (page a b first left second rest : List ℕ) → page ++ a ≡ first ++ left → left ++ b ≡ second ++ rest
@@ -19,8 +19,8 @@ joined : (before between after : Option (List ℕ)) (first second : List ℕ)
     → between ≡ with_piece first before → after ≡ with_piece second between → after ≡ with_piece (first ++ second) before
 joined before between after first second one two = two ∙ ap (with_piece second) one ∙ with_piece-with_piece before first second
 
-pub Gathers-nothing : (page : List ℕ) (held : Option (List ℕ)) (faults : ℕ) → Gathers [] page page held held faults faults (Ok tt)
-Gathers-nothing page held faults = record {
+pub PutsOnPage-nothing : (page : List ℕ) (held : Option (List ℕ)) (faults : ℕ) → PutsOnPage [] page page held held faults faults (Ok tt)
+PutsOnPage-nothing page held faults = record {
   ok = record { front = []; whole = append-nil page; holds = sym (with_piece-nil held) };
   err = tt;
   counted = omega arith;
@@ -28,10 +28,10 @@ Gathers-nothing page held faults = record {
 }
 
 -- the second text, gathered or not, behind the first one
-pub Gathers-then : {page left last : List ℕ} {before between after : Option (List ℕ)} {f g h : ℕ} {a b : List ℕ} (result : Result Unit WriteFault)
-    → Gathers a page left before between f g (Ok tt) → Gathers b left last between after g h result
-    → Gathers (a ++ b) page last before after f h result
-Gathers-then {page} {left} {last} {before} {between} {after} {f} {g} {h} {a} {b} (Ok u) one two = record {
+pub PutsOnPage-then : {page left last : List ℕ} {before between after : Option (List ℕ)} {f g h : ℕ} {a b : List ℕ} (result : Result Unit WriteFault)
+    → PutsOnPage a page left before between f g (Ok tt) → PutsOnPage b left last between after g h result
+    → PutsOnPage (a ++ b) page last before after f h result
+PutsOnPage-then {page} {left} {last} {before} {between} {after} {f} {g} {h} {a} {b} (Ok u) one two = record {
   ok = record {
     front = one.ok.front ++ two.ok.front;
     whole = regroup page a b one.ok.front left two.ok.front last one.ok.whole two.ok.whole;
@@ -41,7 +41,7 @@ Gathers-then {page} {left} {last} {before} {between} {after} {f} {g} {h} {a} {b}
   counted = omega (arith, one.counted, two.counted);
   cause = tt;
 }
-Gathers-then {page} {left} {last} {before} {between} {after} {f} {g} {h} {a} {b} (Err fault) one two = record {
+PutsOnPage-then {page} {left} {last} {before} {between} {after} {f} {g} {h} {a} {b} (Err fault) one two = record {
   ok = tt;
   err = record {
     front = one.ok.front ++ two.err.front;
@@ -54,18 +54,18 @@ Gathers-then {page} {left} {last} {before} {between} {after} {f} {g} {h} {a} {b}
 }
 
 -- one more line, where the text was gathered
-pub Gathers-more : {first left last : List ℕ} {before between after : Option (List ℕ)} {f g h : ℕ} {text line : List ℕ} {written : Result Unit WriteFault} {u : Unit} (result : Result Unit WriteFault)
-    → written ≡ Ok u → Gathers text first left before between f g written → Gathers line left last between after g h result
-    → Gathers (text ++ line) first last before after f h result
-Gathers-more {first} {left} {last} {before} {between} {after} {f} {g} {h} {text} {line} {written} {u} result is one two =
-    let P : Result Unit WriteFault → Type 0 = λ r. Gathers text first left before between f g r in
-    Gathers-then result (subst P is one) two
+pub PutsOnPage-more : {first left last : List ℕ} {before between after : Option (List ℕ)} {f g h : ℕ} {text line : List ℕ} {written : Result Unit WriteFault} {u : Unit} (result : Result Unit WriteFault)
+    → written ≡ Ok u → PutsOnPage text first left before between f g written → PutsOnPage line left last between after g h result
+    → PutsOnPage (text ++ line) first last before after f h result
+PutsOnPage-more {first} {left} {last} {before} {between} {after} {f} {g} {h} {text} {line} {written} {u} result is one two =
+    let P : Result Unit WriteFault → Type 0 = λ r. PutsOnPage text first left before between f g r in
+    PutsOnPage-then result (subst P is one) two
 
 -- the first text wasn't gathered, and the call ends with the fault
-pub Gathers-stops : {page left last : List ℕ} {before after : Option (List ℕ)} {f g : ℕ} {a : List ℕ} {fault : WriteFault} (b : List ℕ) (result : Result Unit WriteFault)
-    → IsErr result → Gathers a page left before after f g (Err fault) → Gathers (a ++ b) page last before after f g result
-Gathers-stops b (Ok u) bad one = cc bad
-Gathers-stops {page} {left} {last} {before} {after} {f} {g} {a} b (Err fault) bad one = record {
+pub PutsOnPage-stops : {page left last : List ℕ} {before after : Option (List ℕ)} {f g : ℕ} {a : List ℕ} {fault : WriteFault} (b : List ℕ) (result : Result Unit WriteFault)
+    → IsErr result → PutsOnPage a page left before after f g (Err fault) → PutsOnPage (a ++ b) page last before after f g result
+PutsOnPage-stops b (Ok u) bad one = cc bad
+PutsOnPage-stops {page} {left} {last} {before} {after} {f} {g} {a} b (Err fault) bad one = record {
   ok = tt;
   err = let longer : AppendsFront before after ((page ++ a) ++ b) = AppendsFront-longer before after (page ++ a) b one.err in
       let P : List ℕ → Type 0 = λ text. AppendsFront before after text in subst P (append_assoc page a b) longer;
@@ -74,15 +74,15 @@ Gathers-stops {page} {left} {last} {before} {after} {f} {g} {a} b (Err fault) ba
 }
 
 -- the same text, said otherwise
-pub Gathers-same : {page last : List ℕ} {before after : Option (List ℕ)} {f g : ℕ} {a b : List ℕ} {result : Result Unit WriteFault}
-    → a ≡ b → Gathers a page last before after f g result → Gathers b page last before after f g result
-Gathers-same {page} {last} {before} {after} {f} {g} {a} {b} {result} e h =
-    let P : List ℕ → Type 0 = λ text. Gathers text page last before after f g result in subst P e h
+pub PutsOnPage-same : {page last : List ℕ} {before after : Option (List ℕ)} {f g : ℕ} {a b : List ℕ} {result : Result Unit WriteFault}
+    → a ≡ b → PutsOnPage a page last before after f g result → PutsOnPage b page last before after f g result
+PutsOnPage-same {page} {last} {before} {after} {f} {g} {a} {b} {result} e h =
+    let P : List ℕ → Type 0 = λ text. PutsOnPage text page last before after f g result in subst P e h
 
 -- The page was handed over, and then the piece gathered on the page, which was empty.
 behind_empty : (text page last : List ℕ) (before between after : Option (List ℕ)) (f g h : ℕ) (result : Result Unit WriteFault)
-    → between ≡ with_piece page before → f ≤ g → Gathers text [] last between after g h result
-    → Gathers text page last before after f h result
+    → between ≡ with_piece page before → f ≤ g → PutsOnPage text [] last between after g h result
+    → PutsOnPage text page last before after f h result
 behind_empty text page last before between after f g h (Ok u) handed counted then = record {
   ok = record {
     front = page ++ then.ok.front;
@@ -100,11 +100,11 @@ behind_empty text page last before between after f g h (Err fault) handed counte
   cause = HasRisen-earlier f g h counted then.cause;
 }
 
-pub Gathers-behind : {text page empty last : List ℕ} {before between after : Option (List ℕ)} {f g h : ℕ} {result : Result Unit WriteFault}
-    → between ≡ with_piece page before → empty ≡ [] → f ≤ g → Gathers text empty last between after g h result
-    → Gathers text page last before after f h result
-Gathers-behind {text} {page} {empty} {last} {before} {between} {after} {f} {g} {h} {result} handed is counted then =
-    let P : List ℕ → Type 0 = λ p. Gathers text p last between after g h result in
+pub PutsOnPage-behind : {text page empty last : List ℕ} {before between after : Option (List ℕ)} {f g h : ℕ} {result : Result Unit WriteFault}
+    → between ≡ with_piece page before → empty ≡ [] → f ≤ g → PutsOnPage text empty last between after g h result
+    → PutsOnPage text page last before after f h result
+PutsOnPage-behind {text} {page} {empty} {last} {before} {between} {after} {f} {g} {h} {result} handed is counted then =
+    let P : List ℕ → Type 0 = λ p. PutsOnPage text p last between after g h result in
     behind_empty text page last before between after f g h result handed counted (subst P is then)
 
 -- the first of two facts of an `Ok`
@@ -114,11 +114,11 @@ OnOk-first P Q (Err fault) both = tt
 
 -- What was gathered on a page that was empty was then handed over, or wasn't: the text was printed, or a front of it.
 pub Prints-gathered : {empty page : List ℕ} {before between after : Option (List ℕ)} {f g h : ℕ} {text : List ℕ} (result : Result Unit WriteFault)
-    → empty ≡ [] → Gathers text empty page before between f g (Ok tt) → Prints page between after g h result → Prints text before after f h result
+    → empty ≡ [] → PutsOnPage text empty page before between f g (Ok tt) → Prints page between after g h result → Prints text before after f h result
 Prints-gathered {empty} {page} {before} {between} {after} {f} {g} {h} {text} result is gathered handed =
-    let P : List ℕ → Type 0 = λ e. Gathers text e page before between f g (Ok tt) in whole result (subst P is gathered) handed
+    let P : List ℕ → Type 0 = λ e. PutsOnPage text e page before between f g (Ok tt) in whole result (subst P is gathered) handed
   where
-    whole : (result : Result Unit WriteFault) → Gathers text [] page before between f g (Ok tt) → Prints page between after g h result → Prints text before after f h result
+    whole : (result : Result Unit WriteFault) → PutsOnPage text [] page before between f g (Ok tt) → Prints page between after g h result → Prints text before after f h result
     whole (Ok u) gathered handed = record {
       ok = let same : after ≡ with_piece (gathered.ok.front ++ page) before = joined before between after gathered.ok.front page gathered.ok.holds handed.ok in
           same ∙ ap (λ (x : List ℕ). with_piece x before) (sym gathered.ok.whole);
@@ -136,7 +136,7 @@ Prints-gathered {empty} {page} {before} {between} {after} {f} {g} {h} {text} res
 
 -- It wasn't even gathered.
 pub Prints-ungathered : {empty page : List ℕ} {before after : Option (List ℕ)} {f g : ℕ} {text : List ℕ} {fault : WriteFault} (result : Result Unit WriteFault)
-    → IsErr result → empty ≡ [] → Gathers text empty page before after f g (Err fault) → Prints text before after f g result
+    → IsErr result → empty ≡ [] → PutsOnPage text empty page before after f g (Err fault) → Prints text before after f g result
 Prints-ungathered (Ok u) bad is gathered = cc bad
 Prints-ungathered {empty} {page} {before} {after} {f} {g} {text} (Err fault) bad is gathered = record {
   ok = tt;

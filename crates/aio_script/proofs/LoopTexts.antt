@@ -4,11 +4,11 @@ use Rattle.aio_model.specs.declared.commits.Commit.{Commit}
 use Rattle.aio_model.specs.declared.loop_replies.LoopReply.TheVariants.{Committed}
 use Rattle.aio_model.specs.LoopLines.{reply_text}
 use Rattle.aio_script.specs.declared.print.WriteFault.{WriteFault}
-use Rattle.aio_script.specs.Printing.{Gathers}
-use Rattle.aio_script.proofs.Gathered.{Gathers-same}
+use Rattle.aio_script.specs.Printing.{PutsOnPage}
+use Rattle.aio_script.proofs.Gathered.{PutsOnPage-same}
 
-pub Gathers-commit : {commit other : Commit} {page last : List ℕ} {before after : Option (List ℕ)} {f g : ℕ} {result : Result Unit WriteFault}
+pub PutsOnPage-commit : {commit other : Commit} {page last : List ℕ} {before after : Option (List ℕ)} {f g : ℕ} {result : Result Unit WriteFault}
     → commit ≡ other
-    → Gathers (reply_text (Committed other)) page last before after f g result
-    → Gathers (reply_text (Committed commit)) page last before after f g result
-Gathers-commit e h = Gathers-same (ap (λ (commit : Commit). reply_text (Committed commit)) (sym e)) h
+    → PutsOnPage (reply_text (Committed other)) page last before after f g result
+    → PutsOnPage (reply_text (Committed commit)) page last before after f g result
+PutsOnPage-commit e h = PutsOnPage-same (ap (λ (commit : Commit). reply_text (Committed commit)) (sym e)) h

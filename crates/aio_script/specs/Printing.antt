@@ -20,7 +20,7 @@ pub record HandsOver (text left : List ℕ) (before after : Option (List ℕ)) :
 
 -- The text was put behind what stood on the page, and so much of both was handed to the sink that the page has the
 -- rest; or the sink failed, and has a front of both.
-pub record Gathers (text page_before page_after : List ℕ) (before after : Option (List ℕ)) (faults_before faults_after : ℕ) (result : Result Unit WriteFault) : Type 0 where
+pub record PutsOnPage (text page_before page_after : List ℕ) (before after : Option (List ℕ)) (faults_before faults_after : ℕ) (result : Result Unit WriteFault) : Type 0 where
   pub ok : OnOk result (HandsOver (page_before ++ text) page_after before after)
   pub err : OnErr result (AppendsFront before after (page_before ++ text))
   pub counted : faults_before ≤ faults_after

@@ -6,7 +6,7 @@ ghost use Rattle.aio_model.specs.declared.loop_replies.LoopReply.TheVariants.{Co
 ghost use Rattle.aio_model.specs.declared.commits.Commit.TheVariants.{Awake, Sleep};
 ghost use Rattle.aio_words.specs.Content.{AppendsFront};
 ghost use Rattle.aio_words.specs.Faults.{HasRisen};
-ghost use Rattle.aio_script.specs.Printing.{Gathers, HandsOver};
+ghost use Rattle.aio_script.specs.Printing.{PutsOnPage, HandsOver};
 
 use crate::page::{Page, put, put_counted, put_parts};
 use crate::print::WriteFault;
@@ -67,7 +67,7 @@ fn print_told<K: Sink>(
     n: u32,
     told: &[u8],
 ) -> Result<(), WriteFault>
-    ensures { Gathers (word.now ++ (decimal n ++ told.now)) page.old page.new (K.held sink.old) (K.held sink.new) (K.faults sink.old) (K.faults sink.new) result }
+    ensures { PutsOnPage (word.now ++ (decimal n ++ told.now)) page.old page.new (K.held sink.old) (K.held sink.new) (K.faults sink.old) (K.faults sink.new) result }
 {
     let mut digits = Buffer::new();
     put_parts(sink, page, &[word, digits.format(n).as_bytes(), told])
@@ -80,7 +80,7 @@ fn print_flagged<K: Sink>(
     flags: Flags,
 ) -> Result<(), WriteFault>
     requires { IsCall command }
-    ensures { Gathers (reply_text (Flagged command flags)) page.old page.new (K.held sink.old) (K.held sink.new) (K.faults sink.old) (K.faults sink.new) result }
+    ensures { PutsOnPage (reply_text (Flagged command flags)) page.old page.new (K.held sink.old) (K.held sink.new) (K.faults sink.old) (K.faults sink.new) result }
 {
     let (verb, bh) = verb_and_handle(command);
     let mut digits = Buffer::new();
@@ -117,7 +117,7 @@ fn verb_and_handle(command: Command) -> (&'static [u8], u32)
 
 fn print_commit<K: Sink>(sink: &mut K, page: &mut Page, commit: Commit) -> Result<(), WriteFault>
     requires { HasNoDeadline commit }
-    ensures { Gathers (reply_text (Committed commit)) page.old page.new (K.held sink.old) (K.held sink.new) (K.faults sink.old) (K.faults sink.new) result }
+    ensures { PutsOnPage (reply_text (Committed commit)) page.old page.new (K.held sink.old) (K.held sink.new) (K.faults sink.old) (K.faults sink.new) result }
 {
     match commit {
         Commit::Awake(why) => print_awake(sink, page, why),
@@ -127,7 +127,7 @@ fn print_commit<K: Sink>(sink: &mut K, page: &mut Page, commit: Commit) -> Resul
 
 fn print_awake<K: Sink>(sink: &mut K, page: &mut Page, why: Why) -> Result<(), WriteFault>
     requires { HasNoDeadline (Awake why) }
-    ensures { Gathers (reply_text (Committed (Awake why))) page.old page.new (K.held sink.old) (K.held sink.new) (K.faults sink.old) (K.faults sink.new) result }
+    ensures { PutsOnPage (reply_text (Committed (Awake why))) page.old page.new (K.held sink.old) (K.held sink.new) (K.faults sink.old) (K.faults sink.new) result }
 {
     match why {
         Why::Urgent(bh) => put_counted(sink, page, b"commit awake urgent ", u64::from(bh)),
@@ -138,7 +138,7 @@ fn print_awake<K: Sink>(sink: &mut K, page: &mut Page, why: Why) -> Result<(), W
 }
 
 fn print_sleep<K: Sink>(sink: &mut K, page: &mut Page, left: Option<u64>) -> Result<(), WriteFault>
-    ensures { Gathers (reply_text (Committed (Sleep left))) page.old page.new (K.held sink.old) (K.held sink.new) (K.faults sink.old) (K.faults sink.new) result }
+    ensures { PutsOnPage (reply_text (Committed (Sleep left))) page.old page.new (K.held sink.old) (K.held sink.new) (K.faults sink.old) (K.faults sink.new) result }
 {
     match left {
         None => put_parts(sink, page, &[b"commit sleep forever\n"]),
@@ -155,7 +155,7 @@ pub fn print_poll<K: Sink>(
     progress: bool,
     cut: u64,
 ) -> Result<(), WriteFault>
-    ensures { Gathers (reply_text (Ran called.now more progress cut)) page.old page.new (K.held sink.old) (K.held sink.new) (K.faults sink.old) (K.faults sink.new) result }
+    ensures { PutsOnPage (reply_text (Ran called.now more progress cut)) page.old page.new (K.held sink.old) (K.held sink.new) (K.faults sink.old) (K.faults sink.new) result }
 {
     if found_nothing(called, more, progress, cut) {
         return print_idle(sink, page);
@@ -171,7 +171,7 @@ fn found_nothing(called: &RanList, more: u64, progress: bool, cut: u64) -> bool
 
 // The line of a poll that called nothing, which a loop with nothing to do prints again and again, in one piece.
 fn print_idle<K: Sink>(sink: &mut K, page: &mut Page) -> Result<(), WriteFault>
-    ensures { Gathers (reply_text (Ran [] 0 false 0)) page.old page.new (K.held sink.old) (K.held sink.new) (K.faults sink.old) (K.faults sink.new) result }
+    ensures { PutsOnPage (reply_text (Ran [] 0 false 0)) page.old page.new (K.held sink.old) (K.held sink.new) (K.faults sink.old) (K.faults sink.new) result }
 {
     put(sink, page, b"poll ran - progress no cut 0\n")
 }
@@ -184,7 +184,7 @@ fn print_ran<K: Sink>(
     progress: bool,
     cut: u64,
 ) -> Result<(), WriteFault>
-    ensures { Gathers (reply_text (Ran called.now more progress cut)) page.old page.new (K.held sink.old) (K.held sink.new) (K.faults sink.old) (K.faults sink.new) result }
+    ensures { PutsOnPage (reply_text (Ran called.now more progress cut)) page.old page.new (K.held sink.old) (K.held sink.new) (K.faults sink.old) (K.faults sink.new) result }
 {
     put_parts(sink, page, &[b"poll ran"])?;
     print_list(sink, page, called)?;
@@ -198,7 +198,7 @@ fn print_end_of_poll<K: Sink>(
     progress: bool,
     cut: u64,
 ) -> Result<(), WriteFault>
-    ensures { Gathers (codes " progress " ++ (progress_text progress ++ (codes " cut " ++ (decimal cut ++ codes "\n")))) page.old page.new (K.held sink.old) (K.held sink.new) (K.faults sink.old) (K.faults sink.new) result }
+    ensures { PutsOnPage (codes " progress " ++ (progress_text progress ++ (codes " cut " ++ (decimal cut ++ codes "\n")))) page.old page.new (K.held sink.old) (K.held sink.new) (K.faults sink.old) (K.faults sink.new) result }
 {
     let mut digits = Buffer::new();
     put_parts(
@@ -215,7 +215,7 @@ fn print_end_of_poll<K: Sink>(
 }
 
 fn print_list<K: Sink>(sink: &mut K, page: &mut Page, called: &RanList) -> Result<(), WriteFault>
-    ensures { Gathers (list_text called.now) page.old page.new (K.held sink.old) (K.held sink.new) (K.faults sink.old) (K.faults sink.new) result }
+    ensures { PutsOnPage (list_text called.now) page.old page.new (K.held sink.old) (K.held sink.new) (K.faults sink.old) (K.faults sink.new) result }
 {
     let members = called.as_slice();
     if members.is_empty() {
@@ -226,7 +226,7 @@ fn print_list<K: Sink>(sink: &mut K, page: &mut Page, called: &RanList) -> Resul
 }
 
 fn print_each<K: Sink>(sink: &mut K, page: &mut Page, called: &[Called]) -> Result<(), WriteFault>
-    ensures { Gathers (flat_map behind_space called.now) page.old page.new (K.held sink.old) (K.held sink.new) (K.faults sink.old) (K.faults sink.new) result }
+    ensures { PutsOnPage (flat_map behind_space called.now) page.old page.new (K.held sink.old) (K.held sink.new) (K.faults sink.old) (K.faults sink.new) result }
 {
     for one in called {
         print_called(sink, page, *one)?;
@@ -235,7 +235,7 @@ fn print_each<K: Sink>(sink: &mut K, page: &mut Page, called: &[Called]) -> Resu
 }
 
 fn print_called<K: Sink>(sink: &mut K, page: &mut Page, called: Called) -> Result<(), WriteFault>
-    ensures { Gathers (behind_space called) page.old page.new (K.held sink.old) (K.held sink.new) (K.faults sink.old) (K.faults sink.new) result }
+    ensures { PutsOnPage (behind_space called) page.old page.new (K.held sink.old) (K.held sink.new) (K.faults sink.old) (K.faults sink.new) result }
 {
     let mut digits = Buffer::new();
     match called {
@@ -245,7 +245,7 @@ fn print_called<K: Sink>(sink: &mut K, page: &mut Page, called: Called) -> Resul
 }
 
 fn print_more<K: Sink>(sink: &mut K, page: &mut Page, more: u64) -> Result<(), WriteFault>
-    ensures { Gathers (more_text more) page.old page.new (K.held sink.old) (K.held sink.new) (K.faults sink.old) (K.faults sink.new) result }
+    ensures { PutsOnPage (more_text more) page.old page.new (K.held sink.old) (K.held sink.new) (K.faults sink.old) (K.faults sink.new) result }
 {
     if more == 0 {
         return Ok(());

@@ -3,7 +3,7 @@ ghost use Rattle.std.specs.Prelude.{◌≡◌, ◌+◌, ◌++◌, ◌≤◌, [],
 ghost use Rattle.std.specs.List.{flat_map};
 ghost use Rattle.aio_words.specs.Content.{with_piece, AppendsFront};
 ghost use Rattle.aio_words.specs.Faults.{HasRisen};
-ghost use Rattle.aio_script.specs.Printing.{Gathers, Prints};
+ghost use Rattle.aio_script.specs.Printing.{PutsOnPage, Prints};
 
 use crate::print::{WriteFault, print_piece};
 use aio_words::Sink;
@@ -79,7 +79,7 @@ pub fn hand_over<K: Sink>(sink: &mut K, page: &mut Page) -> Result<(), WriteFaul
 
 /// Puts a piece behind what stands on the page, which is handed over before where there is no room for both.
 pub(crate) fn put<K: Sink>(sink: &mut K, page: &mut Page, piece: &[u8]) -> Result<(), WriteFault>
-    ensures { Gathers piece.now page.old page.new (K.held sink.old) (K.held sink.new) (K.faults sink.old) (K.faults sink.new) result }
+    ensures { PutsOnPage piece.now page.old page.new (K.held sink.old) (K.held sink.new) (K.faults sink.old) (K.faults sink.new) result }
 {
     if page.has_room(piece.len()) {
         page.push(piece);
@@ -92,7 +92,7 @@ pub(crate) fn put<K: Sink>(sink: &mut K, page: &mut Page, piece: &[u8]) -> Resul
 // The first piece of an empty page. One that is longer than a page goes to the sink at once.
 fn put_first<K: Sink>(sink: &mut K, page: &mut Page, piece: &[u8]) -> Result<(), WriteFault>
     requires { page.old ≡ [] }
-    ensures { Gathers piece.now page.old page.new (K.held sink.old) (K.held sink.new) (K.faults sink.old) (K.faults sink.new) result }
+    ensures { PutsOnPage piece.now page.old page.new (K.held sink.old) (K.held sink.new) (K.faults sink.old) (K.faults sink.new) result }
 {
     if page.has_room(piece.len()) {
         page.push(piece);
@@ -106,7 +106,7 @@ pub(crate) fn put_parts<K: Sink>(
     page: &mut Page,
     parts: &[&[u8]],
 ) -> Result<(), WriteFault>
-    ensures { Gathers (flat_map (λ part. part.now) parts.now) page.old page.new (K.held sink.old) (K.held sink.new) (K.faults sink.old) (K.faults sink.new) result }
+    ensures { PutsOnPage (flat_map (λ part. part.now) parts.now) page.old page.new (K.held sink.old) (K.held sink.new) (K.faults sink.old) (K.faults sink.new) result }
 {
     for part in parts {
         put(sink, page, part)?;
@@ -120,7 +120,7 @@ pub(crate) fn put_counted<K: Sink>(
     word: &[u8],
     n: u64,
 ) -> Result<(), WriteFault>
-    ensures { Gathers (word.now ++ (decimal n ++ codes "\n")) page.old page.new (K.held sink.old) (K.held sink.new) (K.faults sink.old) (K.faults sink.new) result }
+    ensures { PutsOnPage (word.now ++ (decimal n ++ codes "\n")) page.old page.new (K.held sink.old) (K.held sink.new) (K.faults sink.old) (K.faults sink.new) result }
 {
     let mut digits = Buffer::new();
     put_parts(sink, page, &[word, digits.format(n).as_bytes(), b"\n"])

@@ -3,7 +3,7 @@ ghost use Rattle.std.specs.Prelude.{◌≡◌, ◌*◌, ◌++◌, ◌≤◌, cod
 ghost use Rattle.aio_model.specs.PrintedText.{data_text, end_line, hex_of, line_of, outcome_of, verb_of};
 ghost use Rattle.aio_words.specs.Content.{AppendsFront};
 ghost use Rattle.aio_words.specs.Faults.{HasRisen};
-ghost use Rattle.aio_script.specs.Printing.{Gathers, HandsOver};
+ghost use Rattle.aio_script.specs.Printing.{PutsOnPage, HandsOver};
 
 use crate::page::{Page, put, put_counted, put_parts};
 use crate::print::WriteFault;
@@ -63,7 +63,7 @@ fn print_head<K: Sink>(
     stream: u32,
     request: &Request,
 ) -> Result<(), WriteFault>
-    ensures { Gathers (decimal place ++ (codes " " ++ (decimal stream ++ (codes " " ++ (verb_of request.now ++ codes " "))))) page.old page.new (K.held sink.old) (K.held sink.new) (K.faults sink.old) (K.faults sink.new) result }
+    ensures { PutsOnPage (decimal place ++ (codes " " ++ (decimal stream ++ (codes " " ++ (verb_of request.now ++ codes " "))))) page.old page.new (K.held sink.old) (K.held sink.new) (K.faults sink.old) (K.faults sink.new) result }
 {
     let mut place_digits = Buffer::new();
     let mut stream_digits = Buffer::new();
@@ -94,7 +94,7 @@ fn verb_of(request: &Request) -> &'static [u8]
 
 // The outcome, and the line's end.
 fn print_outcome<K: Sink>(sink: &mut K, page: &mut Page, reply: &Reply) -> Result<(), WriteFault>
-    ensures { Gathers (outcome_of reply.now ++ codes "\n") page.old page.new (K.held sink.old) (K.held sink.new) (K.faults sink.old) (K.faults sink.new) result }
+    ensures { PutsOnPage (outcome_of reply.now ++ codes "\n") page.old page.new (K.held sink.old) (K.held sink.new) (K.faults sink.old) (K.faults sink.new) result }
 {
     match reply {
         Reply::Put(n) | Reply::Zeroed(n) => put_counted(sink, page, b"ok ", u64::from(*n)),
@@ -106,7 +106,7 @@ fn print_outcome<K: Sink>(sink: &mut K, page: &mut Page, reply: &Reply) -> Resul
 }
 
 fn print_found<K: Sink>(sink: &mut K, page: &mut Page, bytes: &[u8]) -> Result<(), WriteFault>
-    ensures { Gathers (codes "ok " ++ (data_text bytes.now ++ codes "\n")) page.old page.new (K.held sink.old) (K.held sink.new) (K.faults sink.old) (K.faults sink.new) result }
+    ensures { PutsOnPage (codes "ok " ++ (data_text bytes.now ++ codes "\n")) page.old page.new (K.held sink.old) (K.held sink.new) (K.faults sink.old) (K.faults sink.new) result }
 {
     if bytes.is_empty() {
         return put_parts(sink, page, &[b"ok -\n"]);
@@ -118,7 +118,7 @@ fn print_found<K: Sink>(sink: &mut K, page: &mut Page, bytes: &[u8]) -> Result<(
 
 // Data go through a buffer on the stack, piece by piece.
 fn print_hex<K: Sink>(sink: &mut K, page: &mut Page, bytes: &[u8]) -> Result<(), WriteFault>
-    ensures { Gathers (hex_of bytes.now) page.old page.new (K.held sink.old) (K.held sink.new) (K.faults sink.old) (K.faults sink.new) result }
+    ensures { PutsOnPage (hex_of bytes.now) page.old page.new (K.held sink.old) (K.held sink.new) (K.faults sink.old) (K.faults sink.new) result }
 {
     let mut at = 0;
     while at < bytes.len() {
@@ -133,7 +133,7 @@ const PIECE: usize = 256;
 
 fn print_hex_piece<K: Sink>(sink: &mut K, page: &mut Page, piece: &[u8]) -> Result<(), WriteFault>
     requires { length piece.now ≤ PIECE }
-    ensures { Gathers (hex_of piece.now) page.old page.new (K.held sink.old) (K.held sink.new) (K.faults sink.old) (K.faults sink.new) result }
+    ensures { PutsOnPage (hex_of piece.now) page.old page.new (K.held sink.old) (K.held sink.new) (K.faults sink.old) (K.faults sink.new) result }
 {
     let mut room = [0u8; 2 * PIECE];
     let digits = &mut room[..2 * piece.len()];

@@ -4,7 +4,7 @@ use Rattle.std.proofs.lemmas.Bool.{cases_Bool, cases_lt, lt-ltb, le-ltb, ltb-tru
 use Rattle.aio_model.specs.declared.timer_calls.TimerCall.{TimerCall}
 use Rattle.aio_model.specs.declared.timer_calls.TimerCall.TheVariants.{Arm, Disarm, RunBegin, Give}
 use Rattle.aio_model.specs.TimerCalls.{from_zero}
-use Rattle.aio_timers.specs.Keys.{none, stamps, key_at, joint, AreApart, AreStamped}
+use Rattle.aio_timers.specs.Keys.{none, stamps, key_at, joint, ShareNone, AreStamped}
 use Rattle.aio_timers.specs.Moving.{Moves}
 use Rattle.aio_timers.specs.Restamping.{Restamps}
 use Rattle.aio_timers.specs.Kept.{list_of}
@@ -18,7 +18,7 @@ Stand due waiting room number calls = StandsFor (list_of (joint due waiting) (ke
 
 -- rows whose stamps were given anew
 module _ (due waiting due' waiting' : List ℕ) (restamps : Restamps due waiting due' waiting') where
-  pub apart_anew : AreApart due waiting → AreApart due' waiting'
+  pub apart_anew : ShareNone due waiting → ShareNone due' waiting'
   apart_anew apart = λ k h.
       let was = ltb-true (key_at due k) none (sym (restamps.due_keys k) ∙ lt-ltb (key_at due' k) none h) in
       ltb-false (key_at waiting' k) none (restamps.waiting_keys k ∙ le-ltb (key_at waiting k) none (apart k was))
@@ -51,7 +51,7 @@ module _ (due waiting due' waiting' : List ℕ) (timer key : ℕ) (in_due : time
   put_due_others : (k : ℕ) → (k ≡ timer → ⊥) → key_at due' k ≡ key_at due k
   put_due_others k ne = ap (λ d. key_at d k) due_is ∙ get_or-set_other due timer k none none ne
 
-  pub put_apart : AreApart due waiting → AreApart due' waiting'
+  pub put_apart : ShareNone due waiting → ShareNone due' waiting'
   put_apart apart = λ k h.
       omega (arith, ap (λ w. key_at w k) waiting_is, apart_put due waiting timer in_due in_waiting key apart k (omega (arith, ap (λ d. key_at d k) due_is)))
 
@@ -74,7 +74,7 @@ module _ (due waiting due' waiting' : List ℕ) (timer key : ℕ) (in_due : time
         stands_from (joint due' waiting') (key_at due') room number next off_stamped fits (of_rows due' waiting') (Disarm timer ∷ calls) (tell_disarmed (joint due waiting) (key_at due) (joint due' waiting') (key_at due') number calls tell timer put_others (omega (arith, put_due)) put_due_others (omega (arith, put_here)))
 
 -- rows of which the run gave a timer
-module _ (due waiting due' : List ℕ) (timer : ℕ) (apart : AreApart due waiting) (in_due : timer < length due) (has_key : key_at due timer < none)
+module _ (due waiting due' : List ℕ) (timer : ℕ) (apart : ShareNone due waiting) (in_due : timer < length due) (has_key : key_at due timer < none)
     (due_is : due' ≡ set due timer none) (number next : ℕ) (stamped : AreStamped (joint due waiting) number next) where
   due_gone : key_at due' timer ≡ none
   due_gone = ap (λ d. key_at d timer) due_is ∙ get_or-set_same due timer none none in_due

@@ -2,7 +2,7 @@
 use Rattle.std.proofs.Common.{◌≡◌, ℕ, ◌+◌, ◌*◌, ◌%◌, ◌<◌, ◌≤◌, List, length, set, refl, sym, ◌∙◌, ap, inl, inr, arith, get_or-set_same, get_or-set_other}
 use Rattle.std.proofs.lemmas.Bool.{cases_lt, cases_eq, lt-ltb, le-ltb}
 use Rattle.std.proofs.lemmas.List.{get_or_past}
-use Rattle.aio_timers.specs.Keys.{none, stamps, key_at, joint, AreApart, AreStamped}
+use Rattle.aio_timers.specs.Keys.{none, stamps, key_at, joint, ShareNone, AreStamped}
 use Rattle.aio_timers.proofs.Standing.{AreOf}
 
 module _ (due waiting : List ℕ) where
@@ -25,7 +25,7 @@ module _ (due waiting : List ℕ) where
     | inr unset ↦ omega (arith, joint_waiting timer unset)
   ]
 
-  pub waiting_is_joint : AreApart due waiting → (timer : ℕ) → key_at waiting timer < none → joint due waiting timer ≡ key_at waiting timer
+  pub waiting_is_joint : ShareNone due waiting → (timer : ℕ) → key_at waiting timer < none → joint due waiting timer ≡ key_at waiting timer
   waiting_is_joint apart timer h = elim (cases_lt (key_at due timer) none) [
     | inl set_ ↦ absurd (omega (arith, apart timer set_))
     | inr unset ↦ joint_waiting timer unset
@@ -68,7 +68,7 @@ module _ (due waiting : List ℕ) (timer : ℕ) (in_due : timer < length due) (i
   pub joint_put : (key : ℕ) → joint (set due timer none) (set waiting timer key) timer ≡ key
   joint_put key = joint_waiting (set due timer none) (set waiting timer key) timer (omega (arith, due_off)) ∙ get_or-set_same waiting timer key none in_waiting
 
-  pub apart_put : (key : ℕ) → AreApart due waiting → AreApart (set due timer none) (set waiting timer key)
+  pub apart_put : (key : ℕ) → ShareNone due waiting → ShareNone (set due timer none) (set waiting timer key)
   apart_put key apart = λ k h. elim (cases_eq k timer) [
     | inl e ↦ absurd (omega (arith, due_off, ap (key_at (set due timer none)) e))
     | inr ne ↦

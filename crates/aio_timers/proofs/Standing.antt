@@ -3,7 +3,7 @@ use Rattle.std.proofs.Common.{◌≡◌, ℕ, ℤ, ◌+◌, ◌*◌, ◌/◌, �
 use Rattle.std.proofs.lemmas.Bool.{cases_Bool, cases_eq, cases_lt, eq-eqb, ne_eqb, eqb-true, eqb-false, lt-ltb, le-ltb, ltb-true}
 use Rattle.aio_model.specs.declared.timer_calls.TimerCall.{TimerCall}
 use Rattle.aio_model.specs.declared.timer_calls.TimerCall.TheVariants.{Add, Arm, Disarm, RunBegin, Give}
-use Rattle.aio_model.specs.TimerCalls.{made, from_zero, expiry, place, is_armed, is_marked, StandsBefore, IsFirst, IsNone, IsEarliest}
+use Rattle.aio_model.specs.TimerCalls.{made, from_zero, expiry, place, is_armed, is_marked, StandsBefore, IsFirstOfKind, IsNone, IsEarliest}
 use Rattle.aio_timers.specs.Keys.{none, stamps, AreStamped}
 use Rattle.aio_timers.specs.Order.{in_order}
 use Rattle.aio_timers.specs.Kept.{list_of}
@@ -65,7 +65,7 @@ module _ (keys due : ℕ → ℕ) (room number next : ℕ) (stamped : AreStamped
 
   module _ (tell : Tell keys due number calls) where
     -- the timer of the least key
-    pub first_armed : (timer : ℕ) → keys timer < none → ((other : ℕ) → keys timer ≤ keys other) → IsFirst is_armed calls timer
+    pub first_armed : (timer : ℕ) → keys timer < none → ((other : ℕ) → keys timer ≤ keys other) → IsFirstOfKind is_armed calls timer
     first_armed timer h least = record {
       of_kind = sym (tell.armed timer) ∙ lt-ltb (keys timer) none h;
       before = λ other is ne.
@@ -76,7 +76,7 @@ module _ (keys due : ℕ → ℕ) (room number next : ℕ) (stamped : AreStamped
           ]);
     }
 
-    pub first_marked : (timer : ℕ) → due timer < none → ((other : ℕ) → due timer ≤ due other) → IsFirst is_marked calls timer
+    pub first_marked : (timer : ℕ) → due timer < none → ((other : ℕ) → due timer ≤ due other) → IsFirstOfKind is_marked calls timer
     first_marked timer h least = record {
       of_kind = sym (tell.marked timer) ∙ lt-ltb (due timer) none h;
       before = λ other is ne.

@@ -1,7 +1,7 @@
 -- How the fields of a set of timers keep it.
 use Rattle.std.specs.Prelude.{◌≡◌, ℕ, ◌+◌, ◌≤◌, length}
 use Rattle.aio_timers.specs.declared.timers.Timers.TheInside.{Inside}
-use Rattle.aio_timers.specs.Keys.{key_at, joint, AreApart, AreStamped}
+use Rattle.aio_timers.specs.Keys.{key_at, joint, ShareNone, AreStamped}
 use Rattle.aio_timers.specs.Order.{in_order, expiries_of}
 use Rattle.aio_timers.specs.StandsFor.{TimerList}
 
@@ -22,5 +22,5 @@ pub record AreKept (t : Inside) : Type 0 where
   pub waiting_sized : length t.waiting ≡ t.room + 1
   pub ranks_sized : length t.ranks.items ≡ t.room + 1
   pub made_fits : t.made ≤ t.room
-  pub apart : AreApart t.due t.waiting
+  pub apart : ShareNone t.due t.waiting
   pub stamped : AreStamped (joint t.due t.waiting) t.made t.next

@@ -29,8 +29,8 @@ pub record IsHolder (keys : List ℕ) (place : ℕ) : Type 0 where
   pub least : (other : ℕ) → key_at keys place ≤ key_at keys other
 
 -- no timer is in both rows
-abbrev pub AreApart : List ℕ → List ℕ → Type 0
-AreApart due waiting = (timer : ℕ) → key_at due timer < none → none ≤ key_at waiting timer
+abbrev pub ShareNone : List ℕ → List ℕ → Type 0
+ShareNone due waiting = (timer : ℕ) → key_at due timer < none → none ≤ key_at waiting timer
 
 -- the armed timers were made, and each has a stamp of its own, below the next
 pub record AreStamped (keys : ℕ → ℕ) (made next : ℕ) : Type 0 where

@@ -1,7 +1,7 @@
 ghost use Rattle.std.specs.Prelude.{◌≡◌, ◌<◌, ◌+◌, ◌∷◌, [], length, nat_lt, slice_set, List, IfOk, IfSome, IfNone, MatchOption};
 ghost use Rattle.aio_model.specs.declared.timer_calls.TimerCall.{TimerCall};
 ghost use Rattle.aio_model.specs.declared.timer_calls.TimerCall.TheVariants.{Add, Arm, Disarm, RunBegin, Give};
-ghost use Rattle.aio_model.specs.TimerCalls.{is_armed, is_marked, IsFirst, IsNone, IsEarliest};
+ghost use Rattle.aio_model.specs.TimerCalls.{is_armed, is_marked, IsFirstOfKind, IsNone, IsEarliest};
 ghost use Rattle.aio_timers.specs.Keys.{none, joint, AreRows};
 ghost use Rattle.aio_timers.specs.StandsFor.{StandsFor};
 
@@ -162,7 +162,7 @@ impl Timers {
     pub fn run_next(&mut self) -> Option<TimerId>
         ensures made { self.new.made ≡ self.old.made }
         ensures room { self.new.room ≡ self.old.room }
-        ensures next { (calls : List TimerCall) → StandsFor self.old calls → MatchOption result (IsNone is_marked calls) (λ id. IsFirst is_marked calls id.number) }
+        ensures next { (calls : List TimerCall) → StandsFor self.old calls → MatchOption result (IsNone is_marked calls) (λ id. IsFirstOfKind is_marked calls id.number) }
         ensures stands { IfSome result (λ id. (calls : List TimerCall) → StandsFor self.old calls → StandsFor self.new (Give id.number ∷ calls)) }
         ensures unchanged { IfNone result (self.new ≡ self.old) }
     {

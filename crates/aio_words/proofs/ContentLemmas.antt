@@ -1,7 +1,7 @@
 -- How facts of content join over several calls.
 use Rattle.std.proofs.Common.{◌≡◌, ℕ, List, [], ◌++◌, Option, Some, None, option_map, IfSome, refl, sym, ap, ◌∙◌, append_assoc}
 use Rattle.std.proofs.lemmas.List.{append-nil}
-use Rattle.aio_words.specs.Content.{Takes, with_piece, AppendsFront}
+use Rattle.aio_words.specs.Content.{TakesBytes, with_piece, AppendsFront}
 
 -- Sources
 
@@ -11,14 +11,14 @@ joined None first second = refl
 joined (Some left) first second = ap Some (sym (append_assoc first second left))
 
 -- two reads, one behind the other
-pub Takes-append : (before between now : Option (List ℕ)) (first second : List ℕ)
-    → Takes before between first → Takes between now second → Takes before now (first ++ second)
-Takes-append before between now first second took went_on =
+pub TakesBytes-append : (before between now : Option (List ℕ)) (first second : List ℕ)
+    → TakesBytes before between first → TakesBytes between now second → TakesBytes before now (first ++ second)
+TakesBytes-append before between now first second took went_on =
     took ∙ ap (λ known. option_map (λ left. first ++ left) known) went_on ∙ joined now first second
 
 -- what was taken up to the end is all that there was
 pub Takes_to_end : (before now : Option (List ℕ)) (taken : List ℕ)
-    → Takes before now taken → IfSome now (λ left. left ≡ []) → IfSome before (λ bytes. bytes ≡ taken)
+    → TakesBytes before now taken → IfSome now (λ left. left ≡ []) → IfSome before (λ bytes. bytes ≡ taken)
 Takes_to_end None now taken took at_end = tt
 Takes_to_end (Some bytes) None taken took at_end = cc
 Takes_to_end (Some bytes) (Some left) taken took at_end =

@@ -3,8 +3,8 @@
 use Rattle.std.specs.Prelude.{◌≡◌, ℕ, List, ◌++◌, Option, option_map}
 
 -- these bytes were taken from the front of what was left
-abbrev pub Takes : Option (List ℕ) → Option (List ℕ) → List ℕ → Type 0
-Takes before now taken = before ≡ option_map (λ left. taken ++ left) now
+abbrev pub TakesBytes : Option (List ℕ) → Option (List ℕ) → List ℕ → Type 0
+TakesBytes before now taken = before ≡ option_map (λ left. taken ++ left) now
 
 -- what was held, and behind it this piece
 abbrev pub with_piece : List ℕ → Option (List ℕ) → Option (List ℕ)

@@ -1,7 +1,7 @@
 ghost use Rattle.std.specs.Prelude.{◌≡◌, ◌≤◌, ◌<◌, [], ◌∷◌, Some, length, take, drop, is_err, IfOk, OnErr};
 ghost use Rattle.aio_words.specs.Called.{read_call};
 ghost use Rattle.aio_words.specs.Calls.{is_listed, one_more};
-ghost use Rattle.aio_words.specs.Content.{Takes};
+ghost use Rattle.aio_words.specs.Content.{TakesBytes};
 ghost use Rattle.aio_words.specs.Faults.{HasRisen};
 ghost use Rattle.aio_words.specs.SourceState.{count_given};
 
@@ -97,7 +97,7 @@ impl Source for MemSource {
 
         // What every source promises.
         ensures within { IfOk result (λ n. n ≤ length buf.old) }
-        ensures taken { IfOk result (λ n. Takes (Some self.old.left) (Some self.new.left) (take n buf.new)) }
+        ensures taken { IfOk result (λ n. TakesBytes (Some self.old.left) (Some self.new.left) (take n buf.new)) }
         ensures end { IfOk result (λ n. n ≡ 0 → self.old.left ≡ []) }
         ensures kept { OnErr result (self.new.left ≡ self.old.left) }
         ensures counted { self.old.faults ≤ self.new.faults }

@@ -1,7 +1,7 @@
 ghost use Rattle.std.specs.Prelude.{◌≡◌, ℕ, ◌+◌, ◌≤◌, ◌<◌, List, [], ◌∷◌, is_err, length, take, drop, Option, option_map, IfOk, OnOk, OnErr, IfSome};
 ghost use Rattle.aio_model.specs.Serving.{put_at};
 ghost use Rattle.aio_words.specs.Called.{read_call, write_call, device_call};
-ghost use Rattle.aio_words.specs.Content.{Takes, with_piece, AppendsFront};
+ghost use Rattle.aio_words.specs.Content.{TakesBytes, with_piece, AppendsFront};
 ghost use Rattle.aio_words.specs.Faults.{HasRisen};
 
 use crate::DeviceAsk;
@@ -28,7 +28,7 @@ pub trait Source {
     fn read(&mut self, buf: &mut [u8]) -> Result<usize, Failed>
         requires { 0 < length buf.old }
         ensures within { IfOk result (λ n. n ≤ length buf.old) }
-        ensures taken { IfOk result (λ n. Takes (left self.old) (left self.new) (take n buf.new)) }
+        ensures taken { IfOk result (λ n. TakesBytes (left self.old) (left self.new) (take n buf.new)) }
         ensures end { IfOk result (λ n. n ≡ 0 → IfSome (left self.old) (λ bytes. bytes ≡ [])) }
         ensures kept { OnErr result (left self.new ≡ left self.old) }
         ensures counted { faults self.old ≤ faults self.new }

@@ -13,6 +13,6 @@ IsFile (Mem device) = ⊥
 IsFile (File device) = Unit {0}
 
 -- a file where the words tell a path, and else memory
-abbrev pub IsNamed : ℕ → Option (List ℕ) → AnyDevice → Type 0
-IsNamed len None device = IsMemory len device
-IsNamed len (Some path) device = IsFile device
+abbrev pub IsNamedDevice : ℕ → Option (List ℕ) → AnyDevice → Type 0
+IsNamedDevice len None device = IsMemory len device
+IsNamedDevice len (Some path) device = IsFile device

@@ -3,7 +3,7 @@
 
 ghost use Rattle.std.specs.Prelude.{◌≡◌, map, string_bytes, vec_len, IfOk};
 ghost use Rattle.program_words.specs.Words.{image_key, value_said};
-ghost use Rattle.aioloops.specs.Devices.{IsMemory, IsNamed};
+ghost use Rattle.aioloops.specs.Devices.{IsMemory, IsNamedDevice};
 
 use aio_cli::{Answer, print_fault, top};
 use aio_words::{MemDevice, NoMemory, OpenGate, StdSink, StdSource};
@@ -68,7 +68,7 @@ fn run<R: Threads + Wait + Sync>(
 /// The raw file whose path stands in the words, opened for reading and writing, or else zeros in memory. A file that
 /// can't be opened gives a device that fails at each call.
 fn device(rt: &HostRuntime, words: &[String]) -> Result<AnyDevice, NoMemory>
-    ensures { IfOk result (IsNamed 1048576 (value_said image_key (map string_bytes words.now))) }
+    ensures { IfOk result (IsNamedDevice 1048576 (value_said image_key (map string_bytes words.now))) }
 {
     match image_word(words) {
         Some(path) => Ok(AnyDevice::File(FileDevice::open(rt, path)?)),

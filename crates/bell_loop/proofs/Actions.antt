@@ -6,7 +6,7 @@ use Rattle.table_seats.proofs.Standing.{entries-append}
 use Rattle.aio_model.specs.declared.flags.Flags.{Flags}
 use Rattle.aio_model.specs.declared.loop_scripts.ActKind.{ActKind}
 use Rattle.aio_model.specs.declared.loop_scripts.ActKind.TheVariants.{Cancel as CancelOf, Nest}
-use Rattle.aio_model.specs.LoopHistory.{Asked, Cancel, History}
+use Rattle.aio_model.specs.LoopHistory.{EnqueueAsks, Cancel, History}
 use Rattle.aio_model.specs.LoopLists.{seat_of}
 use Rattle.aio_model.specs.LoopSeats.{entries_of}
 use Rattle.aio_model.specs.LoopLegal.{IsLegal}
@@ -17,27 +17,27 @@ use Rattle.aio_model.specs.InFlight.{AtRest}
 use Rattle.aio_core.specs.Known.{Known}
 use Rattle.aio_core.specs.Standing.{Cancels}
 use Rattle.aio_core.specs.Calls.{TableState, SeatState, IsSeatOf}
-use Rattle.aio_bh.specs.Enqueuing.{Stands, enqueue_entries}
-use Rattle.aio_bh.specs.Running.{GivesBack}
-use Rattle.aio_bh.proofs.GivingBack.{GivesBack-canceled}
-use Rattle.aio_bh.proofs.Lent.{GivesBack-enqueued, GivesBack-nothing}
+use Rattle.aio_bh.specs.Enqueuing.{AddsOnly, enqueue_entries}
+use Rattle.aio_bh.specs.Running.{SeatComesBack}
+use Rattle.aio_bh.proofs.GivingBack.{SeatComesBack-canceled}
+use Rattle.aio_bh.proofs.Lent.{SeatComesBack-enqueued, SeatComesBack-nothing}
 use Rattle.bell_loop.specs.Actions.{Acts, ActsAll, IsLent}
 
-pub Acts-enqueue : (what : ActKind) (i : ℕ) (asked : Asked) (flags : Flags) (a b : Known) → made_by what flags ≡ enqueue_made i asked flags → a.first ≡ 64 → a.phase ≡ AtRest → b.phase ≡ AtRest → Stands (enqueue_entries i asked a.first flags) a b → Acts what a b
+pub Acts-enqueue : (what : ActKind) (i : ℕ) (asked : EnqueueAsks) (flags : Flags) (a b : Known) → made_by what flags ≡ enqueue_made i asked flags → a.first ≡ 64 → a.phase ≡ AtRest → b.phase ≡ AtRest → AddsOnly (enqueue_entries i asked a.first flags) a b → Acts what a b
 Acts-enqueue what i asked flags a b makes number rest still stands = record {
   was = flags;
-  back = subst (λ m. GivesBack m a b) (ap (λ n. enqueue_entries i asked n flags) number ∙ sym makes) (GivesBack-enqueued i asked flags a b rest still stands);
+  back = subst (λ m. SeatComesBack m a b) (ap (λ n. enqueue_entries i asked n flags) number ∙ sym makes) (SeatComesBack-enqueued i asked flags a b rest still stands);
 }
 
 pub Acts-cancel : (i : ℕ) (flags : Flags) (a b : Known) → a.first ≡ 64 → a.count ≡ 1 → a.phase ≡ AtRest → Cancels i flags a b → Acts (CancelOf i) a b
 Acts-cancel i flags a b number one rest cancels = record {
   was = flags;
-  back = subst (λ n. GivesBack (Cancel i n flags ∷ []) a b) number (GivesBack-canceled i flags a b (omega (arith, one)) rest cancels);
+  back = subst (λ n. SeatComesBack (Cancel i n flags ∷ []) a b) number (SeatComesBack-canceled i flags a b (omega (arith, one)) rest cancels);
 }
 
 pub Acts-nest : (a b : Known) → IsLegal a.sizes a.seen → b ≡ a → Acts Nest a b
 Acts-nest a b legal same =
-    record { was = no_flags; back = subst (λ k. GivesBack [] a k) (sym same) (GivesBack-nothing a legal) }
+    record { was = no_flags; back = subst (λ k. SeatComesBack [] a k) (sym same) (SeatComesBack-nothing a legal) }
 
 pub Acts-at : (what what' : ActKind) (a b : Known) → what' ≡ what → Acts what a b → Acts what' a b
 Acts-at what what' a b same acts = subst (λ w. Acts w a b) (sym same) acts
@@ -45,7 +45,7 @@ Acts-at what what' a b same acts = subst (λ w. Acts w a b) (sym same) acts
 pub legal_here : (table : TableState) (a : SeatState) → IsLent table a → IsLegal a.known.sizes a.known.seen
 legal_here table a lent = subst (λ s. IsLegal s a.known.seen) (sym lent.of.sizes) lent.legal
 
-pub IsLent-back : (table : TableState) (made : History) (a b : SeatState) → IsLent table a → IsSeatOf table b → GivesBack made a.known b.known → IsLent table b
+pub IsLent-back : (table : TableState) (made : History) (a b : SeatState) → IsLent table a → IsSeatOf table b → SeatComesBack made a.known b.known → IsLent table b
 IsLent-back table made a b lent of back = record {
   of = of;
   rest = ap (λ (k : Known). k.phase) back.rest ∙ lent.rest;
@@ -64,8 +64,8 @@ are_of_callback-append (e ∷ newer) older n o =
     and_from (is_of_callback e) (are_of_callback (newer ++ older)) parts.0 (are_of_callback-append newer older parts.1 o)
 
 -- what is given back twice
-pub GivesBack-then : (older newer : History) (a b c : Known) → GivesBack older a b → GivesBack newer b c → GivesBack (newer ++ older) a c
-GivesBack-then older newer a b c first then =
+pub SeatComesBack-then : (older newer : History) (a b c : Known) → SeatComesBack older a b → SeatComesBack newer b c → SeatComesBack (newer ++ older) a c
+SeatComesBack-then older newer a b c first then =
     let same_first : b.first ≡ a.first = ap (λ (k : Known). k.first) first.rest in
     record {
       between = then.between ++ first.between;
@@ -81,14 +81,14 @@ GivesBack-then older newer a b c first then =
 -- no action
 pub ActsAll-none : (todo : List ActKind) (a b : Known) → IsLegal a.sizes a.seen → before_nest todo ≡ [] → b ≡ a → ActsAll (before_nest todo) a b
 ActsAll-none todo a b legal none same =
-    subst (λ t. ActsAll t a b) (sym none) (subst (λ k. ActsAll [] a k) (sym same) record { made = []; adds = refl; back = GivesBack-nothing a legal })
+    subst (λ t. ActsAll t a b) (sym none) (subst (λ k. ActsAll [] a k) (sym same) record { made = []; adds = refl; back = SeatComesBack-nothing a legal })
 
 -- one, and then the others
 ActsAll-more : (what : ActKind) (todo : List ActKind) (a b c : Known) → Acts what a b → ActsAll todo b c → ActsAll (what ∷ todo) a c
 ActsAll-more what todo a b c one others = record {
   made = others.made ++ made_by what one.was;
   adds = (one.was, others.made, refl, others.adds);
-  back = GivesBack-then (made_by what one.was) others.made a b c one.back others.back;
+  back = SeatComesBack-then (made_by what one.was) others.made a b c one.back others.back;
 }
 
 -- an action that is no nest stands before the next one

@@ -5,7 +5,7 @@ use Rattle.aio_model.specs.LoopFlags.{is_lot}
 use Rattle.aio_model.specs.LoopLists.{seat_of}
 use Rattle.aio_model.specs.LoopLog.{rings}
 use Rattle.aio_model.specs.LoopSeats.{home, entries_of}
-use Rattle.aio_model.specs.LoopFrame.{Lent, Answer, Nests, Entered, Place, Makes, Enters, Body, Turn, Turns, Frame, lent_of, nests_above}
+use Rattle.aio_model.specs.LoopFrame.{Lent, Answer, Nests, Entered, PollPlace, Makes, EntersRunner, Body, Turn, Turns, Frame, lent_of, nests_above}
 use Rattle.bell_loop.specs.Actions.{some_rings}
 use Rattle.bell_loop.specs.Running.{IsAlone, any_rings}
 use Rattle.bell_loop.proofs.Entries.{some_rings-append, or_assoc}
@@ -38,7 +38,7 @@ pub none_else : (others : History) → IsAlone others → entries_of home others
 none_else others alone none = sym alone ∙ none
 
 -- from place to place the callbacks were entered some more, and some entry notifies where one did that a callback made
-pub record Grown (a b : Place) : Type 0 where
+pub record Grown (a b : PollPlace) : Type 0 where
   pub more : List Entered
   pub added : History
   pub longer : b.log ≡ more ++ a.log
@@ -54,10 +54,10 @@ any_rings-append [] older = or_false (any_rings older)
 any_rings-append (e ∷ newer) older =
     ap (λ b. b || some_rings e.made) (any_rings-append newer older) ∙ or_assoc (any_rings older) (any_rings newer) (some_rings e.made)
 
-Grown-same : (a b : Place) → b ≡ a → Grown a b
-Grown-same a b same = record { more = []; added = []; longer = ap (λ (p : Place). p.log) same; seen = ap (λ (p : Place). p.seen) same; rings = λ _. refl }
+Grown-same : (a b : PollPlace) → b ≡ a → Grown a b
+Grown-same a b same = record { more = []; added = []; longer = ap (λ (p : PollPlace). p.log) same; seen = ap (λ (p : PollPlace). p.seen) same; rings = λ _. refl }
 
-Grown-then : (a b c : Place) → Grown a b → Grown b c → Grown a c
+Grown-then : (a b c : PollPlace) → Grown a b → Grown b c → Grown a c
 Grown-then a b c first then = record {
   more = then.more ++ first.more;
   added = then.added ++ first.added;
@@ -68,7 +68,7 @@ Grown-then a b c first then = record {
       some_rings-append then.added first.added ∙ ap (λ b. b || some_rings then.added) (first.rings before) ∙ ap (λ b. any_rings first.more || b) (then.rings alone) ∙ sym (any_rings-append then.more first.more);
 }
 
-Grown-made : (e : Entry) (others : History) (a b : Place) → rings e ≡ false → entries_of home others ≡ [] → b.seen ≡ e ∷ (others ++ a.seen) → b.log ≡ a.log → Grown a b
+Grown-made : (e : Entry) (others : History) (a b : PollPlace) → rings e ≡ false → entries_of home others ≡ [] → b.seen ≡ e ∷ (others ++ a.seen) → b.log ≡ a.log → Grown a b
 Grown-made e others a b quiet none seen log = record {
   more = [];
   added = e ∷ others;
@@ -80,7 +80,7 @@ Grown-made e others a b quiet none seen log = record {
       ap (λ l. rings e || some_rings l) empty ∙ ap (λ b. b || false) quiet;
 }
 
-Grown-enters : (lent : Lent) (answer : Answer) (a b : Place) → Enters lent answer a b → Grown a b
+Grown-enters : (lent : Lent) (answer : Answer) (a b : PollPlace) → EntersRunner lent answer a b → Grown a b
 Grown-enters lent answer a b enters = record {
   more = record { lent = lent; answer = answer; made = enters.made } ∷ [];
   added = enters.between;
@@ -91,8 +91,8 @@ Grown-enters lent answer a b enters = record {
       ap some_rings (sym parts.0 ∙ enters.just_these);
 }
 
-module _ (frame : Place → Place → Type 0) (frames : (a b : Place) → frame a b → Grown a b) where
-  Grown-body : (bh : ℕ) (job : Option ℕ) (first : Bool) (nests : ℕ) (a b : Place) → Body frame bh job first nests a b → Grown a b
+module _ (frame : PollPlace → PollPlace → Type 0) (frames : (a b : PollPlace) → frame a b → Grown a b) where
+  Grown-body : (bh : ℕ) (job : Option ℕ) (first : Bool) (nests : ℕ) (a b : PollPlace) → Body frame bh job first nests a b → Grown a b
   Grown-body bh job first zero a b body = Grown-enters (lent_of bh job first zero) body.0 a b body.1
   Grown-body bh job first (suc nests) a b body =
       elim body as (λ _. Grown a b) [
@@ -102,26 +102,26 @@ module _ (frame : Place → Place → Type 0) (frames : (a b : Place) → frame 
             (Grown-then more.0 more.1 b (frames more.0 more.1 more.3) (Grown-body bh None false nests more.1 b more.4))
       ]
 
-  Grown-calls : (bh : ℕ) (job : Option ℕ) (ran : Bool) (nests : ℕ) (a b : Place) → MatchBool ran (Body frame bh job true nests a b) (b ≡ a) → Grown a b
+  Grown-calls : (bh : ℕ) (job : Option ℕ) (ran : Bool) (nests : ℕ) (a b : PollPlace) → MatchBool ran (Body frame bh job true nests a b) (b ≡ a) → Grown a b
   Grown-calls bh job true nests a b body = Grown-body bh job true nests a b body
   Grown-calls bh job false nests a b same = Grown-same a b same
 
-  Grown-free : (index : ℕ) (lot : Bool) (a b : Place) → MatchBool lot (Makes (Free index) a b) (b ≡ a) → Grown a b
+  Grown-free : (index : ℕ) (lot : Bool) (a b : PollPlace) → MatchBool lot (Makes (Free index) a b) (b ≡ a) → Grown a b
   Grown-free index true a b free = Grown-made (Free index) free.others a b refl free.not_home free.seen free.log
   Grown-free index false a b same = Grown-same a b same
 
-  Grown-turn : (sizes : Sizes) (nests : ℕ) (a b : Place) → Turn sizes frame nests a b → Grown a b
+  Grown-turn : (sizes : Sizes) (nests : ℕ) (a b : PollPlace) → Turn sizes frame nests a b → Grown a b
   Grown-turn sizes nests a b turn =
       let d = turn.dequeue in
       Grown-then a turn.dequeued b (Grown-made (Dequeue turn.index turn.ran) d.others a turn.dequeued refl d.not_home d.seen d.log)
       (Grown-then turn.dequeued turn.ended b (Grown-calls turn.index _ turn.ran nests turn.dequeued turn.ended turn.body) (Grown-free turn.index (is_lot sizes turn.index) turn.ended b turn.free))
 
-  Grown-turns : (sizes : Sizes) (nests count : ℕ) (a b : Place) → Turns sizes frame nests count a b → Grown a b
+  Grown-turns : (sizes : Sizes) (nests count : ℕ) (a b : PollPlace) → Turns sizes frame nests count a b → Grown a b
   Grown-turns sizes nests zero a b same = Grown-same a b same
   Grown-turns sizes nests (suc count) a b turns =
       Grown-then a turns.0 b (Grown-turn sizes nests a turns.0 turns.1) (Grown-turns sizes nests count turns.0 b turns.2)
 
-pub Grown-frame : (sizes : Sizes) (depths : ℕ) (a b : Place) → Frame sizes depths a b → Grown a b
+pub Grown-frame : (sizes : Sizes) (depths : ℕ) (a b : PollPlace) → Frame sizes depths a b → Grown a b
 unfolding Frame
 Grown-frame sizes zero a b frame = absurd frame
 Grown-frame sizes (suc deeper) a b frame =

@@ -11,16 +11,16 @@ use Rattle.aio_model.specs.declared.loop_scripts.Command.TheVariants.{Cancel, Se
 use Rattle.aio_model.specs.declared.loop_scripts.LoopScript.{LoopScript}
 use Rattle.aio_model.specs.declared.loop_replies.LoopReply.{LoopReply}
 use Rattle.aio_model.specs.declared.loop_replies.LoopReply.TheVariants.{Flagged, Placed, WasSet, Cleared, Committed}
-use Rattle.aio_model.specs.LoopHistory.{Sizes, Asked, ToCallOnce, New, Put, SetEvent, ClearEvent, History}
+use Rattle.aio_model.specs.LoopHistory.{Sizes, EnqueueAsks, ToCallOnce, New, Put, SetEvent, ClearEvent, History}
 use Rattle.aio_model.specs.LoopFlags.{is_lot, is_pending, lives}
 use Rattle.aio_model.specs.LoopLists.{is_set}
 use Rattle.aio_model.specs.LoopLog.{Made, Log, history_of, is_rung, flags_before, asked_log, enqueued_log, canceled_log, set_log, cleared_log, is_set_in, begun_log, first_from, commit_from, committed_log}
 use Rattle.aio_model.specs.LoopSeats.{home}
-use Rattle.aio_model.specs.LoopReplies.{Does, sizes_of}
+use Rattle.aio_model.specs.LoopReplies.{DoesCommand, sizes_of}
 use Rattle.aio_core.specs.Standing.{asked_by}
 use Rattle.bell_loop.specs.Running as one
 use Rattle.bell_loop.specs.Entering.{acts_at}
-use Rattle.bell_loop.specs.Running.{Calm, Finds, IsAlone, GoesTo, IsOf, OnlyOthers, PlacesTag, living_in}
+use Rattle.bell_loop.specs.Running.{Calm, Finds, IsAlone, GoesTo, IsScriptOf, OnlyOthers, PlacesTag, living_in}
 use Rattle.bell_loop.specs.Machines.{MachineState, Answers, IsNew, enqueue_command}
 use Rattle.bell_loop.proofs.Counting.{all_counted, none_counted, same_counted}
 use Rattle.bell_loop.proofs.Logs.{enqueued_rings}
@@ -31,7 +31,7 @@ use Rattle.aio_model.proofs.Searches.{first_from-agree}
 abbrev Marked : List Bool → History → Type 0
 Marked marks h = (e : ℕ) → get_or marks e false ≡ is_set e h
 
-Answers-goes : (command : Command) (reply : LoopReply) (moves : Log → Log) (Told : Log → Type 0) (old new : MachineState) → new.sizes ≡ old.sizes → new.lists ≡ old.lists → new.living ≡ old.living → GoesTo moves Told old.seen new.seen → ((log : Log) (i : ℕ) → lives i (history_of (moves log)) ≡ lives i (history_of log)) → ((log : Log) → old.rang ≡ is_rung log → new.rang ≡ is_rung (moves log)) → ((log : Log) → Marked old.marks (history_of log) → Marked new.marks (history_of (moves log))) → ((script : LoopScript) (log : Log) → Told log → Does script command log (moves log) reply) → Answers command reply old new
+Answers-goes : (command : Command) (reply : LoopReply) (moves : Log → Log) (Told : Log → Type 0) (old new : MachineState) → new.sizes ≡ old.sizes → new.lists ≡ old.lists → new.living ≡ old.living → GoesTo moves Told old.seen new.seen → ((log : Log) (i : ℕ) → lives i (history_of (moves log)) ≡ lives i (history_of log)) → ((log : Log) → old.rang ≡ is_rung log → new.rang ≡ is_rung (moves log)) → ((log : Log) → Marked old.marks (history_of log) → Marked new.marks (history_of (moves log))) → ((script : LoopScript) (log : Log) → Told log → DoesCommand script command log (moves log) reply) → Answers command reply old new
 Answers-goes command reply moves Told old new sizes lists living goes lives_same rung marked does = record {
   same = (sizes, lists);
   between = goes.between;
@@ -52,11 +52,11 @@ Answers-goes command reply moves Told old new sizes lists living goes lives_same
       };
 }
 
-enqueued_lives : (k : ℕ) (asked : Asked) (log : Log) (i : ℕ) → lives i (history_of (enqueued_log k asked home log)) ≡ lives i (history_of log)
+enqueued_lives : (k : ℕ) (asked : EnqueueAsks) (log : Log) (i : ℕ) → lives i (history_of (enqueued_log k asked home log)) ≡ lives i (history_of log)
 enqueued_lives k asked log i =
     elim (is_pending k (history_of log)) as (λ b. lives i (history_of (cond b (asked_log k asked home log) (Made (Put k home) ∷ asked_log k asked home log))) ≡ lives i (history_of log)) [ true ↦ refl | false ↦ refl ]
 
-enqueued_marked : (k : ℕ) (asked : Asked) (marks : List Bool) (log : Log) → Marked marks (history_of log) → Marked marks (history_of (enqueued_log k asked home log))
+enqueued_marked : (k : ℕ) (asked : EnqueueAsks) (marks : List Bool) (log : Log) → Marked marks (history_of log) → Marked marks (history_of (enqueued_log k asked home log))
 enqueued_marked k asked marks log marked e =
     marked e ∙ elim (is_pending k (history_of log)) as (λ b. is_set e (history_of log) ≡ is_set e (history_of (cond b (asked_log k asked home log) (Made (Put k home) ∷ asked_log k asked home log)))) [ true ↦ refl | false ↦ refl ]
 
@@ -79,7 +79,7 @@ clear_marked event was marks h below marked e = by_event (eqb e event) refl
     by_event true same = ap (λ k. get_or (set marks event false) k false) (eqb-true e event same) ∙ get_or-set_same marks event false false below
     by_event false other = get_or-set_other marks event e false false (λ same. false≢true (sym other ∙ eq-eqb e event same)) ∙ marked e
 
-does_enqueue : (kind : asking.Kind) (i : ℕ) (was : Flags) (script : LoopScript) (log : Log) → was ≡ flags_before i log → Does script (enqueue_command kind i) log (enqueued_log i (asked_by kind) home log) (Flagged (enqueue_command kind i) was)
+does_enqueue : (kind : asking.Kind) (i : ℕ) (was : Flags) (script : LoopScript) (log : Log) → was ≡ flags_before i log → DoesCommand script (enqueue_command kind i) log (enqueued_log i (asked_by kind) home log) (Flagged (enqueue_command kind i) was)
 does_enqueue Sched i was script log told = (64, refl, ap (Flagged (enqueue_command Sched i)) told)
 does_enqueue IdleKind i was script log told = (64, refl, ap (Flagged (enqueue_command IdleKind i)) told)
 does_enqueue Del i was script log told = (64, refl, ap (Flagged (enqueue_command Del i)) told)
@@ -169,7 +169,7 @@ Answers-once tag false old new rest none = record {
       };
 }
 
-pub Answers-poll : (reply : LoopReply) (old new : MachineState) → new ≡ record old { seen = new.seen; rang = new.rang; living = 0 } → one.Answers old.sizes (acts_at old.lists) Poll reply old.rang new.rang old.seen new.seen → (IsAlone new.seen → Calm old.seen → (i : ℕ) → lives i new.seen ≡ false) → (IsAlone new.seen → (e : ℕ) → is_set e new.seen ≡ is_set e old.seen) → Answers Poll reply old new
+pub Answers-poll : (reply : LoopReply) (old new : MachineState) → new ≡ record old { seen = new.seen; rang = new.rang; living = 0 } → one.AnswersSeen old.sizes (acts_at old.lists) Poll reply old.rang new.rang old.seen new.seen → (IsAlone new.seen → Calm old.seen → (i : ℕ) → lives i new.seen ≡ false) → (IsAlone new.seen → (e : ℕ) → is_set e new.seen ≡ is_set e old.seen) → Answers Poll reply old new
 Answers-poll reply old new rest answers none events = record {
   same = (ap (λ (m : MachineState). m.sizes) rest, ap (λ (m : MachineState). m.lists) rest);
   between = answers.between;

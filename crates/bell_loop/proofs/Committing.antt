@@ -14,7 +14,7 @@ use Rattle.aio_notify.specs.Commits.{Commits, PastDeadline, PastEvents, ArmsAndT
 use Rattle.aio_notify.specs.Settling.{is_committed}
 use Rattle.aio_notify.specs.Watching.{watches, LooksAt, LooksBelow, FindsSet}
 use Rattle.bell_loop.specs.Running.{Idles, OnlyOthers}
-use Rattle.bell_loop.specs.Ending.{Sleeps}
+use Rattle.bell_loop.specs.Ending.{IsCommitted}
 use Rattle.bell_loop.proofs.Scanning.{scan_others, scan_legal}
 
 look_seen : (watch e : ℕ) (set : Bool) (v w : Known) → LooksAt watch e set v w → w.seen ≡ v.seen
@@ -85,8 +85,8 @@ Idles-accepted table a b idles of same = record {
 }
 
 -- a commit that came to a sleep, and one that didn't
-pub Sleeps-of : (table : TableState) (a b : SeatState) (answer : Commit) (bound : Option ℕ) → Idles table a → IsSeatOf table b → SameButSleep a.known b.known → answer ≡ Sleep bound → IsAwakeBy (2 ^ 64 - 1) table.sizes.events answer b.known → Sleeps table b
-Sleeps-of table a b answer bound idles of same is awake = record {
+pub IsCommitted-of : (table : TableState) (a b : SeatState) (answer : Commit) (bound : Option ℕ) → Idles table a → IsSeatOf table b → SameButSleep a.known b.known → answer ≡ Sleep bound → IsAwakeBy (2 ^ 64 - 1) table.sizes.events answer b.known → IsCommitted table b
+IsCommitted-of table a b answer bound idles of same is awake = record {
   of = of;
   committed = ap is_committed (subst (λ c. IsAwakeBy (2 ^ 64 - 1) table.sizes.events c b.known) is awake);
   rest = ap (λ (k : Known). k.phase) same ∙ idles.rest;

@@ -9,7 +9,7 @@ use Rattle.aio_model.specs.LoopLegal.{IsLegal}
 use Rattle.aio_model.specs.LoopLog.{Made, Log, history_of, asked_log, begun_log}
 use Rattle.aio_model.specs.LoopSeats.{home, entries_of}
 use Rattle.aio_core.specs.Known.{Known}
-use Rattle.aio_bh.specs.Enqueuing.{Stands}
+use Rattle.aio_bh.specs.Enqueuing.{AddsOnly}
 use Rattle.aio_bh.specs.OneShots.{one_shot_entries}
 use Rattle.bell_loop.specs.Running.{IsAlone, Calm, Lots, PlacesTag, count_from, living_in}
 use Rattle.bell_loop.proofs.Alone.{alone_parts}
@@ -92,7 +92,7 @@ Lots-placed lot job flags h before i alive = by_lot (eqb i lot) refl
         ]
 
 module _ (sizes : Sizes) (tag : ℕ) (a b : Known) (lot : ℕ) (flags : Flags) (number : a.first ≡ 64) (same_sizes : a.sizes ≡ sizes) (first : flags.pending ≡ false)
-    (stands : Stands (one_shot_entries lot tag a.first flags) a b) where
+    (stands : AddsOnly (one_shot_entries lot tag a.first flags) a b) where
   seen_alone : IsAlone b.seen → b.seen ≡ one_shot_entries lot tag home flags ++ a.seen
   seen_alone alone =
       let s = stands.stands.stands in

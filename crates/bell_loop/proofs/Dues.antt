@@ -3,7 +3,7 @@ use Rattle.std.proofs.Common.{◌≡◌, ℕ, zero, suc, ◌+◌, ◌≤◌, ◌
 use Rattle.std.specs.Option.{is_some}
 use Rattle.std.proofs.lemmas.Bool.{false≢true, eqb-true, eq-eqb, and_parts, ltb-true}
 use Rattle.aio_model.specs.FlagsWord.{bit}
-use Rattle.aio_model.specs.LoopHistory.{Sizes, Asked, Entry, New, Enqueue, Put, Cancel, Take, Dequeue, Free, SetEvent, ClearEvent, History}
+use Rattle.aio_model.specs.LoopHistory.{Sizes, EnqueueAsks, Entry, New, Enqueue, Put, Cancel, Take, Dequeue, Free, SetEvent, ClearEvent, History}
 use Rattle.aio_model.specs.LoopFlags.{is_pending, is_scheduled, is_scheduling, is_deleted, is_due, lives, asks, enqueues, ends_round, cancels}
 use Rattle.aio_model.specs.LoopLists.{is_announced, stack_of, out_of}
 use Rattle.aio_model.specs.LoopLaws.{times_of}
@@ -19,7 +19,7 @@ abbrev pub some_due : History → List ℕ → Bool
 some_due h [] = false
 some_due h (i ∷ rest) = is_due i h || some_due h rest
 
-asks-enqueues : (test : Asked → Bool) (i : ℕ) (e : Entry) → asks test i e ≡ true → enqueues i e ≡ true
+asks-enqueues : (test : EnqueueAsks → Bool) (i : ℕ) (e : Entry) → asks test i e ≡ true → enqueues i e ≡ true
 asks-enqueues test i (Enqueue j asked s was) h = (and_parts _ _ h).0
 asks-enqueues test i (New j s job) h = absurd (false≢true h)
 asks-enqueues test i (Put j s) h = absurd (false≢true h)

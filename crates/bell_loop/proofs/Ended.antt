@@ -15,7 +15,7 @@ use Rattle.aio_model.specs.LoopFlags.{is_pending}
 use Rattle.aio_model.specs.LoopLists.{is_set, seat_of}
 use Rattle.aio_model.specs.LoopLog.{Log, history_of, is_set_in, cleared_log, first_from}
 use Rattle.aio_model.specs.LoopSeats.{Numbers, home, owns, entries_by, entries_of, own_entries}
-use Rattle.aio_model.specs.LoopReplies.{Does}
+use Rattle.aio_model.specs.LoopReplies.{DoesCommand}
 use Rattle.aio_model.proofs.Searches.{first_from-some}
 use Rattle.aio_core.specs.Known.{Known, numbers_of}
 use Rattle.aio_core.specs.Calls.{first_seat}
@@ -23,8 +23,8 @@ use Rattle.aio_core.specs.Words.{index_count}
 use Rattle.aio_notify.specs.Settling.{IsWhole, EndsQuiet, FindsPending, FindsSetEvent}
 use Rattle.bell_loop.specs.Actions.{AreWithin}
 use Rattle.bell_loop.specs.Entering.{acts_at, CanRun}
-use Rattle.bell_loop.specs.Running.{Calm, IsAlone, IsOf, OnlyOthers}
-use Rattle.bell_loop.specs.Machines.{MachineState, Stands, Answers}
+use Rattle.bell_loop.specs.Running.{Calm, IsAlone, IsScriptOf, OnlyOthers}
+use Rattle.bell_loop.specs.Machines.{MachineState, KeepsLog, Answers}
 use Rattle.bell_loop.specs.Ending.{without_acts, clearings, clearing, EndsBy, Leads}
 use Rattle.bell_loop.proofs.Alone.{alone_parts}
 use Rattle.bell_loop.proofs.Scanning.{none_came}
@@ -158,7 +158,7 @@ abbrev bare : Sizes → LoopScript
 bare sizes =
     record { handles = sizes.handles; lots = sizes.lots; events = sizes.events; acts = []; commands = [] }
 
-bare_of : (machine : MachineState) → machine.lists ≡ [] → IsOf (bare machine.sizes) machine.sizes (acts_at machine.lists)
+bare_of : (machine : MachineState) → machine.lists ≡ [] → IsScriptOf (bare machine.sizes) machine.sizes (acts_at machine.lists)
 bare_of machine none = record { sizes_are = refl; acts_are = λ bh. ap (λ l. acts_at l bh) none }
 
 pub Leads-same : (old new : MachineState) → new ≡ old → Leads (λ log. log) old new
@@ -167,10 +167,10 @@ Leads-same old new same = record {
   lists = ap (λ (m : MachineState). m.lists) same;
   between = [];
   longer = ap (λ (m : MachineState). m.seen) same;
-  at = λ alone log stands. subst (λ m. Stands m log) (sym same) stands;
+  at = λ alone log stands. subst (λ m. KeepsLog m log) (sym same) stands;
 }
 
-pub Leads-cleared : (e : ℕ) (was marked : Bool) (old new : MachineState) → old.lists ≡ [] → marked ≡ true → (Answers (Clear e) (Cleared e was) old new) → ((log : Log) → Stands old log → marked ≡ is_set_in e log) → Leads (clearing e) old new
+pub Leads-cleared : (e : ℕ) (was marked : Bool) (old new : MachineState) → old.lists ≡ [] → marked ≡ true → (Answers (Clear e) (Cleared e was) old new) → ((log : Log) → KeepsLog old log → marked ≡ is_set_in e log) → Leads (clearing e) old new
 Leads-cleared e was marked old new none on answers is = record {
   sizes = answers.same.0;
   lists = answers.same.1;
@@ -179,10 +179,10 @@ Leads-cleared e was marked old new none on answers is = record {
   at = λ alone log stands.
       let answered = answers.at alone (bare old.sizes) log (bare_of old none) stands in
       let set : is_set_in e log ≡ true = sym (is log stands) ∙ on in
-      subst (λ b. Stands new (if_set b e log)) (sym set) (subst (Stands new) answered.does.0 answered.stands);
+      subst (λ b. KeepsLog new (if_set b e log)) (sym set) (subst (KeepsLog new) answered.does.0 answered.stands);
 }
 
-pub Leads-unset : (e : ℕ) (marked : Bool) (old new : MachineState) → new ≡ old → marked ≡ false → ((log : Log) → Stands old log → marked ≡ is_set_in e log) → Leads (clearing e) old new
+pub Leads-unset : (e : ℕ) (marked : Bool) (old new : MachineState) → new ≡ old → marked ≡ false → ((log : Log) → KeepsLog old log → marked ≡ is_set_in e log) → Leads (clearing e) old new
 Leads-unset e marked old new same off is = record {
   sizes = ap (λ (m : MachineState). m.sizes) same;
   lists = ap (λ (m : MachineState). m.lists) same;
@@ -190,7 +190,7 @@ Leads-unset e marked old new same off is = record {
   longer = ap (λ (m : MachineState). m.seen) same;
   at = λ alone log stands.
       let unset : is_set_in e log ≡ false = sym (is log stands) ∙ off in
-      subst (λ b. Stands new (if_set b e log)) (sym unset) (subst (λ m. Stands m log) (sym same) stands);
+      subst (λ b. KeepsLog new (if_set b e log)) (sym unset) (subst (λ m. KeepsLog m log) (sym same) stands);
 }
 
 pub Leads-next : (e : ℕ) (a b c : MachineState) → Leads (clearings e) a b → Leads (clearing e) b c → Leads (clearings (suc e)) a c
@@ -238,16 +238,16 @@ module _ (reply : LoopReply) (start begun polled cleared : MachineState) (last :
     alone_polled : IsAlone polled.seen
     alone_polled = (alone_parts clears.between polled.seen (subst IsAlone clears.longer alone_cleared)).1
 
-    module _ (log : Log) (stands : Stands start log) where
-      stands_begun : Stands begun log
-      stands_begun = subst (λ m. Stands m log) (sym begins) record { history = stands.history; rung = stands.rung; living = stands.living; calm = stands.calm; events = stands.events }
+    module _ (log : Log) (stands : KeepsLog start log) where
+      stands_begun : KeepsLog begun log
+      stands_begun = subst (λ m. KeepsLog m log) (sym begins) record { history = stands.history; rung = stands.rung; living = stands.living; calm = stands.calm; events = stands.events }
 
-      answered : (after : Log) × Does (bare begun.sizes) Poll log after reply × Stands polled after
+      answered : (after : Log) × DoesCommand (bare begun.sizes) Poll log after reply × KeepsLog polled after
       answered =
           let a = polls.at alone_polled (bare begun.sizes) log (bare_of begun lists_begun) stands_begun in
           (a.after, a.does, a.stands)
 
-      stands_cleared : Stands cleared (clearings start.sizes.events answered.0)
+      stands_cleared : KeepsLog cleared (clearings start.sizes.events answered.0)
       stands_cleared = clears.at alone_cleared answered.0 answered.2
 
       last_history : last ≡ history_of (clearings start.sizes.events answered.0)
@@ -270,8 +270,8 @@ module _ (reply : LoopReply) (start begun polled cleared : MachineState) (last :
   sizes_cleared = clears.sizes ∙ polls.same.0 ∙ sizes_begun
 
   -- nothing is left, where some log stood for the machine
-  module _ (some : IsAlone start.seen → (log : Log) × Stands start log) (alone : IsAlone last) where
-    begun_log : (log : Log) × Stands start log
+  module _ (some : IsAlone start.seen → (log : Log) × KeepsLog start log) (alone : IsAlone last) where
+    begun_log : (log : Log) × KeepsLog start log
     begun_log =
         some (alone_parts (others.between ++ (clears.between ++ polls.between)) start.seen (subst IsAlone longer_all alone)).1
 

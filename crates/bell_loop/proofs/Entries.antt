@@ -4,14 +4,14 @@ use Rattle.aio_model.specs.declared.flags.Flags.{Flags}
 use Rattle.aio_model.specs.declared.loop_scripts.ActKind.{ActKind}
 use Rattle.aio_model.specs.declared.loop_scripts.ActKind.TheVariants.{Schedule, Idle, Delete, Cancel as CancelOf, Nest}
 use Rattle.aio_model.specs.declared.ran_lists.Called.{Called}
-use Rattle.aio_model.specs.LoopHistory.{Asked, Enqueue, Put, History}
+use Rattle.aio_model.specs.LoopHistory.{EnqueueAsks, Enqueue, Put, History}
 use Rattle.aio_model.specs.LoopLog.{rings}
 use Rattle.aio_model.specs.LoopSeats.{home}
 use Rattle.aio_model.specs.LoopFrame.{Ended, Nests, lent_of}
 use Rattle.aio_model.specs.LoopActs.{Waiting, Add, acts_called, made_by, before_nest, behind_nest, is_nest, answer_of, waiting_after}
 use Rattle.aio_model.specs.LoopReplies.{called_by}
 use Rattle.bell_loop.specs.Actions.{AreWithin, asks, some_asks, some_rings}
-use Rattle.bell_loop.specs.Entering.{Names, FindsTodo, MayEnter, DoesEntry, noted}
+use Rattle.bell_loop.specs.Entering.{NamesCalled, FindsTodo, MayEnter, DoesEntry, noted}
 
 pub some_rings-append : (newer older : History) → some_rings (newer ++ older) ≡ (some_rings older || some_rings newer)
 some_rings-append [] older = false_last (some_rings older)
@@ -31,7 +31,7 @@ pub or_assoc : (a b c : Bool) → ((a || b) || c) ≡ (a || (b || c))
 or_assoc true b c = refl
 or_assoc false b c = refl
 
-enqueue_rings : (i : ℕ) (asked : Asked) (was : Flags) (b : Bool) → some_rings (cond b (Enqueue i asked home was ∷ []) (Put i home ∷ (Enqueue i asked home was ∷ []))) ≡ true
+enqueue_rings : (i : ℕ) (asked : EnqueueAsks) (was : Flags) (b : Bool) → some_rings (cond b (Enqueue i asked home was ∷ []) (Put i home ∷ (Enqueue i asked home was ∷ []))) ≡ true
 enqueue_rings i asked was true = refl
 enqueue_rings i asked was false = refl
 
@@ -62,7 +62,7 @@ found acts true bh job nests todo w w' finds may = finds
 found acts false bh job nests todo w w' finds may = finds may.0
 
 module _ (acts : ℕ → List ActKind) (bh : ℕ) (job : Option ℕ) (first : Bool) (nests : ℕ) (todo : List ActKind) (made : History) (w w' : Waiting) (ran ran' : List Called) (more more' : ℕ) (rang rang' : Bool)
-    (names : (calls : List Called) → Names ran more calls → Names ran' more' (cond first (calls ++ called_by bh job ∷ []) calls))
+    (names : (calls : List Called) → NamesCalled ran more calls → NamesCalled ran' more' (cond first (calls ++ called_by bh job ∷ []) calls))
     (finds : FindsTodo acts first bh job todo w w') (adds : Add (before_nest todo) made) (told : rang' ≡ (rang || some_asks (before_nest todo))) where
   -- no nest was left to do
   pub DoesEntry-ended : behind_nest todo ≡ None → DoesEntry acts (noted w ran more rang) (record { lent = lent_of bh job first nests; answer = Ended; made = made }) (noted w' ran' more' rang')

@@ -4,7 +4,7 @@ use Rattle.std.proofs.lemmas.Bool.{false≢true, eqb-true, ne_eqb}
 use Rattle.aio_model.specs.declared.flags.Flags.{Flags}
 use Rattle.aio_model.specs.declared.loop_scripts.ActKind.{ActKind}
 use Rattle.aio_model.specs.declared.loop_scripts.ActKind.TheVariants.{Schedule, Idle, Delete, Cancel as CancelOf, Nest}
-use Rattle.aio_model.specs.LoopHistory.{Sizes, Asked, ToCall, ToCallIdle, ToDelete, Entry, Enqueue, Put, Cancel, History}
+use Rattle.aio_model.specs.LoopHistory.{Sizes, EnqueueAsks, ToCall, ToCallIdle, ToDelete, Entry, Enqueue, Put, Cancel, History}
 use Rattle.aio_model.specs.LoopFlags.{is_pending, ends_round, enqueues, puts}
 use Rattle.aio_model.specs.LoopLists.{was_put, is_set, out_of}
 use Rattle.aio_model.specs.LoopLegal.{IsLegal, MayAsk}
@@ -37,7 +37,7 @@ put_after : (same p w : Bool) → (p && not w) ≡ false → ((same || p) && not
 put_after true p w h = refl
 put_after false p w h = h
 
-pub NoneAnnounced-enqueue : (sizes : Sizes) (k : ℕ) (asked : Asked) (flags : Flags) (b : Bool) (h : History) → flags.pending ≡ b → IsLegal sizes (cond b (Enqueue k asked home flags ∷ []) (Put k home ∷ (Enqueue k asked home flags ∷ [])) ++ h) → NoneAnnounced h → NoneAnnounced (cond b (Enqueue k asked home flags ∷ []) (Put k home ∷ (Enqueue k asked home flags ∷ [])) ++ h)
+pub NoneAnnounced-enqueue : (sizes : Sizes) (k : ℕ) (asked : EnqueueAsks) (flags : Flags) (b : Bool) (h : History) → flags.pending ≡ b → IsLegal sizes (cond b (Enqueue k asked home flags ∷ []) (Put k home ∷ (Enqueue k asked home flags ∷ [])) ++ h) → NoneAnnounced h → NoneAnnounced (cond b (Enqueue k asked home flags ∷ []) (Put k home ∷ (Enqueue k asked home flags ∷ [])) ++ h)
 NoneAnnounced-enqueue sizes k asked flags true h found legal before i =
     let was : is_pending k h ≡ true = ap (λ (f : Flags). f.pending) (sym legal.0.1) ∙ found in
     pending_again (eqb i k) (is_pending i h) (was_put i h) (λ same. subst (λ n. is_pending n h ≡ true) (sym (eqb-true i k same)) was) (before i)
@@ -65,7 +65,7 @@ or_true : (a b : Bool) → b ≡ true → (a || b) ≡ true
 or_true true b h = refl
 or_true false b h = h
 
-pub Lots-enqueue : (X : ℕ → Type 0) (k : ℕ) (asked : Asked) (flags : Flags) (b : Bool) (h : History) → Lots X h → Lots X (cond b (Enqueue k asked home flags ∷ []) (Put k home ∷ (Enqueue k asked home flags ∷ [])) ++ h)
+pub Lots-enqueue : (X : ℕ → Type 0) (k : ℕ) (asked : EnqueueAsks) (flags : Flags) (b : Bool) (h : History) → Lots X h → Lots X (cond b (Enqueue k asked home flags ∷ []) (Put k home ∷ (Enqueue k asked home flags ∷ [])) ++ h)
 Lots-enqueue X k asked flags true h before i alive =
     elim (before i alive) [
       | inl pending ↦ inl (or_true (eqb i k) (is_pending i h) pending)
@@ -92,14 +92,14 @@ Lots-acts X (what ∷ todo) made h adds before =
 
 -- what callbacks push are handles
 
-StackBelow-enqueue : (sizes : Sizes) (k : ℕ) (asked : Asked) (flags : Flags) (b : Bool) (h : History) → k < sizes.handles → StackBelow sizes h → StackBelow sizes (cond b (Enqueue k asked home flags ∷ []) (Put k home ∷ (Enqueue k asked home flags ∷ [])) ++ h)
+StackBelow-enqueue : (sizes : Sizes) (k : ℕ) (asked : EnqueueAsks) (flags : Flags) (b : Bool) (h : History) → k < sizes.handles → StackBelow sizes h → StackBelow sizes (cond b (Enqueue k asked home flags ∷ []) (Put k home ∷ (Enqueue k asked home flags ∷ [])) ++ h)
 StackBelow-enqueue sizes k asked flags true h below before = before
 StackBelow-enqueue sizes k asked flags false h below before = λ i above.
     let other : eqb i k ≡ false = ne_eqb i k (λ same. omega (arith, same, below, above)) in
     let zero_here : bit (eqb i k) ≡ 0 = ap bit other in
     omega (arith, zero_here, before i above)
 
-handle_of : (sizes : Sizes) (k : ℕ) (asked : Asked) (flags : Flags) (b : Bool) (h : History) → (MayAsk sizes k asked home h → k < sizes.handles) → IsLegal sizes (cond b (Enqueue k asked home flags ∷ []) (Put k home ∷ (Enqueue k asked home flags ∷ [])) ++ h) → k < sizes.handles
+handle_of : (sizes : Sizes) (k : ℕ) (asked : EnqueueAsks) (flags : Flags) (b : Bool) (h : History) → (MayAsk sizes k asked home h → k < sizes.handles) → IsLegal sizes (cond b (Enqueue k asked home flags ∷ []) (Put k home ∷ (Enqueue k asked home flags ∷ [])) ++ h) → k < sizes.handles
 handle_of sizes k asked flags true h may legal = may legal.0.2
 handle_of sizes k asked flags false h may legal = may legal.1.0.2
 
@@ -120,11 +120,11 @@ StackBelow-acts sizes (what ∷ todo) made h adds legal before =
 
 -- What is out, and which events are set.
 
-pub out-enqueue : (k : ℕ) (asked : Asked) (flags : Flags) (b : Bool) (h : History) → out_of (cond b (Enqueue k asked home flags ∷ []) (Put k home ∷ (Enqueue k asked home flags ∷ [])) ++ h) ≡ out_of h
+pub out-enqueue : (k : ℕ) (asked : EnqueueAsks) (flags : Flags) (b : Bool) (h : History) → out_of (cond b (Enqueue k asked home flags ∷ []) (Put k home ∷ (Enqueue k asked home flags ∷ [])) ++ h) ≡ out_of h
 out-enqueue k asked flags true h = refl
 out-enqueue k asked flags false h = refl
 
-set-enqueue : (e k : ℕ) (asked : Asked) (flags : Flags) (b : Bool) (h : History) → is_set e (cond b (Enqueue k asked home flags ∷ []) (Put k home ∷ (Enqueue k asked home flags ∷ [])) ++ h) ≡ is_set e h
+set-enqueue : (e k : ℕ) (asked : EnqueueAsks) (flags : Flags) (b : Bool) (h : History) → is_set e (cond b (Enqueue k asked home flags ∷ []) (Put k home ∷ (Enqueue k asked home flags ∷ [])) ++ h) ≡ is_set e h
 set-enqueue e k asked flags true h = refl
 set-enqueue e k asked flags false h = refl
 

@@ -11,13 +11,13 @@ use Rattle.aio_model.specs.LoopLaws.{times_of}
 use Rattle.aio_model.proofs.AnnouncedOnce.{announced_once}
 use Rattle.aio_model.specs.LoopLegal.{IsLegal, MayFollow}
 use Rattle.aio_model.specs.LoopSeats.{home, entries_of}
-use Rattle.aio_model.specs.LoopFrame.{Lent, Answer, Nests, Entered, Place, Makes, Enters, Body, Turn, Turns, Frame, Runs, lent_of, nests_above}
+use Rattle.aio_model.specs.LoopFrame.{Lent, Answer, Nests, Entered, PollPlace, Makes, EntersRunner, Body, Turn, Turns, Frame, DoesEntries, lent_of, nests_above}
 use Rattle.aio_model.specs.LoopActs.{Waiting, DoesActs}
 use Rattle.aio_model.proofs.Indices.{by_index}
 use Rattle.aio_model.proofs.Rounds.{legal_cut}
 use Rattle.bell_loop.specs.Running.{IsAlone, NoneAnnounced, Lots, StackBelow}
 use Rattle.bell_loop.proofs.Alone.{alone_parts, none_else}
-use Rattle.bell_loop.proofs.Depths.{Runs-split}
+use Rattle.bell_loop.proofs.Depths.{DoesEntries-split}
 use Rattle.bell_loop.proofs.Held.{NoneAnnounced-entry, NoneAnnounced-acts, Lots-acts, StackBelow-acts, set-acts}
 
 lot_above : (sizes : Sizes) (i : ℕ) → is_lot sizes i ≡ true → sizes.handles ≤ i
@@ -92,33 +92,33 @@ MadeNone-split (e ∷ newer) older h =
 
 module _ (acts : ℕ → List ActKind) (sizes : Sizes) where
   -- from these lots that need not be pending to those
-  pub record Holds (X Y : ℕ → Type 0) (a b : Place) : Type 0 where
+  pub record Holds (X Y : ℕ → Type 0) (a b : PollPlace) : Type 0 where
     pub more : List Entered
     pub added : History
     pub longer : b.log ≡ more ++ a.log
     pub seen : b.seen ≡ added ++ a.seen
-    pub runs : IsAlone b.seen → IsLegal sizes b.seen → (w w' : Waiting) → Runs (DoesActs acts) w more w'
+    pub runs : IsAlone b.seen → IsLegal sizes b.seen → (w w' : Waiting) → DoesEntries (DoesActs acts) w more w'
         → (NoneAnnounced a.seen → NoneAnnounced b.seen) × (Lots X a.seen → Lots Y b.seen) × (StackBelow sizes a.seen → StackBelow sizes b.seen) × ((e : ℕ) → is_set e b.seen ≡ is_set e a.seen) × (MadeNone more → stack_of a.seen ≡ [] → stack_of b.seen ≡ [])
 
-  Holds-same : (X : ℕ → Type 0) (a b : Place) → b ≡ a → Holds X X a b
+  Holds-same : (X : ℕ → Type 0) (a b : PollPlace) → b ≡ a → Holds X X a b
   Holds-same X a b same = record {
     more = [];
     added = [];
-    longer = ap (λ (p : Place). p.log) same;
-    seen = ap (λ (p : Place). p.seen) same;
+    longer = ap (λ (p : PollPlace). p.log) same;
+    seen = ap (λ (p : PollPlace). p.seen) same;
     runs = λ alone legal w w' runs.
-        let is : b.seen ≡ a.seen = ap (λ (p : Place). p.seen) same in
+        let is : b.seen ≡ a.seen = ap (λ (p : PollPlace). p.seen) same in
         (subst NoneAnnounced (sym is), subst (Lots X) (sym is), subst (StackBelow sizes) (sym is), λ e. ap (is_set e) is, λ made empty. ap stack_of is ∙ empty);
   }
 
-  Holds-then : (X Y Z : ℕ → Type 0) (a b c : Place) → Holds X Y a b → Holds Y Z b c → Holds X Z a c
+  Holds-then : (X Y Z : ℕ → Type 0) (a b c : PollPlace) → Holds X Y a b → Holds Y Z b c → Holds X Z a c
   Holds-then X Y Z a b c first then = record {
     more = then.more ++ first.more;
     added = then.added ++ first.added;
     longer = then.longer ∙ ap (λ l. then.more ++ l) first.longer ∙ sym (append_assoc then.more first.more a.log);
     seen = then.seen ∙ ap (λ l. then.added ++ l) first.seen ∙ sym (append_assoc then.added first.added a.seen);
     runs = λ alone legal w w' runs.
-        let parts = Runs-split (DoesActs acts) w w' then.more first.more runs in
+        let parts = DoesEntries-split (DoesActs acts) w w' then.more first.more runs in
         let alone_mid : IsAlone b.seen = (alone_parts then.added b.seen (subst IsAlone then.seen alone)).1 in
         let legal_mid : IsLegal sizes b.seen = legal_cut sizes then.added b.seen (subst (IsLegal sizes) then.seen legal) in
         let one = first.runs alone_mid legal_mid w parts.0 parts.1 in
@@ -127,12 +127,12 @@ module _ (acts : ℕ → List ActKind) (sizes : Sizes) where
   }
 
   -- home made one entry
-  one_entry : (e : Entry) (others : History) (a b : Place) → entries_of home others ≡ [] → b.seen ≡ e ∷ (others ++ a.seen) → IsAlone b.seen → b.seen ≡ e ∷ a.seen
+  one_entry : (e : Entry) (others : History) (a b : PollPlace) → entries_of home others ≡ [] → b.seen ≡ e ∷ (others ++ a.seen) → IsAlone b.seen → b.seen ≡ e ∷ a.seen
   one_entry e others a b none seen alone =
       let parts = alone_parts (e ∷ []) (others ++ a.seen) (subst IsAlone seen alone) in
       seen ∙ ap (λ l. e ∷ (l ++ a.seen)) (none_else others (alone_parts others a.seen parts.1).0 none)
 
-  Holds-entry : (X Y : ℕ → Type 0) (e : Entry) (others : History) (a b : Place) → ((i : ℕ) → enqueues i e ≡ false) → ((h : History) → Lots X h → Lots Y (e ∷ h)) → ((h : History) → StackBelow sizes h → StackBelow sizes (e ∷ h)) → ((k : ℕ) (h : History) → is_set k (e ∷ h) ≡ is_set k h) → ((h : History) → stack_of h ≡ [] → stack_of (e ∷ h) ≡ []) → entries_of home others ≡ [] → b.seen ≡ e ∷ (others ++ a.seen) → b.log ≡ a.log → Holds X Y a b
+  Holds-entry : (X Y : ℕ → Type 0) (e : Entry) (others : History) (a b : PollPlace) → ((i : ℕ) → enqueues i e ≡ false) → ((h : History) → Lots X h → Lots Y (e ∷ h)) → ((h : History) → StackBelow sizes h → StackBelow sizes (e ∷ h)) → ((k : ℕ) (h : History) → is_set k (e ∷ h) ≡ is_set k h) → ((h : History) → stack_of h ≡ [] → stack_of (e ∷ h) ≡ []) → entries_of home others ≡ [] → b.seen ≡ e ∷ (others ++ a.seen) → b.log ≡ a.log → Holds X Y a b
   Holds-entry X Y e others a b quiet lots stack events empties none seen log = record {
     more = [];
     added = e ∷ others;
@@ -143,7 +143,7 @@ module _ (acts : ℕ → List ActKind) (sizes : Sizes) where
         (λ h. subst NoneAnnounced (sym is) (NoneAnnounced-entry e a.seen quiet h), λ h. subst (Lots Y) (sym is) (lots a.seen h), λ h. subst (StackBelow sizes) (sym is) (stack a.seen h), λ k. ap (is_set k) is ∙ events k a.seen, λ made empty. ap stack_of is ∙ empties a.seen empty);
   }
 
-  Holds-enters : (X : ℕ → Type 0) (lent : Lent) (answer : Answer) (a b : Place) → Enters lent answer a b → Holds X X a b
+  Holds-enters : (X : ℕ → Type 0) (lent : Lent) (answer : Answer) (a b : PollPlace) → EntersRunner lent answer a b → Holds X X a b
   Holds-enters X lent answer a b enters = record {
     more = record { lent = lent; answer = answer; made = enters.made } ∷ [];
     added = enters.between;
@@ -158,8 +158,8 @@ module _ (acts : ℕ → List ActKind) (sizes : Sizes) where
         (λ h. subst NoneAnnounced (sym is) (NoneAnnounced-acts sizes _ enters.made a.seen adds legal_here h), λ h. subst (Lots X) (sym is) (Lots-acts X _ enters.made a.seen adds h), λ h. subst (StackBelow sizes) (sym is) (StackBelow-acts sizes _ enters.made a.seen adds legal_here h), λ e. ap (is_set e) is ∙ set-acts e _ enters.made a.seen adds, λ made empty. ap stack_of (is ∙ ap (λ m. m ++ a.seen) made.0) ∙ empty);
   }
 
-  module _ (frame : Place → Place → Type 0) (frames : (X : ℕ → Type 0) (a b : Place) → frame a b → Holds X X a b) where
-    Holds-body : (X : ℕ → Type 0) (bh : ℕ) (job : Option ℕ) (first : Bool) (nests : ℕ) (a b : Place) → Body frame bh job first nests a b → Holds X X a b
+  module _ (frame : PollPlace → PollPlace → Type 0) (frames : (X : ℕ → Type 0) (a b : PollPlace) → frame a b → Holds X X a b) where
+    Holds-body : (X : ℕ → Type 0) (bh : ℕ) (job : Option ℕ) (first : Bool) (nests : ℕ) (a b : PollPlace) → Body frame bh job first nests a b → Holds X X a b
     Holds-body X bh job first zero a b body = Holds-enters X (lent_of bh job first zero) body.0 a b body.1
     Holds-body X bh job first (suc nests) a b body =
         elim body as (λ _. Holds X X a b) [
@@ -169,24 +169,24 @@ module _ (acts : ℕ → List ActKind) (sizes : Sizes) where
               (Holds-then X X X more.0 more.1 b (frames X more.0 more.1 more.3) (Holds-body X bh None false nests more.1 b more.4))
         ]
 
-    Holds-calls : (X : ℕ → Type 0) (bh : ℕ) (job : Option ℕ) (ran : Bool) (nests : ℕ) (a b : Place) → MatchBool ran (Body frame bh job true nests a b) (b ≡ a) → Holds X X a b
+    Holds-calls : (X : ℕ → Type 0) (bh : ℕ) (job : Option ℕ) (ran : Bool) (nests : ℕ) (a b : PollPlace) → MatchBool ran (Body frame bh job true nests a b) (b ≡ a) → Holds X X a b
     Holds-calls X bh job true nests a b body = Holds-body X bh job true nests a b body
     Holds-calls X bh job false nests a b same = Holds-same X a b same
 
-    Holds-free : (X : ℕ → Type 0) (i : ℕ) (lot : Bool) (a b : Place) → is_lot sizes i ≡ lot → MatchBool lot (Makes (Free i) a b) (b ≡ a) → Holds (λ k. X k ⊎ (k ≡ i)) X a b
+    Holds-free : (X : ℕ → Type 0) (i : ℕ) (lot : Bool) (a b : PollPlace) → is_lot sizes i ≡ lot → MatchBool lot (Makes (Free i) a b) (b ≡ a) → Holds (λ k. X k ⊎ (k ≡ i)) X a b
     Holds-free X i true a b is free =
         Holds-entry (λ k. X k ⊎ (k ≡ i)) X (Free i) free.others a b (λ k. refl) (Lots-freed X i) (λ h s. s) (λ k h. refl) (λ h s. s) free.not_home free.seen free.log
     Holds-free X i false a b is same = record {
       more = [];
       added = [];
-      longer = ap (λ (p : Place). p.log) same;
-      seen = ap (λ (p : Place). p.seen) same;
+      longer = ap (λ (p : PollPlace). p.log) same;
+      seen = ap (λ (p : PollPlace). p.seen) same;
       runs = λ alone legal w w' runs.
-          let here : b.seen ≡ a.seen = ap (λ (p : Place). p.seen) same in
+          let here : b.seen ≡ a.seen = ap (λ (p : PollPlace). p.seen) same in
           (subst NoneAnnounced (sym here), λ h. subst (Lots X) (sym here) (Lots-handle sizes X i a.seen (subst (IsLegal sizes) here legal) is h), subst (StackBelow sizes) (sym here), λ e. ap (is_set e) here, λ made empty. ap stack_of here ∙ empty);
     }
 
-    Holds-turn : (X : ℕ → Type 0) (nests : ℕ) (a b : Place) → Turn sizes frame nests a b → Holds X X a b
+    Holds-turn : (X : ℕ → Type 0) (nests : ℕ) (a b : PollPlace) → Turn sizes frame nests a b → Holds X X a b
     Holds-turn X nests a b turn =
         let d = turn.dequeue in
         let i = turn.index in
@@ -194,16 +194,16 @@ module _ (acts : ℕ → List ActKind) (sizes : Sizes) where
         Holds-then X Y X a turn.dequeued b (Holds-entry X Y (Dequeue i turn.ran) d.others a turn.dequeued (λ k. refl) (Lots-dequeued X i turn.ran) (λ h s. s) (λ k h. refl) (λ h s. s) d.not_home d.seen d.log)
         (Holds-then Y Y X turn.dequeued turn.ended b (Holds-calls Y i _ turn.ran nests turn.dequeued turn.ended turn.body) (Holds-free X i (is_lot sizes i) turn.ended b refl turn.free))
 
-    Holds-turns : (X : ℕ → Type 0) (nests count : ℕ) (a b : Place) → Turns sizes frame nests count a b → Holds X X a b
+    Holds-turns : (X : ℕ → Type 0) (nests count : ℕ) (a b : PollPlace) → Turns sizes frame nests count a b → Holds X X a b
     Holds-turns X nests zero a b same = Holds-same X a b same
     Holds-turns X nests (suc count) a b turns =
         Holds-then X X X a turns.0 b (Holds-turn X nests a turns.0 turns.1) (Holds-turns X nests count turns.0 b turns.2)
 
-  Holds-take : (X : ℕ → Type 0) (a b : Place) → Makes Take a b → Holds X X a b
+  Holds-take : (X : ℕ → Type 0) (a b : PollPlace) → Makes Take a b → Holds X X a b
   Holds-take X a b take =
       Holds-entry X X Take take.others a b (λ k. refl) (λ h l. l) (λ h s i above. refl) (λ k h. refl) (λ h s. refl) take.not_home take.seen take.log
 
-  pub Holds-frame : (depths : ℕ) (X : ℕ → Type 0) (a b : Place) → Frame sizes depths a b → Holds X X a b
+  pub Holds-frame : (depths : ℕ) (X : ℕ → Type 0) (a b : PollPlace) → Frame sizes depths a b → Holds X X a b
   unfolding Frame
   Holds-frame zero X a b frame = absurd frame
   Holds-frame (suc deeper) X a b frame =
@@ -211,7 +211,7 @@ module _ (acts : ℕ → List ActKind) (sizes : Sizes) where
       (Holds-turns (Frame sizes deeper) (Holds-frame deeper) X (nests_above deeper) frame.count frame.taken b frame.turns)
 
   -- a poll pushes handles alone
-  pub Below-frame : (deeper : ℕ) (a b : Place) → Frame sizes (suc deeper) a b → (w w' : Waiting) (more : List Entered) → b.log ≡ more ++ a.log → Runs (DoesActs acts) w more w' → IsAlone b.seen → IsLegal sizes b.seen → StackBelow sizes b.seen
+  pub Below-frame : (deeper : ℕ) (a b : PollPlace) → Frame sizes (suc deeper) a b → (w w' : Waiting) (more : List Entered) → b.log ≡ more ++ a.log → DoesEntries (DoesActs acts) w more w' → IsAlone b.seen → IsLegal sizes b.seen → StackBelow sizes b.seen
   unfolding Frame
   Below-frame deeper a b frame w w' more longer runs alone legal =
       let turns = Holds-turns (Frame sizes deeper) (Holds-frame deeper) (λ k. ⊥) (nests_above deeper) frame.count frame.taken b frame.turns in
@@ -219,10 +219,10 @@ module _ (acts : ℕ → List ActKind) (sizes : Sizes) where
       let more_is : more ≡ turns.more = append_cancel_right more turns.more a.log same in
       let alone_taken : IsAlone frame.taken.seen = (alone_parts turns.added frame.taken.seen (subst IsAlone turns.seen alone)).1 in
       let taken : frame.taken.seen ≡ Take ∷ a.seen = one_entry Take frame.take.others a frame.taken frame.take.not_home frame.take.seen alone_taken in
-      (turns.runs alone legal w w' (subst (λ l. Runs (DoesActs acts) w l w') more_is runs)).2 (subst (StackBelow sizes) (sym taken) (λ i above. refl))
+      (turns.runs alone legal w w' (subst (λ l. DoesEntries (DoesActs acts) w l w') more_is runs)).2 (subst (StackBelow sizes) (sym taken) (λ i above. refl))
 
   -- a poll whose callbacks make nothing leaves nothing in the stack
-  pub Empty-frame : (deeper : ℕ) (a b : Place) → Frame sizes (suc deeper) a b → (w w' : Waiting) (more : List Entered) → b.log ≡ more ++ a.log → Runs (DoesActs acts) w more w' → MadeNone more → IsAlone b.seen → IsLegal sizes b.seen → stack_of b.seen ≡ []
+  pub Empty-frame : (deeper : ℕ) (a b : PollPlace) → Frame sizes (suc deeper) a b → (w w' : Waiting) (more : List Entered) → b.log ≡ more ++ a.log → DoesEntries (DoesActs acts) w more w' → MadeNone more → IsAlone b.seen → IsLegal sizes b.seen → stack_of b.seen ≡ []
   unfolding Frame
   Empty-frame deeper a b frame w w' more longer runs made alone legal =
       let turns = Holds-turns (Frame sizes deeper) (Holds-frame deeper) (λ k. ⊥) (nests_above deeper) frame.count frame.taken b frame.turns in
@@ -230,7 +230,7 @@ module _ (acts : ℕ → List ActKind) (sizes : Sizes) where
       let more_is : more ≡ turns.more = append_cancel_right more turns.more a.log same in
       let alone_taken : IsAlone frame.taken.seen = (alone_parts turns.added frame.taken.seen (subst IsAlone turns.seen alone)).1 in
       let taken : frame.taken.seen ≡ Take ∷ a.seen = one_entry Take frame.take.others a frame.taken frame.take.not_home frame.take.seen alone_taken in
-      (turns.runs alone legal w w' (subst (λ l. Runs (DoesActs acts) w l w') more_is runs)).4 (subst MadeNone more_is made) (ap stack_of taken)
+      (turns.runs alone legal w w' (subst (λ l. DoesEntries (DoesActs acts) w l w') more_is runs)).4 (subst MadeNone more_is made) (ap stack_of taken)
 
 -- after it no lot lives
 pub none_lives : (sizes : Sizes) (h : History) → IsLegal sizes h → NoneAnnounced h → Lots (λ k. ⊥) h → StackBelow sizes h → out_of h ≡ [] → (i : ℕ) → lives i h ≡ false

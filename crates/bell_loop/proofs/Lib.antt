@@ -4,7 +4,7 @@ pub mod Entries
 pub mod Depths
 pub mod Alone
 pub mod Logs
-pub mod Going
+pub mod LogsGoOn
 pub mod Polling
 pub mod Held
 pub mod Holding

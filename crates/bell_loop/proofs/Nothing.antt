@@ -1,7 +1,7 @@
 -- Callbacks that have no actions make nothing.
 use Rattle.std.proofs.Common.{◌≡◌, ℕ, Bool, true, false, MatchBool, Option, None, Some, List, [], ◌∷◌, length, arith, refl, ap, ◌∙◌, subst}
 use Rattle.aio_model.specs.declared.loop_scripts.ActKind.{ActKind}
-use Rattle.aio_model.specs.LoopFrame.{Entered, Runs}
+use Rattle.aio_model.specs.LoopFrame.{Entered, DoesEntries}
 use Rattle.aio_model.specs.LoopActs.{Waiting, DoesActs, Add, acts_called, before_nest, behind_nest, waiting_after}
 use Rattle.bell_loop.proofs.Holding.{MadeNone}
 
@@ -22,7 +22,7 @@ module _ (acts : ℕ → List ActKind) (none : (bh : ℕ) → acts bh ≡ []) wh
       let made : Add [] entered.made = subst (λ t. Add (before_nest t) entered.made) is.0 does.adds in
       (made, does.leaves ∙ ap (λ t. waiting_after (behind_nest t) entered.lent.nests_left does.below) is.0 ∙ is.1)
 
-  pub runs_none : (log : List Entered) (after : Waiting) → Runs (DoesActs acts) [] log after → MadeNone log × (after ≡ [])
+  pub runs_none : (log : List Entered) (after : Waiting) → DoesEntries (DoesActs acts) [] log after → MadeNone log × (after ≡ [])
   runs_none [] after same = (tt, same)
   runs_none (e ∷ older) after runs =
       let before = runs_none older runs.0 runs.1 in

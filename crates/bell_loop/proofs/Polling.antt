@@ -8,17 +8,17 @@ use Rattle.aio_model.specs.declared.loop_scripts.Command.TheVariants.{Poll}
 use Rattle.aio_model.specs.LoopHistory.{Sizes, History}
 use Rattle.aio_model.specs.LoopLegal.{IsLegal}
 use Rattle.aio_model.specs.LoopLog.{Log, history_of, is_rung, rings}
-use Rattle.aio_model.specs.LoopFrame.{Lent, Entered, Place, Frame, Runs, start_of, called_of, cut_nests_of}
+use Rattle.aio_model.specs.LoopFrame.{Lent, Entered, PollPlace, Frame, DoesEntries, start_of, called_of, cut_nests_of}
 use Rattle.aio_model.specs.LoopActs.{Waiting, DoesActs, acts_called, acts_of}
-use Rattle.aio_model.specs.LoopReplies.{Polls as PollsScript, made_log, counted, named_most, called_as, sizes_of}
+use Rattle.aio_model.specs.LoopReplies.{PollsInScript, made_log, counted, named_most, called_as, sizes_of}
 use Rattle.aio_core.specs.Known.{Known}
 use Rattle.aio_bh.specs.declared.polled.Polled.{Polled}
 use Rattle.aio_bh.specs.Polling.{Polls}
 use Rattle.bell_loop.specs.Actions.{some_rings}
-use Rattle.bell_loop.specs.Entering.{DoesEntry, Names, Noted}
+use Rattle.bell_loop.specs.Entering.{DoesEntry, NamesCalled, BellNotes}
 use Rattle.aio_core.specs.Known.{is_running}
 use Rattle.aio_core.specs.Calls.{TableState, SeatState, IsSeatOf}
-use Rattle.bell_loop.specs.Running.{IsAlone, any_rings, Answers, Calm, Idles, StackBelow}
+use Rattle.bell_loop.specs.Running.{IsAlone, any_rings, AnswersSeen, Calm, Idles, StackBelow}
 use Rattle.aio_model.specs.LoopFlags.{lives, is_pending}
 use Rattle.aio_model.specs.LoopLists.{out_of, stack_of, is_set}
 use Rattle.bell_loop.proofs.Holding.{Holds-frame, Below-frame, Empty-frame, none_lives, none_pends}
@@ -46,14 +46,14 @@ does_other f g agree before entered after d = record {
   leaves = d.leaves;
 }
 
-runs_other : (f g : ℕ → List ActKind) → ((bh : ℕ) → f bh ≡ g bh) → (before : Waiting) (log : List Entered) (after : Waiting) → Runs (DoesActs f) before log after → Runs (DoesActs g) before log after
+runs_other : (f g : ℕ → List ActKind) → ((bh : ℕ) → f bh ≡ g bh) → (before : Waiting) (log : List Entered) (after : Waiting) → DoesEntries (DoesActs f) before log after → DoesEntries (DoesActs g) before log after
 runs_other f g agree before [] after runs = runs
 runs_other f g agree before (e ∷ older) after runs =
     (runs.0, runs_other f g agree before older runs.0 runs.1, does_other f g agree runs.0 e after runs.2)
 
 -- what is kept of a runner, whose lists stay
-pub runs_noted : {R L : Type 0} (lists_in : R → L) (acts_in : L → ℕ → List ActKind) (noted_in : R → Noted) (a : R) (log : List Entered) (b : R)
-    → Runs (λ before entered after. (lists_in after ≡ lists_in before) × DoesEntry (acts_in (lists_in before)) (noted_in before) entered (noted_in after)) a log b → (lists_in b ≡ lists_in a) × Runs (DoesEntry (acts_in (lists_in a))) (noted_in a) log (noted_in b)
+pub runs_noted : {R L : Type 0} (lists_in : R → L) (acts_in : L → ℕ → List ActKind) (noted_in : R → BellNotes) (a : R) (log : List Entered) (b : R)
+    → DoesEntries (λ before entered after. (lists_in after ≡ lists_in before) × DoesEntry (acts_in (lists_in before)) (noted_in before) entered (noted_in after)) a log b → (lists_in b ≡ lists_in a) × DoesEntries (DoesEntry (acts_in (lists_in a))) (noted_in a) log (noted_in b)
 runs_noted lists_in acts_in noted_in a [] b runs = (ap lists_in runs, ap noted_in runs)
 runs_noted lists_in acts_in noted_in a (e ∷ older) b runs =
     let before = runs_noted lists_in acts_in noted_in a older runs.0 runs.1 in
@@ -64,15 +64,15 @@ called_more true lent older = sym (map-append called_as (called_of older) (lent 
 called_more false lent older = refl
 
 -- who was called is named
-pub names_of : (acts : ℕ → List ActKind) (n : Noted) (log : List Entered) (n' : Noted) → Names n.ran n.more [] → Runs (DoesEntry acts) n log n' → Names n'.ran n'.more (map called_as (called_of log))
+pub names_of : (acts : ℕ → List ActKind) (n : BellNotes) (log : List Entered) (n' : BellNotes) → NamesCalled n.ran n.more [] → DoesEntries (DoesEntry acts) n log n' → NamesCalled n'.ran n'.more (map called_as (called_of log))
 names_of acts n [] n' names same =
-    subst (λ (k : Noted). Names k.ran k.more []) (sym same) names
+    subst (λ (k : BellNotes). NamesCalled k.ran k.more []) (sym same) names
 names_of acts n (e ∷ older) n' names runs =
-    subst (Names n'.ran n'.more) (called_more e.lent.first e.lent older) (runs.2.names (map called_as (called_of older)) (names_of acts n older runs.0 names runs.1))
+    subst (NamesCalled n'.ran n'.more) (called_more e.lent.first e.lent older) (runs.2.names (map called_as (called_of older)) (names_of acts n older runs.0 names runs.1))
 
 -- whether some action notified
-pub rang_of : (acts : ℕ → List ActKind) (n : Noted) (log : List Entered) (n' : Noted) → Runs (DoesEntry acts) n log n' → n'.rang ≡ (n.rang || any_rings log)
-rang_of acts n [] n' same = ap (λ (k : Noted). k.rang) same ∙ or_false n.rang
+pub rang_of : (acts : ℕ → List ActKind) (n : BellNotes) (log : List Entered) (n' : BellNotes) → DoesEntries (DoesEntry acts) n log n' → n'.rang ≡ (n.rang || any_rings log)
+rang_of acts n [] n' same = ap (λ (k : BellNotes). k.rang) same ∙ or_false n.rang
   where
     or_false : (b : Bool) → b ≡ (b || false)
     or_false true = refl
@@ -95,8 +95,8 @@ rung_made (e ∷ older) log =
     turned false b c = refl
 
 -- what the home's poll and its callbacks tell
-module _ (acts : ℕ → List ActKind) (n n' : Noted) (polled : Polled) (a b : Known) (end : Place) (between : History)
-    (frame : Frame a.sizes 8 (start_of a.seen) end) (seen : b.seen ≡ end.seen) (runs : Runs (DoesEntry acts) n end.log n')
+module _ (acts : ℕ → List ActKind) (n n' : BellNotes) (polled : Polled) (a b : Known) (end : PollPlace) (between : History)
+    (frame : Frame a.sizes 8 (start_of a.seen) end) (seen : b.seen ≡ end.seen) (runs : DoesEntries (DoesEntry acts) n end.log n')
     (progress : polled.progress ≡ end.progress) (cut : polled.cut_nests ≡ counted (cut_nests_of end.log))
     (longer : b.seen ≡ between ++ a.seen) (legal : IsLegal a.sizes b.seen) (none_waits : n.waiting ≡ []) where
   kept : Keeps acts a.sizes 8 (start_of a.seen) end
@@ -105,16 +105,16 @@ module _ (acts : ℕ → List ActKind) (n n' : Noted) (polled : Polled) (a b : K
   more_is : end.log ≡ kept.more
   more_is = kept.longer ∙ append-nil kept.more
 
-  ran : Runs (DoesActs acts) n.waiting kept.more n'.waiting × (n'.waiting ≡ n.waiting)
-  ran = kept.runs n n' (subst (λ l. Runs (DoesEntry acts) n l n') more_is runs) (let e : length n.waiting ≡ 0 = ap length none_waits in omega (arith, e))
+  ran : DoesEntries (DoesActs acts) n.waiting kept.more n'.waiting × (n'.waiting ≡ n.waiting)
+  ran = kept.runs n n' (subst (λ l. DoesEntries (DoesEntry acts) n l n') more_is runs) (let e : length n.waiting ≡ 0 = ap length none_waits in omega (arith, e))
 
   -- nothing waits again
   pub none_waits_after : n'.waiting ≡ []
   none_waits_after = ran.1 ∙ none_waits
 
-  pub acted : Runs (DoesActs acts) [] end.log []
+  pub acted : DoesEntries (DoesActs acts) [] end.log []
   acted =
-      subst (λ l. Runs (DoesActs acts) [] l []) (sym more_is) (subst (λ w. Runs (DoesActs acts) w kept.more []) none_waits (subst (λ w. Runs (DoesActs acts) n.waiting kept.more w) none_waits_after ran.0))
+      subst (λ l. DoesEntries (DoesActs acts) [] l []) (sym more_is) (subst (λ w. DoesEntries (DoesActs acts) w kept.more []) none_waits (subst (λ w. DoesEntries (DoesActs acts) n.waiting kept.more w) none_waits_after ran.0))
 
   pub rung_after : IsAlone b.seen → (log : Log) → n.rang ≡ is_rung log → n'.rang ≡ is_rung (made_log between log)
   rung_after alone log rung =
@@ -130,7 +130,7 @@ module _ (acts : ℕ → List ActKind) (n n' : Noted) (polled : Polled) (a b : K
   calm_after alone none calm =
       let held = Holds-frame acts a.sizes 8 (λ _. ⊥) (start_of a.seen) end frame in
       let log_is : end.log ≡ held.more = held.longer ∙ append-nil held.more in
-      let kept = held.runs (subst IsAlone seen alone) (subst (IsLegal a.sizes) seen legal) [] [] (subst (λ l. Runs (DoesActs acts) [] l []) log_is acted) in
+      let kept = held.runs (subst IsAlone seen alone) (subst (IsLegal a.sizes) seen legal) [] [] (subst (λ l. DoesEntries (DoesActs acts) [] l []) log_is acted) in
       subst Calm (sym seen) record { announced = kept.0 calm.announced; none_out = ap out_of (sym seen) ∙ none; lots = kept.1 calm.lots }
 
   -- no event is set or cleared
@@ -138,7 +138,7 @@ module _ (acts : ℕ → List ActKind) (n n' : Noted) (polled : Polled) (a b : K
   events_after alone e =
       let held = Holds-frame acts a.sizes 8 (λ _. ⊥) (start_of a.seen) end frame in
       let log_is : end.log ≡ held.more = held.longer ∙ append-nil held.more in
-      let kept = held.runs (subst IsAlone seen alone) (subst (IsLegal a.sizes) seen legal) [] [] (subst (λ l. Runs (DoesActs acts) [] l []) log_is acted) in
+      let kept = held.runs (subst IsAlone seen alone) (subst (IsLegal a.sizes) seen legal) [] [] (subst (λ l. DoesEntries (DoesActs acts) [] l []) log_is acted) in
       ap (is_set e) seen ∙ kept.3 e
 
   pub none_lives_after : IsAlone b.seen → Calm a.seen → out_of b.seen ≡ [] → (i : ℕ) → lives i b.seen ≡ false
@@ -155,7 +155,7 @@ module _ (acts : ℕ → List ActKind) (n n' : Noted) (polled : Polled) (a b : K
       let empty : stack_of b.seen ≡ [] = ap stack_of seen ∙ Empty-frame acts a.sizes 7 (start_of a.seen) end frame [] [] end.log (sym (append-nil end.log)) acted made.0 (subst IsAlone seen alone) (subst (IsLegal a.sizes) seen legal) in
       none_pends a.sizes b.seen legal after.announced empty none i
 
-  pub Polls-script : (script : LoopScript) (log : Log) → Names n.ran n.more [] → sizes_of script ≡ a.sizes → ((bh : ℕ) → acts bh ≡ acts_of script.acts bh) → IsAlone b.seen → history_of log ≡ a.seen → PollsScript script log (made_log between log) (Ran n'.ran n'.more polled.progress polled.cut_nests)
+  pub Polls-script : (script : LoopScript) (log : Log) → NamesCalled n.ran n.more [] → sizes_of script ≡ a.sizes → ((bh : ℕ) → acts bh ≡ acts_of script.acts bh) → IsAlone b.seen → history_of log ≡ a.seen → PollsInScript script log (made_log between log) (Ran n'.ran n'.more polled.progress polled.cut_nests)
   Polls-script script log names sizes agree alone is =
       let told = names_of acts n end.log n' names runs in
       let calls = map called_as (called_of end.log) in
@@ -187,10 +187,10 @@ Idles-polled does polled r r' table a b idles of polls =
     }
 
 -- a runner whose lists stay, and which keeps such notes
-module _ {R L : Type 0} (lists_in : R → L) (acts_in : L → ℕ → List ActKind) (noted_in : R → Noted) (polled : Polled) (r r' : R) (a b : Known)
+module _ {R L : Type 0} (lists_in : R → L) (acts_in : L → ℕ → List ActKind) (noted_in : R → BellNotes) (polled : Polled) (r r' : R) (a b : Known)
     (polls : Polls (λ before entered after. (lists_in after ≡ lists_in before) × DoesEntry (acts_in (lists_in before)) (noted_in before) entered (noted_in after)) polled r a r' b)
     (none : (noted_in r).waiting ≡ []) where
-  the_runs : (lists_in r' ≡ lists_in r) × Runs (DoesEntry (acts_in (lists_in r))) (noted_in r) polls.end.log (noted_in r')
+  the_runs : (lists_in r' ≡ lists_in r) × DoesEntries (DoesEntry (acts_in (lists_in r))) (noted_in r) polls.end.log (noted_in r')
   the_runs = runs_noted lists_in acts_in noted_in r polls.end.log r' polls.runs
 
   pub lists_stay : lists_in r' ≡ lists_in r
@@ -212,8 +212,8 @@ module _ {R L : Type 0} (lists_in : R → L) (acts_in : L → ℕ → List ActKi
   events_then alone e =
       events_after (acts_in (lists_in r)) (noted_in r) (noted_in r') polled a b polls.end polls.goes_on.between polls.frame polls.seen the_runs.1 polls.progress polls.cut_nests polls.goes_on.seen polls.goes_on.legal none alone e
 
-  pub Answers-polled : (sizes : Sizes) → a.sizes ≡ sizes → Names (noted_in r).ran (noted_in r).more [] → Answers sizes (acts_in (lists_in r)) Poll (Ran (noted_in r').ran (noted_in r').more polled.progress polled.cut_nests) (noted_in r).rang (noted_in r').rang a.seen b.seen
-  Answers-polled sizes same names = record {
+  pub AnswersSeen-polled : (sizes : Sizes) → a.sizes ≡ sizes → NamesCalled (noted_in r).ran (noted_in r).more [] → AnswersSeen sizes (acts_in (lists_in r)) Poll (Ran (noted_in r').ran (noted_in r').more polled.progress polled.cut_nests) (noted_in r).rang (noted_in r').rang a.seen b.seen
+  AnswersSeen-polled sizes same names = record {
     between = polls.goes_on.between;
     longer = polls.goes_on.seen;
     at = λ alone script log of stands. record {

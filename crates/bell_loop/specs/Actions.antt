@@ -11,7 +11,7 @@ use Rattle.aio_model.specs.LoopActs.{Add, made_by}
 use Rattle.aio_model.specs.InFlight.{AtRest}
 use Rattle.aio_core.specs.Known.{Known}
 use Rattle.aio_core.specs.Calls.{TableState, SeatState, IsSeatOf}
-use Rattle.aio_bh.specs.Running.{GivesBack}
+use Rattle.aio_bh.specs.Running.{SeatComesBack}
 use Rattle.aio_script.specs.LoopBounds.{CallsHandle}
 
 -- actions on handles, of which there are so many
@@ -29,13 +29,13 @@ pub record IsLent (table : TableState) (seat : SeatState) : Type 0 where
 -- one action was done, and nothing else
 pub record Acts (what : ActKind) (before after : Known) : Type 0 where
   pub was : Flags
-  pub back : GivesBack (made_by what was) before after
+  pub back : SeatComesBack (made_by what was) before after
 
 -- these actions
 pub record ActsAll (todo : List ActKind) (before after : Known) : Type 0 where
   pub made : History
   pub adds : Add todo made
-  pub back : GivesBack made before after
+  pub back : SeatComesBack made before after
 
 -- some entry notifies
 abbrev pub some_rings : History → Bool

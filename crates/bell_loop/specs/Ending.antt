@@ -5,12 +5,12 @@ use Rattle.aio_model.specs.declared.loop_scripts.LoopScript.{LoopScript}
 use Rattle.aio_model.specs.declared.loop_replies.LoopReply.{LoopReply}
 use Rattle.aio_model.specs.LoopHistory.{History}
 use Rattle.aio_model.specs.LoopLog.{Log, history_of, is_set_in, cleared_log}
-use Rattle.aio_model.specs.LoopReplies.{Does, sizes_of}
+use Rattle.aio_model.specs.LoopReplies.{DoesCommand, sizes_of}
 use Rattle.aio_model.specs.InFlight.{AtRest}
 use Rattle.aio_core.specs.Calls.{TableState, SeatState, IsSeatOf}
 use Rattle.aio_notify.specs.Settling.{is_committed}
 use Rattle.bell_loop.specs.Running.{IsAlone}
-use Rattle.bell_loop.specs.Machines.{MachineState, Stands}
+use Rattle.bell_loop.specs.Machines.{MachineState, KeepsLog}
 
 -- the script, with callbacks that do nothing
 abbrev pub without_acts : LoopScript → LoopScript
@@ -27,7 +27,7 @@ clearings (suc e) log =
 pub record Ended (script : LoopScript) (log : Log) (history : History) : Type 0 where
   pub reply : LoopReply
   pub polled : Log
-  pub polls : Does (without_acts script) Poll log polled reply
+  pub polls : DoesCommand (without_acts script) Poll log polled reply
   pub ends : history ≡ history_of (clearings script.events polled)
 
 -- The history is what was seen and then what an end of the run makes. Home alone made it.
@@ -35,7 +35,7 @@ pub record EndsBy (before : MachineState) (history : History) : Type 0 where
   pub alone : IsAlone history
   pub between : History
   pub longer : history ≡ between ++ before.seen
-  pub at : (script : LoopScript) (log : Log) → sizes_of script ≡ before.sizes → Stands before log → Ended script log history
+  pub at : (script : LoopScript) (log : Log) → sizes_of script ≡ before.sizes → KeepsLog before log → Ended script log history
 
 -- What was seen went on. Where home alone made it, each log of before leads to one of after.
 pub record Leads (moves : Log → Log) (before after : MachineState) : Type 0 where
@@ -43,14 +43,14 @@ pub record Leads (moves : Log → Log) (before after : MachineState) : Type 0 wh
   pub lists : after.lists ≡ before.lists
   pub between : History
   pub longer : after.seen ≡ between ++ before.seen
-  pub at : IsAlone after.seen → (log : Log) → Stands before log → Stands after (moves log)
+  pub at : IsAlone after.seen → (log : Log) → KeepsLog before log → KeepsLog after (moves log)
 
 -- one event is cleared where it is set
 abbrev pub clearing : ℕ → Log → Log
 clearing e log = if is_set_in e log then cleared_log e log else log
 
 -- home is committed, and at rest
-pub record Sleeps (table : TableState) (seat : SeatState) : Type 0 where
+pub record IsCommitted (table : TableState) (seat : SeatState) : Type 0 where
   pub of : IsSeatOf table seat
   pub committed : is_committed seat.known.sleep ≡ true
   pub rest : seat.known.phase ≡ AtRest

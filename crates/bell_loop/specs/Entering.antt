@@ -19,18 +19,18 @@ pub record CanRun (handles : ℕ) (lists : List (List ActKind)) (waiting : Waiti
   pub waits : AllByRecursion (AreWithin handles) waiting
 
 -- the first of those called are named, and how many there were besides is counted
-pub record Names (ran : List Called) (more : ℕ) (calls : List Called) : Type 0 where
+pub record NamesCalled (ran : List Called) (more : ℕ) (calls : List Called) : Type 0 where
   pub first : ran ≡ take named_most calls
   pub besides : more ≡ counted (length calls - named_most)
 
 -- what is kept: what waits for a nested poll, who was called, and whether some action notified the loop
-pub record Noted : Type 0 where
+pub record BellNotes : Type 0 where
   pub waiting : Waiting
   pub ran : List Called
   pub more : ℕ
   pub rang : Bool
 
-abbrev pub noted : Waiting → List Called → ℕ → Bool → Noted
+abbrev pub noted : Waiting → List Called → ℕ → Bool → BellNotes
 noted waiting ran more rang =
     record { waiting = waiting; ran = ran; more = more; rang = rang }
 
@@ -49,8 +49,8 @@ FindsTodo acts first bh job todo before after =
     MatchBool first ((todo ≡ acts_called acts bh job) × (after ≡ before)) (0 < length before → before ≡ todo ∷ after)
 
 -- one entry, where the callbacks of the handles have these actions
-pub record DoesEntry (acts : ℕ → List ActKind) (before : Noted) (entered : Entered) (after : Noted) : Type 0 where
-  pub names : (calls : List Called) → Names before.ran before.more calls → Names after.ran after.more (calls_after entered.lent calls)
+pub record DoesEntry (acts : ℕ → List ActKind) (before : BellNotes) (entered : Entered) (after : BellNotes) : Type 0 where
+  pub names : (calls : List Called) → NamesCalled before.ran before.more calls → NamesCalled after.ran after.more (calls_after entered.lent calls)
   pub rang : after.rang ≡ (before.rang || some_rings entered.made)
   pub does : MayEnter entered.lent before.waiting → DoesActs acts before.waiting entered after.waiting
 

@@ -12,13 +12,13 @@ use Rattle.aio_model.specs.LoopHistory.{Sizes, History}
 use Rattle.aio_model.specs.LoopLog.{Log, history_of, is_rung}
 use Rattle.aio_model.specs.LoopLists.{is_set}
 use Rattle.aio_model.specs.LoopActs.{Waiting}
-use Rattle.aio_model.specs.LoopReplies.{Does}
+use Rattle.aio_model.specs.LoopReplies.{DoesCommand}
 use Rattle.aio_core.specs.Calls.{TableState, SeatState, IsSeatOf, first_seat}
 use Rattle.lot_pool.specs.Pools.{PoolState, PassState, IsPassOf}
 use Rattle.aio_bh.specs.OneShots.{ServesHome}
 use Rattle.bell_loop.specs.declared.machine.Machine.{Machine}
 use Rattle.bell_loop.specs.Entering.{CanRun, acts_at}
-use Rattle.bell_loop.specs.Running.{Calm, Idles, IsAlone, IsOf, living_in}
+use Rattle.bell_loop.specs.Running.{Calm, Idles, IsAlone, IsScriptOf, living_in}
 
 pub record MachineState : Type 0 where
   pub sizes : Sizes
@@ -30,7 +30,7 @@ pub record MachineState : Type 0 where
   pub marks : List Bool
 
 -- between two commands home idles, nothing was done by the seat of all other numbers, the pool and its passes are the loop's, and no callback waits
-pub record IsReady (table : TableState) (home others : SeatState) (pool : PoolState) (giving placing : PassState) (lists : List (List ActKind)) (waiting : Waiting) (marks : List Bool) : Type 0 where
+pub record IsBetweenCommands (table : TableState) (home others : SeatState) (pool : PoolState) (giving placing : PassState) (lists : List (List ActKind)) (waiting : Waiting) (marks : List Bool) : Type 0 where
   pub idles : Idles table home
   pub serves : ServesHome table.sizes pool giving
   pub places : IsPassOf pool placing
@@ -41,7 +41,7 @@ pub record IsReady (table : TableState) (home others : SeatState) (pool : PoolSt
   pub marks_are : length marks ≡ table.sizes.events
 
 -- the log has the history that was seen, and the machine keeps what it tells
-pub record Stands (machine : MachineState) (log : Log) : Type 0 where
+pub record KeepsLog (machine : MachineState) (log : Log) : Type 0 where
   pub history : history_of log ≡ machine.seen
   pub rung : machine.rang ≡ is_rung log
   pub living : machine.living ≡ living_in machine.sizes machine.seen
@@ -51,21 +51,21 @@ pub record Stands (machine : MachineState) (log : Log) : Type 0 where
 -- from the log on the command does what the definition says
 pub record Answered (script : LoopScript) (command : Command) (reply : LoopReply) (machine : MachineState) (log : Log) : Type 0 where
   pub after : Log
-  pub does : Does script command log after reply
-  pub stands : Stands machine after
+  pub does : DoesCommand script command log after reply
+  pub stands : KeepsLog machine after
 
 -- What was seen went on. Where home alone made it, the command was answered so, for each script of these sizes and actions.
 pub record Answers (command : Command) (reply : LoopReply) (before after : MachineState) : Type 0 where
   pub same : (after.sizes ≡ before.sizes) × (after.lists ≡ before.lists)
   pub between : History
   pub longer : after.seen ≡ between ++ before.seen
-  pub at : IsAlone after.seen → (script : LoopScript) (log : Log) → IsOf script before.sizes (acts_at before.lists) → Stands before log → Answered script command reply after log
+  pub at : IsAlone after.seen → (script : LoopScript) (log : Log) → IsScriptOf script before.sizes (acts_at before.lists) → KeepsLog before log → Answered script command reply after log
 
 -- nothing was done yet
 pub record IsNew (sizes : Sizes) (lists : List (List ActKind)) (machine : MachineState) : Type 0 where
   pub sizes_are : machine.sizes ≡ sizes
   pub lists_are : machine.lists ≡ lists
-  pub empty : Stands machine []
+  pub empty : KeepsLog machine []
 
 abbrev pub enqueue_command : asking.Kind → ℕ → Command
 enqueue_command Sched i = Schedule i
@@ -80,7 +80,7 @@ state_of machine =
 -- it may do a command
 abbrev pub Ready : {R : Type 0} → Machine R → Type 0
 Ready machine =
-    IsReady machine.table machine.home.seat machine.others machine.pool machine.giving machine.placing (map (λ l. l.items) machine.callbacks.lists.now) machine.callbacks.waiting machine.marks
+    IsBetweenCommands machine.table machine.home.seat machine.others machine.pool machine.giving machine.placing (map (λ l. l.items) machine.callbacks.lists.now) machine.callbacks.waiting machine.marks
 
 -- who was called in the last poll, and how many besides
 abbrev pub ran_in : {R : Type 0} → Machine R → List Called

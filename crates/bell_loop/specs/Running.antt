@@ -6,7 +6,7 @@ use Rattle.aio_model.specs.declared.loop_scripts.LoopScript.{LoopScript}
 use Rattle.aio_model.specs.declared.loop_replies.LoopReply.{LoopReply}
 use Rattle.aio_model.specs.LoopHistory.{Sizes, History}
 use Rattle.aio_model.specs.LoopActs.{acts_of}
-use Rattle.aio_model.specs.LoopReplies.{Does, sizes_of}
+use Rattle.aio_model.specs.LoopReplies.{DoesCommand, sizes_of}
 use Rattle.aio_model.specs.LoopSeats.{home, entries_of}
 use Rattle.aio_model.specs.LoopLists.{is_announced, stack_of, out_of}
 use Rattle.aio_model.specs.LoopFlags.{is_lot, is_pending, is_due, is_urgent, lives}
@@ -83,27 +83,27 @@ SameButSeen before after =
     after ≡ record before { seen = after.seen; mine = after.mine; did = after.did; told = after.told }
 
 -- the script has these sizes, and its callbacks these actions
-pub record IsOf (script : LoopScript) (sizes : Sizes) (acts : ℕ → List ActKind) : Type 0 where
+pub record IsScriptOf (script : LoopScript) (sizes : Sizes) (acts : ℕ → List ActKind) : Type 0 where
   pub sizes_are : sizes_of script ≡ sizes
   pub acts_are : (bh : ℕ) → acts bh ≡ acts_of script.acts bh
 
 -- the log has this history, and this tells whether it notified since its last commit
-pub record StandsFor (seen : History) (rang : Bool) (log : Log) : Type 0 where
+pub record IsLogOf (seen : History) (rang : Bool) (log : Log) : Type 0 where
   pub history : history_of log ≡ seen
   pub rung : rang ≡ is_rung log
   pub calm : Calm seen
 
 -- from the log on the command does what the definition says, and leads to this history
-pub record Answered (script : LoopScript) (command : Command) (reply : LoopReply) (rang_after : Bool) (seen_after : History) (log : Log) : Type 0 where
+pub record AnsweredSeen (script : LoopScript) (command : Command) (reply : LoopReply) (rang_after : Bool) (seen_after : History) (log : Log) : Type 0 where
   pub after : Log
-  pub does : Does script command log after reply
-  pub stands : StandsFor seen_after rang_after after
+  pub does : DoesCommand script command log after reply
+  pub stands : IsLogOf seen_after rang_after after
 
 -- What was seen went on. Where home alone made it, the command was answered so, for each script of these sizes and actions.
-pub record Answers (sizes : Sizes) (acts : ℕ → List ActKind) (command : Command) (reply : LoopReply) (rang rang_after : Bool) (seen seen_after : History) : Type 0 where
+pub record AnswersSeen (sizes : Sizes) (acts : ℕ → List ActKind) (command : Command) (reply : LoopReply) (rang rang_after : Bool) (seen seen_after : History) : Type 0 where
   pub between : History
   pub longer : seen_after ≡ between ++ seen
-  pub at : IsAlone seen_after → (script : LoopScript) (log : Log) → IsOf script sizes acts → StandsFor seen rang log → Answered script command reply rang_after seen_after log
+  pub at : IsAlone seen_after → (script : LoopScript) (log : Log) → IsScriptOf script sizes acts → IsLogOf seen rang log → AnsweredSeen script command reply rang_after seen_after log
 
 -- how many of so many numbers from this one on pass
 abbrev pub count_from : (ℕ → Bool) → ℕ → ℕ → ℕ

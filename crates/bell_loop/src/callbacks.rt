@@ -5,7 +5,7 @@ ghost use Rattle.aio_model.specs.declared.ran_lists.Called.{Called};
 ghost use Rattle.aio_model.specs.LoopActs.{acts_called, waiting_after, before_nest};
 ghost use Rattle.aio_model.specs.LoopReplies.{called_by};
 ghost use Rattle.bell_loop.specs.Actions.{AreWithin, some_asks};
-ghost use Rattle.bell_loop.specs.Entering.{acts_at, CanRun, Names, FindsTodo};
+ghost use Rattle.bell_loop.specs.Entering.{acts_at, CanRun, NamesCalled, FindsTodo};
 
 use crate::acting::{act_until_nest, asks};
 use crate::stack::Stack;
@@ -91,7 +91,7 @@ impl<'a, R: Wait> Callbacks<'a, R> {
 
     /// Who was called before is forgotten.
     pub(crate) fn begin_poll(&mut self)
-        ensures names { Names self.new.ran self.new.more [] }
+        ensures names { NamesCalled self.new.ran self.new.more [] }
         ensures rest { self.new ≡ record self.old { ran = self.new.ran; more = self.new.more } }
     {
         empty(&mut self.ran);
@@ -109,7 +109,7 @@ impl<'a, R: Wait> Callbacks<'a, R> {
 
     /// One more was called.
     fn note(&mut self, called: Called)
-        ensures names { (calls : List Called) → Names self.old.ran self.old.more calls → Names self.new.ran self.new.more (calls ++ called ∷ []) }
+        ensures names { (calls : List Called) → NamesCalled self.old.ran self.old.more calls → NamesCalled self.new.ran self.new.more (calls ++ called ∷ []) }
         ensures rest { self.new ≡ record self.old { ran = self.new.ran; more = self.new.more } }
     {
         if self.ran.is_full() {
@@ -121,7 +121,7 @@ impl<'a, R: Wait> Callbacks<'a, R> {
 
     /// The first entry into a callback, or a further one.
     fn note_first(&mut self, first: bool, called: Called)
-        ensures names { (calls : List Called) → Names self.old.ran self.old.more calls → Names self.new.ran self.new.more (if first then calls ++ called ∷ [] else calls) }
+        ensures names { (calls : List Called) → NamesCalled self.old.ran self.old.more calls → NamesCalled self.new.ran self.new.more (if first then calls ++ called ∷ [] else calls) }
         ensures rest { self.new ≡ record self.old { ran = self.new.ran; more = self.new.more } }
     {
         if first {
@@ -169,7 +169,7 @@ impl<'a, R: Wait> Callbacks<'a, R> {
 impl<'a, R: Wait> Callbacks<'a, R> {
     /// Notes an entry, and finds what is to be done at it.
     fn begin(&mut self, bh: u32, job: Option<Tag>, first: bool) -> &'a [ActKind]
-        ensures names { (calls : List Called) → Names self.old.ran self.old.more calls → Names self.new.ran self.new.more (if first then calls ++ called_by bh (option_map (λ t. t.tag) job) ∷ [] else calls) }
+        ensures names { (calls : List Called) → NamesCalled self.old.ran self.old.more calls → NamesCalled self.new.ran self.new.more (if first then calls ++ called_by bh (option_map (λ t. t.tag) job) ∷ [] else calls) }
         ensures finds { FindsTodo (acts_at (map (λ l. l.items) self.old.lists.now)) first bh (option_map (λ t. t.tag) job) result.now self.old.waiting self.new.waiting }
         ensures within { (handles : ℕ) → CanRun handles (map (λ l. l.items) self.old.lists.now) self.old.waiting → AreWithin handles result.now × AllByRecursion (AreWithin handles) self.new.waiting }
         ensures rang { self.new.rang ≡ (self.old.rang || some_asks (before_nest result.now)) }

@@ -7,7 +7,7 @@ ghost use Rattle.aio_model.specs.LoopFlags.{is_pending};
 ghost use Rattle.aio_model.specs.LoopLines.{HasNoDeadline};
 ghost use Rattle.aio_model.specs.LoopLog.{Log};
 ghost use Rattle.bell_loop.specs.Running.{Calm, IsAlone};
-ghost use Rattle.bell_loop.specs.Machines.{Answers, IsNew, Ready, Stands, state_of, ran_in, more_in, enqueue_command};
+ghost use Rattle.bell_loop.specs.Machines.{Answers, IsNew, Ready, KeepsLog, state_of, ran_in, more_in, enqueue_command};
 ghost use Rattle.bell_loop.specs.Ending.{clearing, clearings, EndsBy, Leads};
 
 use crate::callbacks::Callbacks;
@@ -247,7 +247,7 @@ impl<'a, R: Wait> Machine<'a, R> {
     /// settling. Home alone made the history then, so all that was answered before was answered as `Answers` says.
     pub fn end(mut self) -> LoopEnd<Tag>
         requires ready { Ready self }
-        requires stands { IsAlone (state_of self).seen → (log : Log) × Stands (state_of self) log }
+        requires stands { IsAlone (state_of self).seen → (log : Log) × KeepsLog (state_of self) log }
         ensures ends { EndsBy (state_of self.entry) result.known.seen }
     {
         self.callbacks.forget_lists();

@@ -13,10 +13,10 @@ ghost use Rattle.aio_core.specs.Known.{is_running};
 ghost use Rattle.aio_core.specs.Scans.{SameButSleep};
 ghost use Rattle.aio_bh.specs.OneShots.{IsPoolFor, ServesHome};
 ghost use Rattle.lot_pool.specs.Pools.{IsPassOf};
-ghost use Rattle.bell_loop.specs.Entering.{acts_at, CanRun, Names};
+ghost use Rattle.bell_loop.specs.Entering.{acts_at, CanRun, NamesCalled};
 ghost use Rattle.aio_notify.specs.Commits.{IsAwakeBy};
-ghost use Rattle.bell_loop.specs.Ending.{Sleeps};
-ghost use Rattle.bell_loop.specs.Running.{Answers, Calm, Finds, Idles, IsAlone, GoesTo, OnlyOthers, PlacesTag, SameButSeen};
+ghost use Rattle.bell_loop.specs.Ending.{IsCommitted};
+ghost use Rattle.bell_loop.specs.Running.{AnswersSeen, Calm, Finds, Idles, IsAlone, GoesTo, OnlyOthers, PlacesTag, SameButSeen};
 
 use crate::callbacks::Callbacks;
 use crate::tag::Tag;
@@ -92,13 +92,13 @@ pub(crate) fn poll<'a, R: Wait>(
     requires serves { ServesHome table.now.sizes pool.now pass.old }
     requires can { CanRun table.now.sizes.handles (map (λ l. l.items) callbacks.old.lists.now) callbacks.old.waiting }
     requires none { callbacks.old.waiting ≡ [] }
-    requires names { Names callbacks.old.ran callbacks.old.more [] }
+    requires names { NamesCalled callbacks.old.ran callbacks.old.more [] }
     ensures idles { Idles table.now home.new.seat }
     ensures serves { ServesHome table.now.sizes pool.now pass.new }
     ensures lists { callbacks.new.lists ≡ callbacks.old.lists }
     ensures can { CanRun table.now.sizes.handles (map (λ l. l.items) callbacks.old.lists.now) callbacks.new.waiting }
     ensures none { callbacks.new.waiting ≡ [] }
-    ensures answers { Answers table.now.sizes (acts_at (map (λ l. l.items) callbacks.old.lists.now)) Command.Poll (LoopReply.Ran callbacks.new.ran callbacks.new.more result.progress result.cut_nests) callbacks.old.rang callbacks.new.rang home.old.seat.known.seen home.new.seat.known.seen }
+    ensures answers { AnswersSeen table.now.sizes (acts_at (map (λ l. l.items) callbacks.old.lists.now)) Command.Poll (LoopReply.Ran callbacks.new.ran callbacks.new.more result.progress result.cut_nests) callbacks.old.rang callbacks.new.rang home.old.seat.known.seen home.new.seat.known.seen }
     ensures none_lives { IsAlone home.new.seat.known.seen → Calm home.old.seat.known.seen → (i : ℕ) → lives i home.new.seat.known.seen ≡ false }
     ensures none_pending { ((bh : ℕ) → acts_at (map (λ l. l.items) callbacks.old.lists.now) bh ≡ []) → IsAlone home.new.seat.known.seen → Calm home.old.seat.known.seen → (i : ℕ) → is_pending i home.new.seat.known.seen ≡ false }
     ensures events { IsAlone home.new.seat.known.seen → (e : ℕ) → is_set e home.new.seat.known.seen ≡ is_set e home.old.seat.known.seen }
@@ -205,7 +205,7 @@ pub(crate) fn sleep_and_accept(table: &LoopTable<Tag>, home: &mut Home<Tag>)
 fn accept_and_commit(table: &LoopTable<Tag>, home: &mut Home<Tag>) -> bool
     requires idles { Idles table.now home.old.seat }
     ensures others { OnlyOthers home.old.seat.known.seen home.new.seat.known.seen }
-    ensures sleeps { MatchBool result (Sleeps table.now home.new.seat) (Idles table.now home.new.seat) }
+    ensures sleeps { MatchBool result (IsCommitted table.now home.new.seat) (Idles table.now home.new.seat) }
 {
     table.accept(home);
     match table.commit(home, u64::MAX, None, 0) {
@@ -217,7 +217,7 @@ fn accept_and_commit(table: &LoopTable<Tag>, home: &mut Home<Tag>) -> bool
 /// Accepts and commits until home is committed.
 pub(crate) fn fall_asleep<R: Wait>(rt: &R, table: &LoopTable<Tag>, home: &mut Home<Tag>)
     requires idles { Idles table.now home.old.seat }
-    ensures sleeps { Sleeps table.now home.new.seat }
+    ensures sleeps { IsCommitted table.now home.new.seat }
     ensures others { OnlyOthers home.old.seat.known.seen home.new.seat.known.seen }
 {
     for _ in rt.forever() {
@@ -230,7 +230,7 @@ pub(crate) fn fall_asleep<R: Wait>(rt: &R, table: &LoopTable<Tag>, home: &mut Ho
 
 /// Ends the loop, in which home alone made entries, and left nothing pending and no event set.
 pub(crate) fn settled(table: LoopTable<Tag>, home: Home<Tag>, others: Seat<Tag>) -> LoopEnd<Tag>
-    requires sleeps { Sleeps table home.seat }
+    requires sleeps { IsCommitted table home.seat }
     requires of { IsSeatOf table others }
     requires new { others.known ≡ first_seat table.sizes }
     requires none_pending { IsAlone home.seat.known.seen → (i : ℕ) → is_pending i home.seat.known.seen ≡ false }

@@ -12,25 +12,25 @@ use Rattle.aio_model.specs.declared.ran_lists.Called.{Called}
 use Rattle.aio_model.specs.LoopHistory.{Sizes, History}
 use Rattle.aio_model.specs.LoopLog.{Log}
 use Rattle.aio_model.specs.LoopLines.{reply_text}
-use Rattle.aio_model.specs.LoopReplies.{Does, DoesAll, sizes_of}
+use Rattle.aio_model.specs.LoopReplies.{DoesCommand, DoesAll, sizes_of}
 use Rattle.aio_script.specs.declared.print.WriteFault.{WriteFault}
-use Rattle.aio_script.proofs.Gathered.{Gathers-nothing, Gathers-same}
+use Rattle.aio_script.proofs.Gathered.{PutsOnPage-nothing, PutsOnPage-same}
 use Rattle.aio_script.specs.LoopBounds.{IsActWithin, IsCommandWithin}
 use Rattle.bell_loop.specs.Entering.{acts_at, AreListsOf, CanRun}
-use Rattle.bell_loop.specs.Running.{IsAlone, IsOf}
-use Rattle.bell_loop.specs.Machines.{MachineState, Stands, Answers, IsNew}
+use Rattle.bell_loop.specs.Running.{IsAlone, IsScriptOf}
+use Rattle.bell_loop.specs.Machines.{MachineState, KeepsLog, Answers, IsNew}
 use Rattle.bell_loop.specs.Ending.{EndsBy}
 use Rattle.bell_script.specs.Scripts.{AnswersAll, Rung, Collects, Writes, RunTells}
 use Rattle.bell_loop.proofs.Alone.{alone_parts}
 use Rattle.bell_loop.proofs.Listing.{lists_agree, CanRun-of}
 
-DoesAll-more : (script : LoopScript) (commands : List Command) (command : Command) (before mid after : Log) (replies : List LoopReply) (reply : LoopReply) → DoesAll script commands before mid replies → Does script command mid after reply → DoesAll script (commands ++ command ∷ []) before after (replies ++ reply ∷ [])
+DoesAll-more : (script : LoopScript) (commands : List Command) (command : Command) (before mid after : Log) (replies : List LoopReply) (reply : LoopReply) → DoesAll script commands before mid replies → DoesCommand script command mid after reply → DoesAll script (commands ++ command ∷ []) before after (replies ++ reply ∷ [])
 DoesAll-more script [] command before mid after replies reply all one =
-    (after, reply, [], subst (λ l. Does script command l after reply) all.0 one, (refl, refl), ap (λ l. l ++ reply ∷ []) all.1)
+    (after, reply, [], subst (λ l. DoesCommand script command l after reply) all.0 one, (refl, refl), ap (λ l. l ++ reply ∷ []) all.1)
 DoesAll-more script (c ∷ commands) command before mid after replies reply all one =
     (all.0, all.1, all.2 ++ reply ∷ [], all.3, DoesAll-more script commands command all.0 mid after all.2 reply all.4 one, ap (λ l. l ++ reply ∷ []) all.5)
 
-of_after : (script : LoopScript) (old mid : MachineState) → (mid.sizes ≡ old.sizes) × (mid.lists ≡ old.lists) → IsOf script old.sizes (acts_at old.lists) → IsOf script mid.sizes (acts_at mid.lists)
+of_after : (script : LoopScript) (old mid : MachineState) → (mid.sizes ≡ old.sizes) × (mid.lists ≡ old.lists) → IsScriptOf script old.sizes (acts_at old.lists) → IsScriptOf script mid.sizes (acts_at mid.lists)
 of_after script old mid same of = record {
   sizes_are = of.sizes_are ∙ sym same.0;
   acts_are = λ bh. ap (λ l. acts_at l bh) same.1 ∙ of.acts_are bh;
@@ -61,14 +61,14 @@ Collects-none machine page held faults = record {
     longer = refl;
     at = λ alone script log of stands. record { after = log; does = (refl, refl); stands = stands };
   };
-  gathers = Gathers-nothing page held faults;
+  gathers = PutsOnPage-nothing page held faults;
 }
 
 pub Collects-more : {commands : List Command} {command : Command} {old mid new : MachineState} {first left last : List ℕ} {before between after : Option (List ℕ)} {f g h : ℕ} {r s : Result Unit WriteFault} → Collects commands old mid first left before between f g r → Rung command mid new left last between after g h r s → Collects (commands ++ command ∷ []) old new first last before after f h s
 Collects-more {commands} {command} {old} {mid} {new} {first} {left} {last} {before} {between} {after} {f} {g} {h} {r} {s} sofar one = record {
   replies = sofar.replies ++ one.reply ∷ [];
   answers = AnswersAll-more commands command sofar.replies one.reply old mid new sofar.answers one.answers;
-  gathers = Gathers-same (sym (flat_map-append reply_text sofar.replies (one.reply ∷ []) ∙ ap (λ l. flat_map reply_text sofar.replies ++ l) (append-nil (reply_text one.reply)))) (one.prints (flat_map reply_text sofar.replies) first before f sofar.gathers);
+  gathers = PutsOnPage-same (sym (flat_map-append reply_text sofar.replies (one.reply ∷ []) ∙ ap (λ l. flat_map reply_text sofar.replies ++ l) (append-nil (reply_text one.reply)))) (one.prints (flat_map reply_text sofar.replies) first before f sofar.gathers);
 }
 
 pub each_at : {X : Type 0} (P : X → Type 0) (xs : List X) (i : ℕ) (d : X) → i < length xs → AllByRecursion P xs → P (get_or xs i d)
@@ -76,20 +76,20 @@ each_at P [] i d inside all = absurd (omega (arith, inside))
 each_at P (x ∷ xs) zero d inside all = all.0
 each_at P (x ∷ xs) (suc i) d inside all = each_at P xs i d (omega (arith, inside)) all.1
 
-new_of : (script : LoopScript) (lists : List (List ActKind)) (machine : MachineState) → IsNew (sizes_of script) lists machine → IsOf script (sizes_of script) (acts_at lists) → IsOf script machine.sizes (acts_at machine.lists)
+new_of : (script : LoopScript) (lists : List (List ActKind)) (machine : MachineState) → IsNew (sizes_of script) lists machine → IsScriptOf script (sizes_of script) (acts_at lists) → IsScriptOf script machine.sizes (acts_at machine.lists)
 new_of script lists machine new of = record {
   sizes_are = sym new.sizes_are;
   acts_are = λ bh. ap (λ l. acts_at l bh) new.lists_are ∙ of.acts_are bh;
 }
 
 -- a machine on which the commands were done stands for some log, where home alone made what was seen
-pub stands_after : (script : LoopScript) (lists : List (List ActKind)) (replies : List LoopReply) (begun done : MachineState) → IsNew (sizes_of script) lists begun → IsOf script (sizes_of script) (acts_at lists) → AnswersAll script.commands replies begun done → IsAlone done.seen → (log : Log) × Stands done log
+pub stands_after : (script : LoopScript) (lists : List (List ActKind)) (replies : List LoopReply) (begun done : MachineState) → IsNew (sizes_of script) lists begun → IsScriptOf script (sizes_of script) (acts_at lists) → AnswersAll script.commands replies begun done → IsAlone done.seen → (log : Log) × KeepsLog done log
 stands_after script lists replies begun done new of answers alone =
     let a = answers.at alone script [] (new_of script lists begun new of) new.empty in
     (a.after, a.stands)
 
 -- what was printed, and the history of the end
-pub RunTells-of : (script : LoopScript) (lists : List (List ActKind)) (begun done : MachineState) (history : History) (before after : Option (List ℕ)) (f g : ℕ) (r : Result Unit WriteFault) → IsNew (sizes_of script) lists begun → IsOf script (sizes_of script) (acts_at lists) → Writes script.commands begun done before after f g r → EndsBy done history → RunTells script history before after f g r
+pub RunTells-of : (script : LoopScript) (lists : List (List ActKind)) (begun done : MachineState) (history : History) (before after : Option (List ℕ)) (f g : ℕ) (r : Result Unit WriteFault) → IsNew (sizes_of script) lists begun → IsScriptOf script (sizes_of script) (acts_at lists) → Writes script.commands begun done before after f g r → EndsBy done history → RunTells script history before after f g r
 RunTells-of script lists begun done history before after f g r new of writes ends =
     let alone : IsAlone done.seen = (alone_parts ends.between done.seen (subst IsAlone ends.longer ends.alone)).1 in
     let a = writes.answers.at alone script [] (new_of script lists begun new of) new.empty in
@@ -116,8 +116,8 @@ IsNew-script script lists machine count same new = record {
   empty = new.empty;
 }
 
-pub IsOf-script : (script : LoopScript) (lists : List (List ActKind)) (machine : MachineState) (sizes : Sizes) → AllByRecursion (IsActWithin script.handles) script.acts → AreListsOf script.handles script.acts lists → IsNew sizes lists machine → IsOf script (sizes_of script) (acts_at machine.lists)
-IsOf-script script lists machine sizes within are new = record {
+pub IsScriptOf-script : (script : LoopScript) (lists : List (List ActKind)) (machine : MachineState) (sizes : Sizes) → AllByRecursion (IsActWithin script.handles) script.acts → AreListsOf script.handles script.acts lists → IsNew sizes lists machine → IsScriptOf script (sizes_of script) (acts_at machine.lists)
+IsScriptOf-script script lists machine sizes within are new = record {
   sizes_are = refl;
   acts_are = λ bh. ap (λ l. acts_at l bh) new.lists_are ∙ lists_agree script.handles script.acts lists within are bh;
 }

@@ -10,37 +10,37 @@ use Rattle.aio_model.specs.LoopLog.{Log}
 use Rattle.aio_model.specs.LoopReplies.{DoesAll}
 use Rattle.aio_model.specs.LoopText.{IsTextOf}
 use Rattle.aio_script.specs.declared.print.WriteFault as fault
-use Rattle.aio_script.specs.Printing.{Gathers, Prints}
+use Rattle.aio_script.specs.Printing.{PutsOnPage, Prints}
 use Rattle.bell_loop.specs.Entering.{acts_at}
-use Rattle.bell_loop.specs.Running.{IsAlone, IsOf}
-use Rattle.bell_loop.specs.Machines.{MachineState, Stands, Answers}
+use Rattle.bell_loop.specs.Running.{IsAlone, IsScriptOf}
+use Rattle.bell_loop.specs.Machines.{MachineState, KeepsLog, Answers}
 use Rattle.bell_loop.specs.Ending.{Ended}
 
 -- from a log on the commands give these replies
 pub record AnsweredAll (script : LoopScript) (commands : List Command) (replies : List LoopReply) (machine : MachineState) (log : Log) : Type 0 where
   pub after : Log
   pub does : DoesAll script commands log after replies
-  pub stands : Stands machine after
+  pub stands : KeepsLog machine after
 
 -- What was seen went on. Where home alone made it, the commands were answered so, for each script of these sizes and actions.
 pub record AnswersAll (commands : List Command) (replies : List LoopReply) (before after : MachineState) : Type 0 where
   pub same : (after.sizes ≡ before.sizes) × (after.lists ≡ before.lists)
   pub between : History
   pub longer : after.seen ≡ between ++ before.seen
-  pub at : IsAlone after.seen → (script : LoopScript) (log : Log) → IsOf script before.sizes (acts_at before.lists) → Stands before log → AnsweredAll script commands replies after log
+  pub at : IsAlone after.seen → (script : LoopScript) (log : Log) → IsScriptOf script before.sizes (acts_at before.lists) → KeepsLog before log → AnsweredAll script commands replies after log
 
 -- The command was answered, and whatever was gathered before, the reply's line was gathered behind it, or wasn't, where the sink
 -- failed.
 pub record Rung (command : Command) (before after : MachineState) (page_before page_after : List ℕ) (held_before held_after : Option (List ℕ)) (faults_before faults_after : ℕ) (written result : Result Unit fault.WriteFault) : Type 0 where
   pub reply : LoopReply
   pub answers : Answers command reply before after
-  pub prints : (text first : List ℕ) (held : Option (List ℕ)) (faults : ℕ) → Gathers text first page_before held held_before faults faults_before written → Gathers (text ++ reply_text reply) first page_after held held_after faults faults_after result
+  pub prints : (text first : List ℕ) (held : Option (List ℕ)) (faults : ℕ) → PutsOnPage text first page_before held held_before faults faults_before written → PutsOnPage (text ++ reply_text reply) first page_after held held_after faults faults_after result
 
 -- all of these commands were answered, and the lines of the replies gathered on a page, or a front of them printed
 pub record Collects (commands : List Command) (before after : MachineState) (page_before page_after : List ℕ) (held_before held_after : Option (List ℕ)) (faults_before faults_after : ℕ) (result : Result Unit fault.WriteFault) : Type 0 where
   pub replies : List LoopReply
   pub answers : AnswersAll commands replies before after
-  pub gathers : Gathers (flat_map reply_text replies) page_before page_after held_before held_after faults_before faults_after result
+  pub gathers : PutsOnPage (flat_map reply_text replies) page_before page_after held_before held_after faults_before faults_after result
 
 -- all of these commands were answered, and the lines of the replies printed, whole or a front of them
 pub record Writes (commands : List Command) (before after : MachineState) (held_before held_after : Option (List ℕ)) (faults_before faults_after : ℕ) (result : Result Unit fault.WriteFault) : Type 0 where
@@ -50,7 +50,7 @@ pub record Writes (commands : List Command) (before after : MachineState) (held_
 
 -- The history is a loop history of the script that gives this text, then one poll whose callbacks do nothing, and then the clearing of
 -- each event that is set, in rising order.
-pub record Tells (script : LoopScript) (text : List ℕ) (history : History) : Type 0 where
+pub record TellsScript (script : LoopScript) (text : List ℕ) (history : History) : Type 0 where
   pub log : Log
   pub is_text : IsTextOf script log text
   pub ended : Ended script log history
@@ -58,5 +58,5 @@ pub record Tells (script : LoopScript) (text : List ℕ) (history : History) : T
 -- a whole run: the text, so much of which was printed, is one of the script, and the history gives it
 pub record RunTells (script : LoopScript) (history : History) (held_before held_after : Option (List ℕ)) (faults_before faults_after : ℕ) (result : Result Unit fault.WriteFault) : Type 0 where
   pub text : List ℕ
-  pub tells : Tells script text history
+  pub tells : TellsScript script text history
   pub prints : Prints text held_before held_after faults_before faults_after result

@@ -3,7 +3,7 @@ ghost use Rattle.std.specs.Prelude.{◌++◌, ℕ, Option, List};
 ghost use Rattle.aio_model.specs.declared.loop_replies.LoopReply.{LoopReply};
 ghost use Rattle.aio_model.specs.LoopLines.{HasLine, reply_text};
 ghost use Rattle.aio_script.specs.LoopBounds.{IsCommandWithin};
-ghost use Rattle.aio_script.specs.Printing.{Gathers};
+ghost use Rattle.aio_script.specs.Printing.{PutsOnPage};
 ghost use Rattle.bell_loop.specs.Machines.{Ready, state_of, ran_in, more_in};
 ghost use Rattle.bell_script.specs.Scripts.{Rung};
 
@@ -24,8 +24,8 @@ fn print_next<K: Sink>(
 ) -> Result<(), WriteFault>
     requires { HasLine reply.now }
     ensures { (text first : List ℕ) (before : Option (List ℕ)) (faults : ℕ)
-        → Gathers text first page.old before (K.held sink.old) faults (K.faults sink.old) written
-        → Gathers (text ++ reply_text reply.now) first page.new before (K.held sink.new) faults (K.faults sink.new) result }
+        → PutsOnPage text first page.old before (K.held sink.old) faults (K.faults sink.old) written
+        → PutsOnPage (text ++ reply_text reply.now) first page.new before (K.held sink.new) faults (K.faults sink.new) result }
 {
     written?;
     print_reply(sink, page, reply)
@@ -40,8 +40,8 @@ fn print_last<R: Wait, K: Sink>(
     written: Result<(), WriteFault>,
 ) -> Result<(), WriteFault>
     ensures { (text first : List ℕ) (before : Option (List ℕ)) (faults : ℕ)
-        → Gathers text first page.old before (K.held sink.old) faults (K.faults sink.old) written
-        → Gathers (text ++ reply_text (LoopReply.Ran (ran_in machine.now) (more_in machine.now) polled.now.progress polled.now.cut_nests)) first page.new before (K.held sink.new) faults (K.faults sink.new) result }
+        → PutsOnPage text first page.old before (K.held sink.old) faults (K.faults sink.old) written
+        → PutsOnPage (text ++ reply_text (LoopReply.Ran (ran_in machine.now) (more_in machine.now) polled.now.progress polled.now.cut_nests)) first page.new before (K.held sink.new) faults (K.faults sink.new) result }
 {
     written?;
     let (ran, more) = machine.called();

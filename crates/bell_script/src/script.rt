@@ -5,7 +5,7 @@ ghost use Rattle.aio_model.specs.LoopReplies.{sizes_of};
 ghost use Rattle.aio_script.specs.LoopBounds.{IsCommandWithin, IsLoopBounded};
 ghost use Rattle.bell_loop.specs.Entering.{acts_at, AreListsOf};
 ghost use Rattle.bell_loop.specs.Machines.{IsNew, Ready, state_of};
-ghost use Rattle.bell_loop.specs.Running.{IsOf};
+ghost use Rattle.bell_loop.specs.Running.{IsScriptOf};
 ghost use Rattle.bell_script.specs.Scripts.{Collects, RunTells, Writes};
 
 use crate::printing::ring;
@@ -74,7 +74,7 @@ fn run_on<R: Wait, K: Sink>(
     requires ready { Ready machine }
     requires within { AllByRecursion (IsCommandWithin (state_of machine).sizes.handles (state_of machine).sizes.events) script.now.commands }
     requires new { IsNew (sizes_of script.now) (state_of machine).lists (state_of machine) }
-    requires of { IsOf script.now (sizes_of script.now) (acts_at (state_of machine).lists) }
+    requires of { IsScriptOf script.now (sizes_of script.now) (acts_at (state_of machine).lists) }
     ensures { RunTells script.now result.end.known.seen (K.held sink.old) (K.held sink.new) (K.faults sink.old) (K.faults sink.new) result.written }
 {
     let mut machine = machine;

@@ -4,7 +4,7 @@ ghost use Rattle.aio_model.specs.LoopHistory.{History};
 ghost use Rattle.aio_model.specs.LoopLegal.{IsLegal};
 ghost use Rattle.aio_core.specs.Calls.{IsSeatOf};
 ghost use Rattle.aio_core.specs.Known.{empty_stage};
-ghost use Rattle.aio_bh.specs.Running.{GivesBack};
+ghost use Rattle.aio_bh.specs.Running.{SeatComesBack};
 ghost use Rattle.aio_bh.specs.OneShots.{ServesHome};
 
 use aio_bh::{BottomHalves, Call, LotBuilt, LotPool, Polled, Put, Runner, Turn};
@@ -21,7 +21,7 @@ pub(crate) fn push(rt: &impl Abort, table: &LoopTable<()>, seat: &mut Seat<()>, 
     requires rest { seat.old.known.phase ≡ AtRest }
     requires handle { bh < table.now.sizes.handles }
     ensures seat { IsSeatOf table.now seat.new }
-    ensures back { (made : History) × GivesBack made seat.old.known seat.new.known }
+    ensures back { (made : History) × SeatComesBack made seat.old.known seat.new.known }
 {
     match table.try_schedule(seat, bh) {
         Put::Done(_) => {}
@@ -86,7 +86,7 @@ impl<'a, T: Abort> Notes<'a, T> {
         requires rest { seat.old.known.phase ≡ AtRest }
         requires legal { IsLegal table.now.sizes seat.old.known.seen }
         ensures seat { IsSeatOf table.now seat.new }
-        ensures back { (made : History) × GivesBack made seat.old.known seat.new.known }
+        ensures back { (made : History) × SeatComesBack made seat.old.known seat.new.known }
     {
         if let Some(bh) = self.schedules {
             push(self.rt, table, seat, bh);

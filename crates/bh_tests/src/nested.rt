@@ -5,7 +5,7 @@ ghost use Rattle.aio_model.specs.LoopHistory.{History};
 ghost use Rattle.aio_model.specs.LoopLegal.{IsLegal};
 ghost use Rattle.aio_core.specs.Calls.{IsSeatOf};
 ghost use Rattle.aio_core.specs.Known.{empty_stage};
-ghost use Rattle.aio_bh.specs.Running.{GivesBack};
+ghost use Rattle.aio_bh.specs.Running.{SeatComesBack};
 ghost use Rattle.aio_bh.specs.OneShots.{ServesHome};
 
 use crate::enqueues::push;
@@ -55,7 +55,7 @@ impl<'a, T: Abort> Scripts<'a, T> {
         requires rest { seat.old.known.phase ≡ AtRest }
         requires legal { IsLegal table.now.sizes seat.old.known.seen }
         ensures seat { IsSeatOf table.now seat.new }
-        ensures back { (made : History) × GivesBack made seat.old.known seat.new.known }
+        ensures back { (made : History) × SeatComesBack made seat.old.known seat.new.known }
     {
         if bh < table.handles() {
             push(self.rt, table, seat, bh);
@@ -67,7 +67,7 @@ impl<'a, T: Abort> Scripts<'a, T> {
         requires rest { seat.old.known.phase ≡ AtRest }
         requires legal { IsLegal table.now.sizes seat.old.known.seen }
         ensures seat { IsSeatOf table.now seat.new }
-        ensures back { (made : History) × GivesBack made seat.old.known seat.new.known }
+        ensures back { (made : History) × SeatComesBack made seat.old.known seat.new.known }
     {
         if let Some(bh) = self.to_schedule(call) {
             self.schedule(table, seat, bh);

@@ -7,7 +7,7 @@ ghost use Rattle.aio_core.specs.Known.{empty_stage};
 ghost use Rattle.aio_core.specs.Calls.{IsSeatOf};
 ghost use Rattle.lot_pool.specs.Pools.{IsPassOf, IsHomeOf};
 ghost use Rattle.aio_bh.specs.Ready.{IsReady};
-ghost use Rattle.aio_bh.specs.Running.{GivesBack};
+ghost use Rattle.aio_bh.specs.Running.{SeatComesBack};
 ghost use Rattle.aio_bh.specs.OneShots.{IsPoolFor};
 
 use aio_bh::{BottomHalves, Call, LotBuilt, LotPass, LotPool, Runner, Turn};
@@ -38,7 +38,7 @@ impl<'a, R: Wait> Placing<'a, R> {
         ensures seat { IsSeatOf table.now seat.new }
         ensures same { self.new.pool ≡ self.old.pool }
         ensures pass { IsPassOf self.new.pool.now self.new.pass }
-        ensures back { (made : History) × GivesBack made seat.old.known seat.new.known }
+        ensures back { (made : History) × SeatComesBack made seat.old.known seat.new.known }
     {
         self.last = self.last.wrapping_add(1);
         let placed = table.once(self.rt, self.pool, &mut self.pass, seat, self.last);

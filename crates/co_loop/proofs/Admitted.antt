@@ -9,8 +9,8 @@ use Rattle.co_state.proofs.Held.{get_inserted}
 use Rattle.loop_rows.specs.declared.shared.LoopShared.{LoopShared}
 use Rattle.co_loop.specs.declared.leaving.Leaving.{Leaving}
 use Rattle.co_loop.specs.declared.crew.Crew.{Crew}
-use Rattle.co_loop.specs.Rows.{IsRow}
-use Rattle.co_loop.specs.Crews.{Far, far, AreKept, IsCrew, SameCrew}
+use Rattle.co_loop.specs.Rows.{AreSeatsOfLoops}
+use Rattle.co_loop.specs.Crews.{Far, far, LeavingAreSound, IsCrew, SameCrew}
 use Rattle.co_loop.specs.Begins.{is_refused, Admits}
 use Rattle.co_loop.proofs.Rowed.{at_set}
 
@@ -26,19 +26,19 @@ not_kept co leaving k left none is =
 module _ {C O : Type 0} where
   -- what is the same, and what isn't, of a crew that stays one
   crew_from : (is_of : ℕ → C → O → Type 0) (shared : List (LoopShared C O)) (before after : Crew C O) → SameCrew before after → after.woken ≡ before.woken → after.seats ≡ before.seats → after.naps ≡ before.naps → after.leaving ≡ before.leaving → after.store.origin ≡ before.store.origin
-      → AreKept is_of (length shared) after.store before.leaving.items → length after.ended.items ≡ before.coroutines → ((k : ℕ) (co : C) → slice_index_or after.ended.items k None ≡ Some co → is_of k co before.store.origin) → IsCrew is_of shared before → IsCrew is_of shared after
+      → LeavingAreSound is_of (length shared) after.store before.leaving.items → length after.ended.items ≡ before.coroutines → ((k : ℕ) (co : C) → slice_index_or after.ended.items k None ≡ Some co → is_of k co before.store.origin) → IsCrew is_of shared before → IsCrew is_of shared after
   crew_from is_of shared before after same woken seats naps leaving origin kept ended ended_of was =
       let back = sym same.coroutines in
       record {
         own = subst (λ k. k < length shared) (sym same.own) was.own;
-        row = subst (λ k. IsRow k shared after.seats.items) back (subst (λ (v : _). IsRow before.coroutines shared v.items) (sym seats) was.row);
+        row = subst (λ k. AreSeatsOfLoops k shared after.seats.items) back (subst (λ (v : _). AreSeatsOfLoops before.coroutines shared v.items) (sym seats) was.row);
         of = λ k t h. was.of k t h ∙ sym origin;
         room = ap (λ (w : _). w.room) woken ∙ was.room ∙ back;
         within = subst (λ k. are_within k after.woken.items ≡ true) back (ap (λ (w : _). are_within before.coroutines w.items) woken ∙ was.within);
         naps = ap (λ (v : _). length v.items) naps ∙ was.naps ∙ back;
         leaving = ap (λ (v : _). length v.items) leaving ∙ was.leaving ∙ back;
         ended = ended ∙ back;
-        kept = subst (λ (v : _). AreKept is_of (length shared) after.store v.items) (sym leaving) kept;
+        kept = subst (λ (v : _). LeavingAreSound is_of (length shared) after.store v.items) (sym leaving) kept;
         ended_of = λ k co is. subst (is_of k co) (sym origin) (ended_of k co is);
       }
 
@@ -56,7 +56,7 @@ module _ {C O : Type 0} where
           let ended_is : after.ended.items ≡ slice_set before.ended.items co (Some state) = ap (λ (f : Far C O). f.ended) did in
           let origin = ap (λ (s : Coroutines C O). s.origin) store_is in (
             crew_from is_of shared before after same woken seats naps leaving origin
-                (subst (λ s. AreKept is_of (length shared) s before.leaving.items) (sym store_is) was.kept)
+                (subst (λ s. LeavingAreSound is_of (length shared) s before.leaving.items) (sym store_is) was.kept)
                 (ap length ended_is ∙ length-set before.ended.items co (Some state) ∙ was.ended)
                 (subst (λ (l : List (Option C)). (k : ℕ) (c : C) → slice_index_or l k None ≡ Some c → is_of k c before.store.origin) (sym ended_is) (ended_set is_of before.store.origin before.ended.items co state (subst (λ n. co < n) (sym was.ended) below) of was.ended_of))
                 was,
@@ -71,7 +71,7 @@ module _ {C O : Type 0} where
           let full = nat_le before.store.room (map.len before.store.held) in
           let none = (or_parts kept there (or_parts (kept || there) full is).0).0 in (
             crew_from is_of shared before after same woken seats naps leaving origin
-                (subst (λ s. AreKept is_of (length shared) s before.leaving.items) (sym store_is) (record {
+                (subst (λ s. LeavingAreSound is_of (length shared) s before.leaving.items) (sym store_is) (record {
                   of = was.kept.of;
                   to = was.kept.to;
                   apart = λ k left h. get_inserted before.store.held co state k ∙ put_apart (eqb k co) (Some state) (map.get before.store.held k) (not_kept co before.leaving.items k left none h) (was.kept.apart k left h);

@@ -3,16 +3,16 @@ use Rattle.std.proofs.Common.{◌≡◌, ℕ, ◌<◌, Bool, true, false, cond, 
 use Rattle.std.proofs.lemmas.Bool.{cases_Bool}
 use mathlib.Core.Logic.{⊎_elim}
 use Rattle.std.specs.FinMap as map
-use Rattle.co_state.specs.Asked.{Asked}
+use Rattle.co_state.specs.Wants.{Wants}
 use Rattle.co_state.specs.Coroutines.{Coroutines}
-use Rattle.co_state.specs.Entering.{Enters, answer_of, left_by}
+use Rattle.co_state.specs.Entering.{ResumesOne, answer_of, left_by}
 use Rattle.co_state.specs.declared.co.CoStep.{CoStep}
 use Rattle.co_state.specs.declared.co.CoStep.TheVariants as step
 use Rattle.co_state.specs.declared.store.Entered.{Entered}
 use Rattle.co_state.specs.declared.store.Entered.TheVariants as entered
 use Rattle.co_state.proofs.Held.{get_inserted, get_removed}
 use Rattle.co_loop.specs.declared.leaving.Leaving.{Leaving}
-use Rattle.co_loop.specs.Crews.{Far, AreKept, Follows, CarriesOut}
+use Rattle.co_loop.specs.Crews.{Far, LeavingAreSound, FollowsEntered, CarriesOut}
 use Rattle.co_loop.specs.Quits.{SetsEnds}
 use Rattle.co_loop.proofs.Rowed.{at_set}
 use Rattle.co_loop.specs.Answers.{IsFollowable}
@@ -49,7 +49,7 @@ module _ {C : Type 0} where
   kept_is back to state result is holds = subst (λ o. MatchOption o (result ≡ None) (λ co. result ≡ Some (record { to = to; state = co }))) is holds
 
 module _ {C O : Type 0} where
-  pub kept_entered : (is_of : ℕ → C → O → Type 0) (resumes : C → O → Asked → CoStep → C → Type 0) (loops : ℕ) (before after : Coroutines C O) (leaving : List (Option (Leaving C))) (id : ℕ) (was : C) (asked : Asked) (answer : Entered C) → map.get before.held id ≡ Some was → Enters is_of resumes before after id was asked answer → AreKept is_of loops before leaving → AreKept is_of loops after leaving
+  pub kept_entered : (is_of : ℕ → C → O → Type 0) (resumes : C → O → Wants → CoStep → C → Type 0) (loops : ℕ) (before after : Coroutines C O) (leaving : List (Option (Leaving C))) (id : ℕ) (was : C) (asked : Wants) (answer : Entered C) → map.get before.held id ≡ Some was → ResumesOne is_of resumes before after id was asked answer → LeavingAreSound is_of loops before leaving → LeavingAreSound is_of loops after leaving
   kept_entered is_of resumes loops before after leaving id was asked answer there enters kept =
       record {
         of = λ k left is. subst (is_of k left.state) (sym (ap (λ (s : Coroutines C O). s.origin) enters.left)) (kept.of k left is);
@@ -57,7 +57,7 @@ module _ {C O : Type 0} where
         apart = λ k left is. ap (λ (s : Coroutines C O). map.get s.held k) enters.left ∙ left_none enters.step before.held id was enters.after k there (kept.apart k left is);
       }
 
-  pub one_more_kept : (is_of : ℕ → C → O → Type 0) (loops : ℕ) (store : Coroutines C O) (leaving : List (Option (Leaving C))) (co to : ℕ) (state : C) (more : Option (Leaving C)) → co < length leaving → to < loops → is_of co state store.origin → map.get store.held co ≡ None → more ≡ Some (record { to = to; state = state }) → AreKept is_of loops store leaving → AreKept is_of loops store (slice_set leaving co more)
+  pub one_more_kept : (is_of : ℕ → C → O → Type 0) (loops : ℕ) (store : Coroutines C O) (leaving : List (Option (Leaving C))) (co to : ℕ) (state : C) (more : Option (Leaving C)) → co < length leaving → to < loops → is_of co state store.origin → map.get store.held co ≡ None → more ≡ Some (record { to = to; state = state }) → LeavingAreSound is_of loops store leaving → LeavingAreSound is_of loops store (slice_set leaving co more)
   one_more_kept is_of loops store leaving co to state more lt there of none is kept =
       record {
         of = λ k left e. at_set (λ (j : ℕ) (x : Option (Leaving C)). (l : Leaving C) → x ≡ Some l → is_of j l.state store.origin) leaving co more lt (λ l h. let same : record { to = to; state = state } ≡ l = cc in subst (λ (x : Leaving C). is_of co x.state store.origin) same of) k None (λ _. kept.of k) left e;
@@ -65,7 +65,7 @@ module _ {C O : Type 0} where
         apart = λ k left e. at_set (λ (j : ℕ) (x : Option (Leaving C)). (l : Leaving C) → x ≡ Some l → map.get store.held j ≡ None) leaving co more lt (λ l h. none) k None (λ _. kept.apart k) left e;
       }
 
-  pub followable : (is_of : ℕ → C → O → Type 0) (resumes : C → O → Asked → CoStep → C → Type 0) (before after : Coroutines C O) (id : ℕ) (was : C) (asked : Asked) (answer : Entered C) → Enters is_of resumes before after id was asked answer → IsFollowable is_of id after answer
+  pub followable : (is_of : ℕ → C → O → Type 0) (resumes : C → O → Wants → CoStep → C → Type 0) (before after : Coroutines C O) (id : ℕ) (was : C) (asked : Wants) (answer : Entered C) → ResumesOne is_of resumes before after id was asked answer → IsFollowable is_of id after answer
   followable is_of resumes before after id was asked answer enters =
       subst (IsFollowable is_of id after) (sym enters.answers) (by enters.step (ap (λ (s : Coroutines C O). map.get s.held id) enters.left))
     where
@@ -82,7 +82,7 @@ module _ {C O : Type 0} where
       by (step.Move home) e = (of, e ∙ gone)
 
   -- what follows a resume leaves the store alone
-  pub follows_store : (own loops co : ℕ) (answer : Entered C) (before after : Far C O) → Follows own loops co answer before after → after.store ≡ before.store
+  pub follows_store : (own loops co : ℕ) (answer : Entered C) (before after : Far C O) → FollowsEntered own loops co answer before after → after.store ≡ before.store
   follows_store own loops co (entered.Done state) before after is = ap (λ (f : Far C O). f.store) is
   follows_store own loops co entered.Yielded before after is = ap (λ (f : Far C O). f.store) is
   follows_store own loops co (entered.Slept ns) before after is = ap (λ (f : Far C O). f.store) is
@@ -90,7 +90,7 @@ module _ {C O : Type 0} where
       ⊎_elim (λ sent. ap (λ (f : Far C O). f.store) sent.1) (λ kept. ap (λ (f : Far C O). f.store) kept.2) is
   follows_store own loops co entered.Absent before after is = ap (λ (f : Far C O). f.store) is
 
-  pub carries_store : (own n loops : ℕ) (asked : Asked) (before after : Far C O) → CarriesOut own n loops asked before after → after.store ≡ before.store
+  pub carries_store : (own n loops : ℕ) (asked : Wants) (before after : Far C O) → CarriesOut own n loops asked before after → after.store ≡ before.store
   carries_store own n loops asked before after is = by asked.quits is.quits ∙ ap (λ (f : Far C O). f.store) is.only
     where
       by : (b : Bool) → MatchBool b (SetsEnds loops is.woke.seats after.seats × (after ≡ record is.woke { quits = true; seats = after.seats })) (after ≡ is.woke) → after.store ≡ is.woke.store

@@ -5,7 +5,7 @@ use Rattle.co_state.specs.Coroutines.{Coroutines}
 use Rattle.co_schedule.specs.Calls.{are_within}
 use Rattle.loop_rows.specs.declared.shared.LoopShared.{LoopShared}
 use Rattle.co_loop.specs.declared.crew.Crew.{Crew}
-use Rattle.co_loop.specs.Rows.{IsRow, AreOf}
+use Rattle.co_loop.specs.Rows.{AreSeatsOfLoops, AreOfOrigin}
 use Rattle.co_loop.specs.Crews.{IsCrew}
 use Rattle.co_loop.specs.Building.{IsNewCrew}
 
@@ -19,7 +19,7 @@ none_there n places k x is found =
     let none = ap (λ l. slice_index_or l k None) is ∙ same_at n k None in
     absurd (cc (none, found))
 
-pub crew_of_nobody : {C O : Type 0} (is_of : ℕ → C → O → Type 0) (shared : List (LoopShared C O)) (origin : O) (crew : Crew C O) → IsNewCrew origin crew → IsRow crew.coroutines shared crew.seats.items → AreOf origin shared → crew.own < length shared → IsCrew is_of shared crew
+pub crew_of_nobody : {C O : Type 0} (is_of : ℕ → C → O → Type 0) (shared : List (LoopShared C O)) (origin : O) (crew : Crew C O) → IsNewCrew origin crew → AreSeatsOfLoops crew.coroutines shared crew.seats.items → AreOfOrigin origin shared → crew.own < length shared → IsCrew is_of shared crew
 crew_of_nobody {C} {O} is_of shared origin crew new row of own =
     let origin_is = ap (λ (s : Coroutines C O). s.origin) new.store in
     record {

@@ -5,7 +5,7 @@ use Rattle.aio_model.specs.declared.causes.Cause.TheVariants.{Wake, Move}
 use Rattle.aio_core.specs.Known.{Known}
 use Rattle.aio_core.specs.Calls.{SeatState}
 use Rattle.aio_loop.specs.Entering.{LoopEntered}
-use Rattle.co_state.specs.Asked.{Asked}
+use Rattle.co_state.specs.Wants.{Wants}
 use Rattle.co_state.specs.declared.co.CoStep.{CoStep}
 use Rattle.co_schedule.specs.Known.{Known as CoKnown}
 use Rattle.co_schedule.specs.Calls.{SeatState as CoSeatState}
@@ -47,7 +47,7 @@ module _ {C O : Type 0} where
         co_count = ap (λ (s : CoSeatState O). s.known.count) is.same i;
       }
 
-  pub runner_does : (is_of : ℕ → C → O → Type 0) (resumes : C → O → Asked → CoStep → C → Type 0) (shared : List (LoopShared C O)) (what : LoopEntered) (before after : OnLoop C O) → RunnerDoes is_of resumes shared what before after → numbers after.here.far.seats ≡ numbers before.here.far.seats
+  pub runner_does : (is_of : ℕ → C → O → Type 0) (resumes : C → O → Wants → CoStep → C → Type 0) (shared : List (LoopShared C O)) (what : LoopEntered) (before after : OnLoop C O) → RunnerDoes is_of resumes shared what before after → numbers after.here.far.seats ≡ numbers before.here.far.seats
   runner_does = steps.runner_does numbers_at (λ co. posts co Wake false) (λ co. posts co Move true) finds_marked sets_end
 
   pub posts_each_again : (n : ℕ) (before after : Far C O) → PostsEachAgain n before after → numbers after.seats ≡ numbers before.seats

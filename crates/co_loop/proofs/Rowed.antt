@@ -6,7 +6,7 @@ use mathlib.Core.Logic.{⊎_elim}
 use Rattle.loop_rows.specs.declared.shared.LoopShared.{LoopShared}
 use Rattle.loop_rows.specs.declared.seats.Seats.{Seats}
 use Rattle.loop_rows.specs.Posts.{IsSeated}
-use Rattle.co_loop.specs.Rows.{IsRow}
+use Rattle.co_loop.specs.Rows.{AreSeatsOfLoops}
 
 -- what holds of each place but one, and of what is put there
 pub at_set : {X : Type 0} (P : ℕ → X → Type 0) (xs : List X) (i : ℕ) (v : X) → i < length xs → P i v → (k : ℕ) (d : X) → ((k ≡ i → ⊥) → P k (slice_index_or xs k d)) → P k (slice_index_or (slice_set xs i v) k d)
@@ -14,7 +14,7 @@ at_set {X} P xs i v lt here k d there =
     ⊎_elim (λ (e : k ≡ i). subst (λ (j : ℕ). P j (slice_index_or (slice_set xs i v) j d)) (sym e) (subst (P i) (sym (get_or-set_same xs i v d lt)) here))
     (λ (ne : k ≡ i → ⊥). subst (P k) (sym (get_or-set_other xs i k v d ne)) (there ne)) (cases_eq k i)
 
-pub row_set : {C O : Type 0} (n : ℕ) (shared : List (LoopShared C O)) (seats : List (Seats C O)) (i : ℕ) (v : Seats C O) (at : LoopShared C O) → i < length shared → at ≡ slice_index_or shared i at → IsSeated at v → IsRow n shared seats → IsRow n shared (slice_set seats i v)
+pub row_set : {C O : Type 0} (n : ℕ) (shared : List (LoopShared C O)) (seats : List (Seats C O)) (i : ℕ) (v : Seats C O) (at : LoopShared C O) → i < length shared → at ≡ slice_index_or shared i at → IsSeated at v → AreSeatsOfLoops n shared seats → AreSeatsOfLoops n shared (slice_set seats i v)
 row_set {C} {O} n shared seats i v at lt is seated row =
     record {
       long = length-set seats i v ∙ row.long;

@@ -6,7 +6,7 @@ use mathlib.Core.Logic.{⊎_elim}
 use Rattle.std.specs.FinMap as fin
 use Rattle.aio_model.specs.declared.causes.Cause.TheVariants.{Wake, Move}
 use Rattle.aio_loop.specs.Entering.{LoopLent, ForBottom, ForReady, ForExpired, LoopEntered}
-use Rattle.co_state.specs.Asked.{Asked}
+use Rattle.co_state.specs.Wants.{Wants}
 use Rattle.co_state.specs.declared.cx.CoId.{CoId}
 use Rattle.co_state.specs.declared.co.CoStep.{CoStep}
 use Rattle.co_state.specs.declared.store.Entered.{Entered}
@@ -18,7 +18,7 @@ use Rattle.loop_rows.specs.Posts.{Posts, FindsMarked}
 use Rattle.co_loop.specs.Posts.{WakesAt}
 use Rattle.co_loop.specs.Wakes.{Reach, WakesOne, WakesEach, is_somebody}
 use Rattle.co_loop.specs.Quits.{SetsEnd, SetsEnds}
-use Rattle.co_loop.specs.Crews.{Far, SendsOn, Follows, CarriesOut, EntersOne}
+use Rattle.co_loop.specs.Crews.{Far, SendsOn, FollowsEntered, CarriesOut, EntersOne}
 use Rattle.co_loop.specs.Drains.{Drains, EntersAndDrains}
 use Rattle.co_loop.specs.Begins.{HomeFar, AdmitsGiven, BeginsThese, is_refused}
 use Rattle.co_loop.specs.Loops.{OnLoop, DoesFor, RunnerDoes, on_loop}
@@ -77,29 +77,29 @@ module _ {C O Q : Type 0} (at : Seats C O → Q) (woken : (co : ℕ) (b a : Seat
   sends_on to co state before after is =
       ⊎_elim (λ sent. changes_one to _ _ _ (moved co) sent.0) (λ kept. changes_one to _ _ _ (marked co kept.0) kept.1) is
 
-  follows : (own loops co : ℕ) (answer : Entered C) (before after : Far C O) → Follows own loops co answer before after → map at after.seats ≡ map at before.seats
+  follows : (own loops co : ℕ) (answer : Entered C) (before after : Far C O) → FollowsEntered own loops co answer before after → map at after.seats ≡ map at before.seats
   follows own loops co (entered.Done state) before after is = ap (λ (f : Far C O). map at f.seats) is
   follows own loops co entered.Yielded before after is = ap (λ (f : Far C O). map at f.seats) is
   follows own loops co (entered.Slept ns) before after is = ap (λ (f : Far C O). map at f.seats) is
   follows own loops co (entered.Moving state to) before after is = sends_on _ co state before after is
   follows own loops co entered.Absent before after is = ap (λ (f : Far C O). map at f.seats) is
 
-  carries_out : (own n loops : ℕ) (asked : Asked) (before after : Far C O) → CarriesOut own n loops asked before after → map at after.seats ≡ map at before.seats
+  carries_out : (own n loops : ℕ) (asked : Wants) (before after : Far C O) → CarriesOut own n loops asked before after → map at after.seats ≡ map at before.seats
   carries_out own n loops asked before after is =
       by_bool asked.quits is.quits (λ quits. sets_ends loops _ _ quits.0) (λ same. ap (λ (f : Far C O). map at f.seats) same)
       ∙ wakes_each own n loops asked.wakes _ _ is.wakes
 
-  enters_one : (is_of : ℕ → C → O → Type 0) (resumes : C → O → Asked → CoStep → C → Type 0) (own n loops co : ℕ) (before after : Far C O) → EntersOne is_of resumes own n loops co before after → map at after.seats ≡ map at before.seats
+  enters_one : (is_of : ℕ → C → O → Type 0) (resumes : C → O → Wants → CoStep → C → Type 0) (own n loops co : ℕ) (before after : Far C O) → EntersOne is_of resumes own n loops co before after → map at after.seats ≡ map at before.seats
   enters_one is_of resumes own n loops co before after is =
       by_option (fin.get before.store.held co) is (λ same. ap (λ (f : Far C O). map at f.seats) same)
       (λ was did. carries_out own n loops did.asked _ after did.carries ∙ follows own loops co did.answer _ _ did.follows)
 
-  drains : (is_of : ℕ → C → O → Type 0) (resumes : C → O → Asked → CoStep → C → Type 0) (own n loops count : ℕ) (before after : Far C O) → Drains is_of resumes own n loops count before after → map at after.seats ≡ map at before.seats
+  drains : (is_of : ℕ → C → O → Type 0) (resumes : C → O → Wants → CoStep → C → Type 0) (own n loops count : ℕ) (before after : Far C O) → Drains is_of resumes own n loops count before after → map at after.seats ≡ map at before.seats
   drains is_of resumes own n loops zero before after is = ap (λ (f : Far C O). map at f.seats) is
   drains is_of resumes own n loops (suc more) before after is =
       enters_one is_of resumes own n loops is.2.co _ after is.2.enters ∙ drains is_of resumes own n loops more before is.0 is.1
 
-  enters_and_drains : (is_of : ℕ → C → O → Type 0) (resumes : C → O → Asked → CoStep → C → Type 0) (own n loops co : ℕ) (before after : Far C O) → EntersAndDrains is_of resumes own n loops co before after → map at after.seats ≡ map at before.seats
+  enters_and_drains : (is_of : ℕ → C → O → Type 0) (resumes : C → O → Wants → CoStep → C → Type 0) (own n loops co : ℕ) (before after : Far C O) → EntersAndDrains is_of resumes own n loops co before after → map at after.seats ≡ map at before.seats
   enters_and_drains is_of resumes own n loops co before after is =
       drains is_of resumes own n loops is.drains.some.count _ after is.drains.some.drains ∙ enters_one is_of resumes own n loops co before _ is.enters
 
@@ -108,21 +108,21 @@ module _ {C O Q : Type 0} (at : Seats C O → Q) (woken : (co : ℕ) (b a : Seat
   admits co (Some state) before after is =
       by_bool (is_refused co before) is (λ e. ap (λ (f : Far C O). map at f.seats) e) (λ e. ap (λ (f : Far C O). map at f.seats) e)
 
-  begins_these : (is_of : ℕ → C → O → Type 0) (resumes : C → O → Asked → CoStep → C → Type 0) (own n loops : ℕ) (cos : List ℕ) (before after : HomeFar C O) → BeginsThese is_of resumes own n loops cos before after → map at after.far.seats ≡ map at before.far.seats
+  begins_these : (is_of : ℕ → C → O → Type 0) (resumes : C → O → Wants → CoStep → C → Type 0) (own n loops : ℕ) (cos : List ℕ) (before after : HomeFar C O) → BeginsThese is_of resumes own n loops cos before after → map at after.far.seats ≡ map at before.far.seats
   begins_these is_of resumes own n loops [] before after is = ap (λ (h : HomeFar C O). map at h.far.seats) is
   begins_these is_of resumes own n loops (co ∷ cos) before after is =
       begins_these is_of resumes own n loops cos is.0 after is.3
       ∙ enters_and_drains is_of resumes own n loops is.1.co _ _ is.1.enters
       ∙ admits is.1.co is.1.given _ _ is.1.admits
 
-  does_for : (is_of : ℕ → C → O → Type 0) (resumes : C → O → Asked → CoStep → C → Type 0) (loops : ℕ) (what : LoopLent) (before after : OnLoop C O) → DoesFor is_of resumes loops what before after → map at after.here.far.seats ≡ map at before.here.far.seats
+  does_for : (is_of : ℕ → C → O → Type 0) (resumes : C → O → Wants → CoStep → C → Type 0) (loops : ℕ) (what : LoopLent) (before after : OnLoop C O) → DoesFor is_of resumes loops what before after → map at after.here.far.seats ≡ map at before.here.far.seats
   does_for is_of resumes loops (ForBottom lent answer) before after is =
       by_bool (lent.bh == 0) is.0 (λ does. begins_these is_of resumes _ _ loops _ _ _ does.begins) (λ same. ap (λ (h : HomeFar C O). map at h.far.seats) same)
   does_for is_of resumes loops (ForReady ready) before after is = ap (λ (h : HomeFar C O). map at h.far.seats) is.0
   does_for is_of resumes loops (ForExpired id) before after is =
       by_bool (is_armed before.here.far.naps id.number) is.0 (λ does. enters_and_drains is_of resumes _ _ loops id.number _ _ does) (λ same. ap (λ (f : Far C O). map at f.seats) same)
 
-  pub runner_does : (is_of : ℕ → C → O → Type 0) (resumes : C → O → Asked → CoStep → C → Type 0) (shared : List (LoopShared C O)) (what : LoopEntered) (before after : OnLoop C O) → RunnerDoes is_of resumes shared what before after → map at after.here.far.seats ≡ map at before.here.far.seats
+  pub runner_does : (is_of : ℕ → C → O → Type 0) (resumes : C → O → Wants → CoStep → C → Type 0) (shared : List (LoopShared C O)) (what : LoopEntered) (before after : OnLoop C O) → RunnerDoes is_of resumes shared what before after → map at after.here.far.seats ≡ map at before.here.far.seats
   runner_does is_of resumes shared what before after is =
       does_for is_of resumes (length shared) what.what before after is.does
 
@@ -136,7 +136,7 @@ module _ {C O Q : Type 0} (at : Seats C O → Q) (woken : (co : ℕ) (b a : Seat
       posts_again co is.0 after is.2 ∙ posts_each_again co before is.0 is.1
 
   -- a turn of the loop's work
-  pub turn_keeps : {E W K : Type 0} (is_of : ℕ → C → O → Type 0) (resumes : C → O → Asked → CoStep → C → Type 0) (time : K → ℕ) (shared : List (LoopShared C O)) (work : CoWork C K O) (loop : LoopState C O) (ended : Bool) (work_after : CoWork C K O) (loop_after : LoopState C O) → Works E W is_of resumes time shared work loop ended work_after loop_after → map at loop_after.row.seats.items ≡ map at loop.row.seats.items
+  pub turn_keeps : {E W K : Type 0} (is_of : ℕ → C → O → Type 0) (resumes : C → O → Wants → CoStep → C → Type 0) (time : K → ℕ) (shared : List (LoopShared C O)) (work : CoWork C K O) (loop : LoopState C O) (ended : Bool) (work_after : CoWork C K O) (loop_after : LoopState C O) → Works E W is_of resumes time shared work loop ended work_after loop_after → map at loop_after.row.seats.items ≡ map at loop.row.seats.items
   turn_keeps {E} {W} {K} is_of resumes time shared work loop ended work_after loop_after did =
       ap (λ (k : Crew C O). map at k.seats.items) (sym did.after_is.crew)
       ∙ posts_each_again work.crew.coroutines _ _ did.turns.ends.posts

@@ -8,7 +8,7 @@ use Rattle.std.specs.FinMap as fin
 use Rattle.aio_model.specs.declared.causes.Cause.TheVariants.{Wake, Move}
 use Rattle.aio_loop.specs.Entering.{LoopLent, ForBottom, ForReady, ForExpired, LoopEntered}
 use Rattle.aio_loop.proofs.Logged.{kept_by_turn}
-use Rattle.co_state.specs.Asked.{Asked}
+use Rattle.co_state.specs.Wants.{Wants}
 use Rattle.co_state.specs.Entering.{answer_of}
 use Rattle.co_state.specs.declared.cx.CoId.{CoId}
 use Rattle.co_state.specs.declared.co.CoStep.{CoStep}
@@ -25,7 +25,7 @@ use Rattle.co_loop.specs.declared.on_loop.CoLoop.{CoLoop}
 use Rattle.co_loop.specs.declared.working.CoWork.{CoWork}
 use Rattle.co_loop.specs.Again.{PostsAgain, PostsEachAgain}
 use Rattle.co_loop.specs.Begins.{HomeFar, AdmitsGiven, BeginsThese, is_refused}
-use Rattle.co_loop.specs.Crews.{Far, far, destination, SendsOn, Follows, CarriesOut, EntersOne}
+use Rattle.co_loop.specs.Crews.{Far, far, destination, SendsOn, FollowsEntered, CarriesOut, EntersOne}
 use Rattle.co_loop.specs.Drains.{Drains, EntersAndDrains}
 use Rattle.co_loop.specs.Loops.{OnLoop, DoesFor, RunnerDoes, on_loop}
 use Rattle.co_loop.specs.Napping.{is_armed}
@@ -132,7 +132,7 @@ module _ {C O : Type 0} (loops : ℕ) (Sent : ℕ → ℕ → Type 0) (At : Bool
           (s.0, set_each (λ (k : ℕ) (o : Option (Leaving C)). MatchOption o (Unit {0}) (λ left. Sent left.to k)) before.leaving co (Some (record { to = to; state = state })) None may s.1, changes_one before.quits to _ _ _ (marked before.quits to co kept.0) kept.1 s.2))
           is
 
-      follows : (own co : ℕ) (answer : Entered C) (before after : Far C O) → MayGo own co answer → Follows own loops co answer before after → Stands origin before → Stands origin after
+      follows : (own co : ℕ) (answer : Entered C) (before after : Far C O) → MayGo own co answer → FollowsEntered own loops co answer before after → Stands origin before → Stands origin after
       follows own co (entered.Done state) before after may is s = subst (Stands origin) (sym is) s
       follows own co entered.Yielded before after may is s = subst (Stands origin) (sym is) s
       follows own co (entered.Slept ns) before after may is s = subst (Stands origin) (sym is) s
@@ -140,7 +140,7 @@ module _ {C O : Type 0} (loops : ℕ) (Sent : ℕ → ℕ → Type 0) (At : Bool
           sends_on _ co state before after may is s
       follows own co entered.Absent before after may is s = subst (Stands origin) (sym is) s
 
-      carries_out : (own n : ℕ) (asked : Asked) (before after : Far C O) → CarriesOut own n loops asked before after → Stands origin before → Stands origin after
+      carries_out : (own n : ℕ) (asked : Wants) (before after : Far C O) → CarriesOut own n loops asked before after → Stands origin before → Stands origin after
       carries_out own n asked before after is s =
           let w : Stands origin is.woke = subst (Stands origin) (sym is.only) (s.0, s.1, wakes_each before.quits own n asked.wakes _ _ is.wakes s.2) in
           by_bool asked.quits is.quits (λ quits. subst (Stands origin) (sym quits.1) (w.0, w.1, sets_ends is.woke.quits _ _ quits.0 w.2)) (λ same. subst (Stands origin) (sym same) w)
@@ -157,8 +157,8 @@ module _ {C O : Type 0} (loops : ℕ) (Sent : ℕ → ℕ → Type 0) (At : Bool
       posts_each_again (suc co) before after is s =
           posts_again co is.0 after is.2 (posts_each_again co before is.0 is.1 s)
 
-      module _ (is_of : ℕ → C → O → Type 0) (resumes : C → O → Asked → CoStep → C → Type 0) (answers : (own co : ℕ) (was after : C) (asked : Asked) (home : ℕ) → is_of co after origin → resumes was origin asked (step.Move home) after → Sent (destination own loops home) co) where
-        may_go : (own co : ℕ) (was after : C) (asked : Asked) (by : CoStep) (source : O) → source ≡ origin → is_of co after source → resumes was source asked by after → MayGo own co (answer_of by after)
+      module _ (is_of : ℕ → C → O → Type 0) (resumes : C → O → Wants → CoStep → C → Type 0) (answers : (own co : ℕ) (was after : C) (asked : Wants) (home : ℕ) → is_of co after origin → resumes was origin asked (step.Move home) after → Sent (destination own loops home) co) where
+        may_go : (own co : ℕ) (was after : C) (asked : Wants) (by : CoStep) (source : O) → source ≡ origin → is_of co after source → resumes was source asked by after → MayGo own co (answer_of by after)
         may_go own co was after asked step.Done source e of resumed = tt
         may_go own co was after asked step.Yield source e of resumed = tt
         may_go own co was after asked (step.Sleep ns) source e of resumed = tt

@@ -14,15 +14,15 @@ use Rattle.loop_rows.specs.declared.shared.LoopShared.{LoopShared}
 use Rattle.loop_rows.specs.declared.seats.Seats.{Seats}
 use Rattle.loop_rows.specs.declared.rows.Row.{Row}
 use Rattle.loop_rows.specs.Rows.{IsRow as IsRowOf}
-use Rattle.co_loop.specs.Rows.{IsRow, AreOf}
+use Rattle.co_loop.specs.Rows.{AreSeatsOfLoops, AreOfOrigin}
 use Rattle.co_loop.specs.declared.crew.Crew.{Crew}
 use Rattle.co_loop.specs.Crews.{Far}
 use Rattle.co_loop.specs.Loops.{IsOnLoop}
 use Rattle.co_loop.specs.Building.{IsNewCrew}
-use Rattle.co_loop.specs.Working.{seated, CanStart}
+use Rattle.co_loop.specs.Working.{seated, CrewCanStart}
 use Rattle.co_loop.proofs.Nobody.{crew_of_nobody}
 use Rattle.co_loop.specs.Turning.{TurnsAndEnds}
-use Rattle.co_loop.specs.Numbers.{Numbers, numbers_at, numbers}
+use Rattle.co_loop.specs.Numbers.{LoopNumbers, numbers_at, numbers}
 use Rattle.co_loop.proofs.Unchanged.{same_by_turn}
 use Rattle.co_loop.proofs.Numbered.{posts_each_again}
 
@@ -31,17 +31,17 @@ first [] lt = absurd (omega (arith, lt))
 first (x ∷ xs) lt = x
 
 -- of some loops the coroutines have one origin
-pub same_origin : {C O : Type 0} (a b : O) (shared : List (LoopShared C O)) (own : ℕ) → own < length shared → AreOf a shared → AreOf b shared → a ≡ b
+pub same_origin : {C O : Type 0} (a b : O) (shared : List (LoopShared C O)) (own : ℕ) → own < length shared → AreOfOrigin a shared → AreOfOrigin b shared → a ≡ b
 same_origin a b [] own lt of_a of_b = absurd (omega (arith, lt))
 same_origin a b (x ∷ shared) own lt of_a of_b =
     sym (of_a 0 x (omega arith)) ∙ of_b 0 x (omega arith)
 
 same_at : {C O : Type 0} (before after : List (Seats C O)) (k : ℕ) (s : Seats C O) → numbers after ≡ numbers before → numbers_at (slice_index_or after k s) ≡ numbers_at (slice_index_or before k s)
 same_at before after k s same =
-    sym (get_or-map numbers_at after k s) ∙ ap (λ (l : List Numbers). slice_index_or l k (numbers_at s)) same ∙ get_or-map numbers_at before k s
+    sym (get_or-map numbers_at after k s) ∙ ap (λ (l : List LoopNumbers). slice_index_or l k (numbers_at s)) same ∙ get_or-map numbers_at before k s
 
 -- seats that own the numbers of the row's are a row with its numbers
-pub row_again : {C O : Type 0} (shared : List (LoopShared C O)) (row after : Row C O) (n : ℕ) → IsRowOf shared row → IsRow n shared after.seats.items → numbers after.seats.items ≡ numbers row.seats.items → after.first ≡ row.first → after.count ≡ row.count → IsRowOf shared after
+pub row_again : {C O : Type 0} (shared : List (LoopShared C O)) (row after : Row C O) (n : ℕ) → IsRowOf shared row → AreSeatsOfLoops n shared after.seats.items → numbers after.seats.items ≡ numbers row.seats.items → after.first ≡ row.first → after.count ≡ row.count → IsRowOf shared after
 row_again {C} {O} shared row after n was now same first count =
     record {
       long = now.long;
@@ -53,10 +53,10 @@ row_again {C} {O} shared row after n was now same first count =
           record {
             bottoms = a.bottoms;
             coroutines = a.coroutines;
-            first_is = ap (λ (n : Numbers). n.first) e ∙ b.first_is ∙ sym first;
-            count_is = ap (λ (n : Numbers). n.count) e ∙ b.count_is ∙ sym count;
-            co_first_is = ap (λ (n : Numbers). n.co_first) e ∙ b.co_first_is ∙ sym first;
-            co_count_is = ap (λ (n : Numbers). n.co_count) e ∙ b.co_count_is ∙ sym count;
+            first_is = ap (λ (n : LoopNumbers). n.first) e ∙ b.first_is ∙ sym first;
+            count_is = ap (λ (n : LoopNumbers). n.count) e ∙ b.count_is ∙ sym count;
+            co_first_is = ap (λ (n : LoopNumbers). n.co_first) e ∙ b.co_first_is ∙ sym first;
+            co_count_is = ap (λ (n : LoopNumbers). n.co_count) e ∙ b.co_count_is ∙ sym count;
           };
     }
 
@@ -68,7 +68,7 @@ numbers_by_turn {R} does here same keeps pool block events n turned time time_af
 
 module _ {C O : Type 0} (is_of : ℕ → C → O → Type 0) (shared : List (LoopShared C O)) where
   -- the crew with the row's seats is on the loop, of the origin of what is lent
-  pub fits_lent : (source : O) (crew crew_in : Crew C O) (row : Row C O) (home : CoSeatState O) (run : RunState) → AreOf source shared → crew_in ≡ seated crew row → IsOnLoop is_of crew.store.origin shared (seated crew row) home run → IsOnLoop is_of source shared crew_in home run
+  pub fits_lent : (source : O) (crew crew_in : Crew C O) (row : Row C O) (home : CoSeatState O) (run : RunState) → AreOfOrigin source shared → crew_in ≡ seated crew row → IsOnLoop is_of crew.store.origin shared (seated crew row) home run → IsOnLoop is_of source shared crew_in home run
   fits_lent source crew crew_in row home run lent e fits =
       subst (λ (k : Crew C O). IsOnLoop is_of source shared k home run) (sym e)
       (record {
@@ -110,7 +110,7 @@ turns_for {R} {C} {O} {does} {here} {same} {pool} {block} {events} {n} {m} {turn
     subst (λ (k : ℕ). TurnsAndEnds does here same pool block events k turned time time_after pass pass_after before after) e turns
 
 module _ {C O : Type 0} (is_of : ℕ → C → O → Type 0) (origin : O) (shared : List (LoopShared C O)) (loop : LoopState C O) (crew : Crew C O) (run : RunState) where
-  row_of : CanStart origin shared loop crew run → IsRow crew.coroutines shared loop.row.seats.items
+  row_of : CrewCanStart origin shared loop crew run → AreSeatsOfLoops crew.coroutines shared loop.row.seats.items
   row_of can =
       let row = can.station.row in
       record {
@@ -122,7 +122,7 @@ module _ {C O : Type 0} (is_of : ℕ → C → O → Type 0) (origin : O) (share
       }
 
   -- a crew of nobody, with the seats of its thread's row, is on its loop
-  pub nobody_works : CanStart origin shared loop crew run → IsOnLoop is_of crew.store.origin shared (seated crew loop.row) loop.coroutines run
+  pub nobody_works : CrewCanStart origin shared loop crew run → IsOnLoop is_of crew.store.origin shared (seated crew loop.row) loop.coroutines run
   nobody_works can =
       let new = can.crew_is in
       let seated_new : IsNewCrew origin (seated crew loop.row) = record { store = new.store; woken = new.woken; naps = new.naps; leaving = new.leaving; ended = new.ended; done = new.done; quits = new.quits } in

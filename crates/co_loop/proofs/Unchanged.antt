@@ -1,7 +1,7 @@
 -- What no entry of a runner changes is the same behind a turn.
 use Rattle.std.proofs.Common.{◌≡◌, ℕ, zero, suc, Bool, List, [], ◌∷◌, ap, ◌∙◌}
 use Rattle.lot_pool.specs.Pools.{PoolState, PassState}
-use Rattle.aio_model.specs.LoopFrame.{Entered, Runs}
+use Rattle.aio_model.specs.LoopFrame.{Entered, DoesEntries}
 use Rattle.aio_loop.specs.declared.turned.Turned.{Turned}
 use Rattle.aio_loop.specs.Entering.{LoopEntered, WithSide, does_bottom}
 use Rattle.aio_loop.specs.Expiring.{EntersEachExpired}
@@ -9,7 +9,7 @@ use Rattle.aio_loop.specs.Walks.{LoopFar, EntersEachReady}
 use Rattle.aio_loop.specs.Turns.{Turns}
 
 module _ {R X : Type 0} (does : R → LoopEntered → R → Type 0) (f : R → X) (keeps : (a : R) (e : LoopEntered) (b : R) → does a e b → f b ≡ f a) where
-  same_by_runs : (before : WithSide R) (log : List Entered) (after : WithSide R) → Runs (does_bottom does) before log after → f after.runner ≡ f before.runner
+  same_by_runs : (before : WithSide R) (log : List Entered) (after : WithSide R) → DoesEntries (does_bottom does) before log after → f after.runner ≡ f before.runner
   same_by_runs before [] after same = ap (λ (w : WithSide R). f w.runner) same
   same_by_runs before (e ∷ older) after runs =
       keeps runs.0.runner _ after.runner runs.2.did ∙ same_by_runs before older runs.0 runs.1

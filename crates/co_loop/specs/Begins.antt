@@ -1,11 +1,11 @@
 -- The list of those that were scheduled here is taken, and each is begun.
 use Rattle.std.specs.Prelude.{◌≡◌, ℕ, ◌≤◌, Bool, ◌||◌, is_some, nat_le, MatchBool, Option, None, Some, List, [], ◌∷◌, slice_index_or, slice_set}
 use Rattle.std.specs.FinMap as map
-use Rattle.co_state.specs.Asked.{Asked}
+use Rattle.co_state.specs.Wants.{Wants}
 use Rattle.co_state.specs.declared.co.CoStep.{CoStep}
 use Rattle.co_schedule.specs.Known.{Known}
 use Rattle.co_schedule.specs.Parcels.{has_some}
-use Rattle.co_schedule.specs.Calls.{TableState, SeatState, RunState, IsSeatOf, HasTaken, HasBegun}
+use Rattle.co_schedule.specs.Calls.{TableState, SeatState, RunState, IsSeatOf, HasTaken, HasBegunFirst}
 use Rattle.co_loop.specs.Crews.{Far}
 use Rattle.co_loop.specs.Drains.{EntersAndDrains}
 
@@ -40,26 +40,26 @@ module _ {C O : Type 0} where
 
   -- The first of those that home took was begun. Its state, if it brought one, came in, and it was entered, and then those that were
   -- woken.
-  pub record BeginsOne (is_of : ℕ → C → O → Type 0) (resumes : C → O → Asked → CoStep → C → Type 0) (own n loops : ℕ) (before after : HomeFar C O) : Type 0 where
+  pub record BeginsOne (is_of : ℕ → C → O → Type 0) (resumes : C → O → Wants → CoStep → C → Type 0) (own n loops : ℕ) (before after : HomeFar C O) : Type 0 where
     pub co : ℕ
     pub given : Option C
-    pub begun : HasBegun co (has_some given) before.known after.known
+    pub begun : HasBegunFirst co (has_some given) before.known after.known
     pub admitted : Far C O
     pub admits : AdmitsGiven co given before.far admitted
     pub enters : EntersAndDrains is_of resumes own n loops co admitted after.far
 
-  abbrev pub BeginsNext : (ℕ → C → O → Type 0) → (C → O → Asked → CoStep → C → Type 0) → ℕ → ℕ → ℕ → Bool → HomeFar C O → HomeFar C O → Type 0
+  abbrev pub BeginsNext : (ℕ → C → O → Type 0) → (C → O → Wants → CoStep → C → Type 0) → ℕ → ℕ → ℕ → Bool → HomeFar C O → HomeFar C O → Type 0
   BeginsNext is_of resumes own n loops some before after =
       MatchBool some (BeginsOne is_of resumes own n loops before after) ((before.known.stage.taken ≡ []) × (after ≡ before))
 
   -- these were begun, each once and in this order
-  abbrev pub BeginsThese : (ℕ → C → O → Type 0) → (C → O → Asked → CoStep → C → Type 0) → ℕ → ℕ → ℕ → List ℕ → HomeFar C O → HomeFar C O → Type 0
+  abbrev pub BeginsThese : (ℕ → C → O → Type 0) → (C → O → Wants → CoStep → C → Type 0) → ℕ → ℕ → ℕ → List ℕ → HomeFar C O → HomeFar C O → Type 0
   BeginsThese is_of resumes own n loops [] before after = after ≡ before
   BeginsThese is_of resumes own n loops (co ∷ cos) before after =
       (mid : HomeFar C O) × (one : BeginsOne is_of resumes own n loops before mid) × (one.co ≡ co) × BeginsThese is_of resumes own n loops cos mid after
 
   -- All that was pushed and not entered was taken by one step, and all of it was begun, in order of pushing.
-  pub record TakesAndBegins (is_of : ℕ → C → O → Type 0) (resumes : C → O → Asked → CoStep → C → Type 0) (own n loops : ℕ) (before after : HomeFar C O) : Type 0 where
+  pub record TakesAndBegins (is_of : ℕ → C → O → Type 0) (resumes : C → O → Wants → CoStep → C → Type 0) (own n loops : ℕ) (before after : HomeFar C O) : Type 0 where
     pub taken : Known
     pub takes : HasTaken before.known taken
     pub begins : BeginsThese is_of resumes own n loops taken.stage.taken (record before { known = taken }) after

@@ -2,9 +2,9 @@
 use Rattle.std.specs.Prelude.{◌≡◌, ℕ, ◌<◌, ◌+◌, Bool, true, min, nat_lt, if◌then◌else◌, ◌^◌, ◌-◌, ◌⊎◌, MatchBool, MatchOption, Option, None, Some, List, length, slice_index_or, slice_set}
 use Rattle.std.specs.FinMap as map
 use Rattle.aio_model.specs.declared.causes.Cause.TheVariants.{Move}
-use Rattle.co_state.specs.Asked.{Asked}
+use Rattle.co_state.specs.Wants.{Wants}
 use Rattle.co_state.specs.Coroutines.{Coroutines}
-use Rattle.co_state.specs.Entering.{Enters}
+use Rattle.co_state.specs.Entering.{ResumesOne}
 use Rattle.co_state.specs.declared.co.CoStep.{CoStep}
 use Rattle.co_state.specs.declared.store.Entered.{Entered}
 use Rattle.co_state.specs.declared.store.Entered.TheVariants as entered
@@ -15,7 +15,7 @@ use Rattle.co_loop.specs.declared.naps.Nap.{Nap}
 use Rattle.co_loop.specs.declared.naps.Nap.TheVariants as nap
 use Rattle.co_loop.specs.declared.leaving.Leaving.{Leaving}
 use Rattle.co_loop.specs.declared.crew.Crew.{Crew}
-use Rattle.co_loop.specs.Rows.{IsRow, AreOf, ChangesOne}
+use Rattle.co_loop.specs.Rows.{AreSeatsOfLoops, AreOfOrigin, ChangesOne}
 use Rattle.loop_rows.specs.Posts.{Posts, FindsMarked}
 use Rattle.co_loop.specs.Wakes.{reach, WakesEach}
 use Rattle.co_loop.specs.Quits.{SetsEnds}
@@ -45,7 +45,7 @@ module _ {C O : Type 0} where
       record { store = crew.store; woken = crew.woken.items; naps = crew.naps.items; leaving = crew.leaving.items; ended = crew.ended.items; done = crew.done; quits = crew.quits; seats = crew.seats.items }
 
   -- each that is kept is of the origin as its number, for a loop that there is, and isn't in the store
-  pub record AreKept (is_of : ℕ → C → O → Type 0) (loops : ℕ) (store : Coroutines C O) (leaving : List (Option (Leaving C))) : Type 0 where
+  pub record LeavingAreSound (is_of : ℕ → C → O → Type 0) (loops : ℕ) (store : Coroutines C O) (leaving : List (Option (Leaving C))) : Type 0 where
     pub of : (k : ℕ) (left : Leaving C) → slice_index_or leaving k None ≡ Some left → is_of k left.state store.origin
     pub to : (k : ℕ) (left : Leaving C) → slice_index_or leaving k None ≡ Some left → left.to < loops
     pub apart : (k : ℕ) (left : Leaving C) → slice_index_or leaving k None ≡ Some left → map.get store.held k ≡ None
@@ -53,14 +53,14 @@ module _ {C O : Type 0} where
   -- the loop is one of these, and all that it keeps has room for the same coroutines, and is of their origin, each as its number
   pub record IsCrew (is_of : ℕ → C → O → Type 0) (shared : List (LoopShared C O)) (crew : Crew C O) : Type 0 where
     pub own : crew.own < length shared
-    pub row : IsRow crew.coroutines shared crew.seats.items
-    pub of : AreOf crew.store.origin shared
+    pub row : AreSeatsOfLoops crew.coroutines shared crew.seats.items
+    pub of : AreOfOrigin crew.store.origin shared
     pub room : crew.woken.room ≡ crew.coroutines
     pub within : are_within crew.coroutines crew.woken.items ≡ true
     pub naps : length crew.naps.items ≡ crew.coroutines
     pub leaving : length crew.leaving.items ≡ crew.coroutines
     pub ended : length crew.ended.items ≡ crew.coroutines
-    pub kept : AreKept is_of (length shared) crew.store crew.leaving.items
+    pub kept : LeavingAreSound is_of (length shared) crew.store crew.leaving.items
     pub ended_of : (k : ℕ) (co : C) → slice_index_or crew.ended.items k None ≡ Some co → is_of k co crew.store.origin
 
   -- which loop, and how many coroutines, stay
@@ -75,34 +75,34 @@ module _ {C O : Type 0} where
       ⊎ ((mark : ℕ) × ChangesOne to (FindsMarked co mark) before.seats after.seats × (after ≡ record before { seats = after.seats; leaving = slice_set before.leaving co (Some (record { to = to; state = state })) }))
 
   -- what its answer asks for: one that is done is handed to the ended, and counted; one that sleeps is noted; one that moves is sent on
-  abbrev pub Follows : ℕ → ℕ → ℕ → Entered C → Far C O → Far C O → Type 0
-  Follows own loops co (entered.Done state) before after =
+  abbrev pub FollowsEntered : ℕ → ℕ → ℕ → Entered C → Far C O → Far C O → Type 0
+  FollowsEntered own loops co (entered.Done state) before after =
       after ≡ record before { ended = slice_set before.ended co (Some state); done = one_more before.done }
-  Follows own loops co entered.Yielded before after = after ≡ before
-  Follows own loops co (entered.Slept ns) before after =
+  FollowsEntered own loops co entered.Yielded before after = after ≡ before
+  FollowsEntered own loops co (entered.Slept ns) before after =
       after ≡ record before { naps = slice_set before.naps co (nap.Asked ns) }
-  Follows own loops co (entered.Moving state to) before after =
+  FollowsEntered own loops co (entered.Moving state to) before after =
       SendsOn (destination own loops to) co state before after
-  Follows own loops co entered.Absent before after = after ≡ before
+  FollowsEntered own loops co entered.Absent before after = after ≡ before
 
   -- the wakes that it asked for, in order, and then the quit mark, which is noted
-  pub record CarriesOut (own n loops : ℕ) (asked : Asked) (before after : Far C O) : Type 0 where
+  pub record CarriesOut (own n loops : ℕ) (asked : Wants) (before after : Far C O) : Type 0 where
     pub woke : Far C O
     pub wakes : WakesEach own n loops asked.wakes (reach before.woken before.seats) (reach woke.woken woke.seats)
     pub only : woke ≡ record before { woken = woke.woken; seats = woke.seats }
     pub quits : MatchBool asked.quits (SetsEnds loops woke.seats after.seats × (after ≡ record woke { quits = true; seats = after.seats })) (after ≡ woke)
 
   -- The coroutine, which was there, was resumed once; what its answer asks for was done, and then what it asked for.
-  pub record Resumes (is_of : ℕ → C → O → Type 0) (resumes : C → O → Asked → CoStep → C → Type 0) (own n loops co : ℕ) (was : C) (before after : Far C O) : Type 0 where
-    pub asked : Asked
+  pub record CrewResumes (is_of : ℕ → C → O → Type 0) (resumes : C → O → Wants → CoStep → C → Type 0) (own n loops co : ℕ) (was : C) (before after : Far C O) : Type 0 where
+    pub asked : Wants
     pub answer : Entered C
     pub store : Coroutines C O
-    pub enters : Enters is_of resumes before.store store co was asked answer
+    pub enters : ResumesOne is_of resumes before.store store co was asked answer
     pub stepped : Far C O
-    pub follows : Follows own loops co answer (record before { store = store; naps = slice_set before.naps co nap.Awake }) stepped
+    pub follows : FollowsEntered own loops co answer (record before { store = store; naps = slice_set before.naps co nap.Awake }) stepped
     pub carries : CarriesOut own n loops asked stepped after
 
   -- the one that is there was resumed; where none is, nothing was done
-  abbrev pub EntersOne : (ℕ → C → O → Type 0) → (C → O → Asked → CoStep → C → Type 0) → ℕ → ℕ → ℕ → ℕ → Far C O → Far C O → Type 0
+  abbrev pub EntersOne : (ℕ → C → O → Type 0) → (C → O → Wants → CoStep → C → Type 0) → ℕ → ℕ → ℕ → ℕ → Far C O → Far C O → Type 0
   EntersOne is_of resumes own n loops co before after =
-      MatchOption (map.get before.store.held co) (after ≡ before) (λ was. Resumes is_of resumes own n loops co was before after)
+      MatchOption (map.get before.store.held co) (after ≡ before) (λ was. CrewResumes is_of resumes own n loops co was before after)

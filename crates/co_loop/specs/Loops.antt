@@ -1,7 +1,7 @@
 -- One loop with coroutines on it, as the runner of its turns.
 use Rattle.std.specs.Prelude.{◌≡◌, ℕ, Bool, ◌||◌, ◌==◌, MatchBool, List, [], length, slice_index_or}
 use Rattle.aio_loop.specs.Entering.{LoopLent, ForBottom, ForReady, ForExpired, LoopEntered}
-use Rattle.co_state.specs.Asked.{Asked}
+use Rattle.co_state.specs.Wants.{Wants}
 use Rattle.co_state.specs.declared.co.CoStep.{CoStep}
 use Rattle.co_schedule.specs.Calls.{SeatState, RunState}
 use Rattle.loop_rows.specs.declared.shared.LoopShared.{LoopShared}
@@ -37,17 +37,17 @@ module _ {C O : Type 0} where
       record { own = crew.own; coroutines = crew.coroutines; here = home_far (far crew) home.known; is_ended = is_ended }
 
   -- handle 0 takes and begins what was scheduled here, and others do nothing
-  abbrev pub AnswersHandle : (ℕ → C → O → Type 0) → (C → O → Asked → CoStep → C → Type 0) → ℕ → ℕ → ℕ → ℕ → HomeFar C O → HomeFar C O → Type 0
+  abbrev pub AnswersHandle : (ℕ → C → O → Type 0) → (C → O → Wants → CoStep → C → Type 0) → ℕ → ℕ → ℕ → ℕ → HomeFar C O → HomeFar C O → Type 0
   AnswersHandle is_of resumes own n loops bh before after =
       MatchBool (bh == 0) (TakesAndBegins is_of resumes own n loops before after) (after ≡ before)
 
   -- one that sleeps until this timer is entered, and another isn't touched
-  abbrev pub ExpiresFor : (ℕ → C → O → Type 0) → (C → O → Asked → CoStep → C → Type 0) → ℕ → ℕ → ℕ → ℕ → Far C O → Far C O → Type 0
+  abbrev pub ExpiresFor : (ℕ → C → O → Type 0) → (C → O → Wants → CoStep → C → Type 0) → ℕ → ℕ → ℕ → ℕ → Far C O → Far C O → Type 0
   ExpiresFor is_of resumes own n loops co before after =
       MatchBool (is_armed before.naps co) (EntersAndDrains is_of resumes own n loops co before after) (after ≡ before)
 
   -- what an entry for this does
-  abbrev pub DoesFor : (ℕ → C → O → Type 0) → (C → O → Asked → CoStep → C → Type 0) → ℕ → LoopLent → OnLoop C O → OnLoop C O → Type 0
+  abbrev pub DoesFor : (ℕ → C → O → Type 0) → (C → O → Wants → CoStep → C → Type 0) → ℕ → LoopLent → OnLoop C O → OnLoop C O → Type 0
   DoesFor is_of resumes loops (ForBottom lent answer) before after =
       AnswersHandle is_of resumes before.own before.coroutines loops lent.bh before.here after.here × (after.is_ended ≡ before.is_ended)
   DoesFor is_of resumes loops (ForReady ready) before after =
@@ -56,7 +56,7 @@ module _ {C O : Type 0} where
       ExpiresFor is_of resumes before.own before.coroutines loops id.number before.here.far after.here.far × (after.here.known ≡ before.here.known) × (after.is_ended ≡ before.is_ended)
 
   -- An entry makes nothing through the lent seat, and changes no handler and no timer.
-  pub record RunnerDoes (is_of : ℕ → C → O → Type 0) (resumes : C → O → Asked → CoStep → C → Type 0) (shared : List (LoopShared C O)) (entered : LoopEntered) (before after : OnLoop C O) : Type 0 where
+  pub record RunnerDoes (is_of : ℕ → C → O → Type 0) (resumes : C → O → Wants → CoStep → C → Type 0) (shared : List (LoopShared C O)) (entered : LoopEntered) (before after : OnLoop C O) : Type 0 where
     pub makes_none : entered.made ≡ []
     pub handlers : entered.on_handlers ≡ []
     pub timers : entered.on_timers ≡ []

@@ -12,14 +12,14 @@ module _ {C O : Type 0} where
     pub coroutines : shared.coroutines.coroutines ≡ n
 
   -- seats of each loop
-  pub record IsRow (n : ℕ) (shared : List (LoopShared C O)) (seats : List (Seats C O)) : Type 0 where
+  pub record AreSeatsOfLoops (n : ℕ) (shared : List (LoopShared C O)) (seats : List (Seats C O)) : Type 0 where
     pub long : length seats ≡ length shared
     pub loops : (k : ℕ) (t : LoopShared C O) → k < length shared → IsLoopOf n (slice_index_or shared k t)
     pub each : (k : ℕ) (t : LoopShared C O) (s : Seats C O) → k < length shared → IsSeated (slice_index_or shared k t) (slice_index_or seats k s)
 
   -- each loop's coroutines are of this origin
-  abbrev pub AreOf : O → List (LoopShared C O) → Type 0
-  AreOf origin shared =
+  abbrev pub AreOfOrigin : O → List (LoopShared C O) → Type 0
+  AreOfOrigin origin shared =
       (k : ℕ) (t : LoopShared C O) → k < length shared → (slice_index_or shared k t).coroutines.origin ≡ origin
 
   -- this was done to the seats of one loop, and all others are as before

@@ -1,6 +1,6 @@
 -- The coroutines of a loop, and what a turn of its thread does to them.
 use Rattle.std.specs.Prelude.{◌≡◌, ℕ, ◌<◌, ◌≤◌, Bool, ◌&&◌, not, List, [], length, slice_index_or}
-use Rattle.co_state.specs.Asked.{Asked}
+use Rattle.co_state.specs.Wants.{Wants}
 use Rattle.co_state.specs.declared.co.CoStep.{CoStep}
 use Rattle.lot_pool.specs.Pools.{PoolState}
 use Rattle.aio_loop.specs.declared.turned.Turned.{Turned}
@@ -12,7 +12,7 @@ use Rattle.loop_rows.specs.declared.rows.Row.{Row}
 use Rattle.co_loop.specs.declared.crew.Crew.{Crew}
 use Rattle.co_loop.specs.declared.on_loop.CoLoop.{CoLoop}
 use Rattle.co_loop.specs.declared.working.CoWork.{CoWork}
-use Rattle.co_loop.specs.Rows.{AreOf}
+use Rattle.co_loop.specs.Rows.{AreOfOrigin}
 use Rattle.co_loop.specs.Building.{IsNewCrew}
 use Rattle.co_loop.specs.Crews.{far}
 use Rattle.co_loop.specs.Again.{is_kept}
@@ -31,12 +31,12 @@ pub record CanWork {C K O : Type 0} (is_of : ℕ → C → O → Type 0) (work :
 
 -- Nobody is on the loop yet: the crew is new, and of this loop, whose coroutines are as many and of this origin; home has taken nothing,
 -- and each coroutine has a timer.
-pub record CanStart {C O : Type 0} (origin : O) (shared : List (LoopShared C O)) (loop : LoopState C O) (crew : Crew C O) (run : RunState) : Type 0 where
+pub record CrewCanStart {C O : Type 0} (origin : O) (shared : List (LoopShared C O)) (loop : LoopState C O) (crew : Crew C O) (run : RunState) : Type 0 where
   pub station : IsStation shared loop
   pub crew_is : IsNewCrew origin crew
   pub own : crew.own ≡ loop.number
   pub coroutines : (k : ℕ) (t : LoopShared C O) → k < length shared → (slice_index_or shared k t).coroutines.coroutines ≡ crew.coroutines
-  pub of : AreOf origin shared
+  pub of : AreOfOrigin origin shared
   pub run_is : run ≡ record { room = crew.coroutines; cos = [] }
   pub idle : loop.coroutines.known.stage.taken ≡ []
   pub timers : crew.coroutines ≤ loop.side.timers.made
@@ -50,7 +50,7 @@ pub record IsRunnerOf {C E W K O : Type 0} (work : CoWork C K O) (loop : LoopSta
 
 -- The work was done by one turn of the loop with its coroutines. The loop's run has ended where event 0 was found set, in this turn or
 -- before, the turn found nothing to do, and no coroutine is kept for another loop.
-pub record Works (E W : Type 0) {C K O : Type 0} (is_of : ℕ → C → O → Type 0) (resumes : C → O → Asked → CoStep → C → Type 0) (time : K → ℕ) (shared : List (LoopShared C O)) (work : CoWork C K O) (loop : LoopState C O) (ended : Bool) (work_after : CoWork C K O) (loop_after : LoopState C O) : Type 0 where
+pub record Works (E W : Type 0) {C K O : Type 0} (is_of : ℕ → C → O → Type 0) (resumes : C → O → Wants → CoStep → C → Type 0) (time : K → ℕ) (shared : List (LoopShared C O)) (work : CoWork C K O) (loop : LoopState C O) (ended : Bool) (work_after : CoWork C K O) (loop_after : LoopState C O) : Type 0 where
   pub runner : CoLoop C E W O
   pub runner_is : IsRunnerOf work loop runner
   pub shared_is : runner.shared.now ≡ shared

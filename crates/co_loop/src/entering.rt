@@ -2,7 +2,7 @@
 //! resume.
 ghost use Rattle.std.specs.Prelude.{◌≡◌, ◌<◌, length, None};
 ghost use Rattle.std.specs.FinMap as map;
-ghost use Rattle.co_loop.specs.Crews.{far, destination, one_more, IsCrew, SameCrew, SendsOn, Follows, CarriesOut, EntersOne};
+ghost use Rattle.co_loop.specs.Crews.{far, destination, one_more, IsCrew, SameCrew, SendsOn, FollowsEntered, CarriesOut, EntersOne};
 ghost use Rattle.co_loop.specs.Answers.{IsFollowable};
 
 use crate::crew::Crew;
@@ -76,7 +76,7 @@ fn follow<C: Origin + Drop, W: Wait>(
     requires of { IsFollowable C.is_of co crew.old.store entered }
     ensures crew { IsCrew C.is_of shared.now crew.new }
     ensures same { SameCrew crew.old crew.new }
-    ensures follows { Follows crew.old.own (length shared.now) co entered (far crew.old) (far crew.new) }
+    ensures follows { FollowsEntered crew.old.own (length shared.now) co entered (far crew.old) (far crew.new) }
 {
     match entered {
         Entered::Done(state) => {

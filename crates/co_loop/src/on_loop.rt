@@ -2,7 +2,7 @@
 ghost use Rattle.std.specs.Prelude.{◌≡◌, ◌<◌, ◌||◌, ◌==◌, length};
 ghost use Rattle.co_loop.specs.Crews.{far, IsCrew, SameCrew};
 ghost use Rattle.co_loop.specs.Begins.{home_far};
-ghost use Rattle.co_loop.specs.Rows.{IsRow, AreOf};
+ghost use Rattle.co_loop.specs.Rows.{AreSeatsOfLoops, AreOfOrigin};
 ghost use Rattle.co_loop.specs.Building.{IsNewCrew};
 ghost use Rattle.co_loop.specs.Loops.{IsOnLoop, IsNewHome, AnswersHandle, ExpiresFor};
 
@@ -50,8 +50,8 @@ impl<'a, C: Co<E>, E, W> CoLoop<'a, C, E, W> {
         run: CoRun,
     ) -> CoLoop<'a, C, E, W>
         requires crew { IsNewCrew (C.source_of env.now) crew }
-        requires row { IsRow crew.coroutines shared.now crew.seats.items }
-        requires of { AreOf (C.source_of env.now) shared.now }
+        requires row { AreSeatsOfLoops crew.coroutines shared.now crew.seats.items }
+        requires of { AreOfOrigin (C.source_of env.now) shared.now }
         requires own { crew.own < length shared.now }
         requires home { IsNewHome shared.now crew.own home run }
         ensures fits { IsOnLoop C.is_of (C.source_of result.env.now) result.shared.now result.crew result.home result.run }

@@ -2,7 +2,7 @@
 ghost use Rattle.std.specs.Prelude.{◌≡◌, ◌<◌, MatchResult, length};
 ghost use Rattle.co_schedule.specs.Parcels.{has_some};
 ghost use Rattle.loop_rows.specs.Posts.{IsStateAt, Posts, FindsMarked};
-ghost use Rattle.co_loop.specs.Rows.{IsRow, ChangesOne};
+ghost use Rattle.co_loop.specs.Rows.{AreSeatsOfLoops, ChangesOne};
 
 use aio_model::Cause;
 use co_schedule::Already;
@@ -21,11 +21,11 @@ pub(crate) fn post_to<C: Origin + Drop, W: Wait>(
     cause: Cause,
     state: Option<C>,
 ) -> Result<(), Already<C>>
-    requires row { IsRow coroutines shared.now seats.old.items }
+    requires row { AreSeatsOfLoops coroutines shared.now seats.old.items }
     requires to { to < length shared.now }
     requires below { co < coroutines }
     requires state { IsStateAt C.is_of shared.now to co state }
-    ensures row { IsRow coroutines shared.now seats.new.items }
+    ensures row { AreSeatsOfLoops coroutines shared.now seats.new.items }
     ensures posts { MatchResult result (λ _. ChangesOne to (Posts co cause (has_some state)) seats.old.items seats.new.items) (λ already. (already.state ≡ state) × ChangesOne to (FindsMarked co already.mark) seats.old.items seats.new.items) }
 {
     shared[to as usize].post(rt, &mut seats[to as usize], co, cause, state)

@@ -1,7 +1,7 @@
 //! The quit mark: whoever sets it in a resume asks all loops to end.
 ghost use Rattle.std.specs.Prelude.{◌≡◌, ◌<◌, length};
 ghost use Rattle.loop_rows.specs.Posts.{IsSeated};
-ghost use Rattle.co_loop.specs.Rows.{IsRow};
+ghost use Rattle.co_loop.specs.Rows.{AreSeatsOfLoops};
 ghost use Rattle.co_loop.specs.Quits.{SetsEnd, SetsEnds};
 
 use aio_notify::LoopEvents;
@@ -26,8 +26,8 @@ pub(crate) fn set_ends<C: Origin>(
     seats: &mut Vec<Seats<C>>,
     coroutines: u32,
 )
-    requires row { IsRow coroutines shared.now seats.old.items }
-    ensures row { IsRow coroutines shared.now seats.new.items }
+    requires row { AreSeatsOfLoops coroutines shared.now seats.old.items }
+    ensures row { AreSeatsOfLoops coroutines shared.now seats.new.items }
     ensures sets { SetsEnds (length shared.now) seats.old.items seats.new.items }
 {
     let _coroutines = coroutines;

@@ -1,7 +1,7 @@
 //! Wakes that a coroutine asked for in a resume are carried out after it, after aio_co_wake of QEMU's util/async.c.
 ghost use Rattle.std.specs.Prelude.{◌≡◌, ◌<◌, ℕ, ◌++◌, ◌∷◌, [], ◌==◌, ◌&&◌, nat_lt, length, if◌then◌else◌};
 ghost use Rattle.aio_chain.specs.LinkList.{contains};
-ghost use Rattle.co_loop.specs.Rows.{IsRow, ChangesOne};
+ghost use Rattle.co_loop.specs.Rows.{AreSeatsOfLoops, ChangesOne};
 ghost use Rattle.co_loop.specs.Posts.{WakesAt};
 ghost use Rattle.co_loop.specs.Wakes.{queued, is_somebody, reach, WakesOne, WakesEach};
 
@@ -33,10 +33,10 @@ fn wake_at<C: Origin + Drop, W: Wait>(
     to: u32,
     co: u32,
 )
-    requires row { IsRow coroutines shared.now seats.old.items }
+    requires row { AreSeatsOfLoops coroutines shared.now seats.old.items }
     requires to { to < length shared.now }
     requires below { co < coroutines }
-    ensures row { IsRow coroutines shared.now seats.new.items }
+    ensures row { AreSeatsOfLoops coroutines shared.now seats.new.items }
     ensures wakes { ChangesOne to (WakesAt co) seats.old.items seats.new.items }
 {
     let _posted = post_to(rt, shared, seats, coroutines, to, co, Cause::Wake, None);
@@ -59,9 +59,9 @@ fn wake<C: Origin + Drop, W: Wait>(
     own: u32,
     id: CoId,
 )
-    requires row { IsRow coroutines shared.now seats.old.items }
+    requires row { AreSeatsOfLoops coroutines shared.now seats.old.items }
     requires room { woken.old.room ≡ coroutines }
-    ensures row { IsRow coroutines shared.now seats.new.items }
+    ensures row { AreSeatsOfLoops coroutines shared.now seats.new.items }
     ensures room { woken.new.room ≡ coroutines }
     ensures wakes { WakesOne own coroutines (length shared.now) id (reach woken.old.items seats.old.items) (reach woken.new.items seats.new.items) }
 {
@@ -85,9 +85,9 @@ pub(crate) fn wake_each<C: Origin + Drop, W: Wait>(
     own: u32,
     cx: &mut Cx,
 )
-    requires row { IsRow coroutines shared.now seats.old.items }
+    requires row { AreSeatsOfLoops coroutines shared.now seats.old.items }
     requires room { woken.old.room ≡ coroutines }
-    ensures row { IsRow coroutines shared.now seats.new.items }
+    ensures row { AreSeatsOfLoops coroutines shared.now seats.new.items }
     ensures room { woken.new.room ≡ coroutines }
     ensures wakes { WakesEach own coroutines (length shared.now) cx.old.wakes (reach woken.old.items seats.old.items) (reach woken.new.items seats.new.items) }
     ensures rest { cx.new ≡ record cx.old { wakes = [] } }

@@ -2,9 +2,9 @@
 ghost use Rattle.std.specs.Prelude.{◌≡◌, ◌&&◌, not, false, List};
 ghost use Rattle.loop_rows.specs.declared.shared.LoopShared.{LoopShared};
 ghost use Rattle.loop_rows.specs.LoopStates.{LoopState, at_loop, IsStation, TurnsOn, KeepsPlace};
-ghost use Rattle.co_loop.specs.Rows.{AreOf};
+ghost use Rattle.co_loop.specs.Rows.{AreOfOrigin};
 ghost use Rattle.co_loop.specs.Again.{is_kept};
-ghost use Rattle.co_loop.specs.Working.{CanStart, CanWork, Works};
+ghost use Rattle.co_loop.specs.Working.{CrewCanStart, CanWork, Works};
 
 use crate::again::keeps;
 use crate::crew::Crew;
@@ -58,7 +58,7 @@ impl<C: Origin + Drop, K: Clock> CoWork<C, K> {
         ensures parts { (result.crew ≡ crew) × (result.run ≡ run) × (result.clock ≡ clock) × (result.is_ended ≡ false) }
 
         // On the loop of the crew's number, whatever the row of its thread.
-        ensures begins { (origin : C.Source) (shared : List (LoopShared C C.Source)) (loop : LoopState C C.Source) → CanStart origin shared loop crew run → CanWork C.is_of result shared loop }
+        ensures begins { (origin : C.Source) (shared : List (LoopShared C C.Source)) (loop : LoopState C C.Source) → CrewCanStart origin shared loop crew run → CanWork C.is_of result shared loop }
     {
         CoWork {
             crew,
@@ -82,7 +82,7 @@ impl<C: Origin + Drop, K: Clock> CoWork<C, K> {
         C: Co<E>,
         requires station { IsStation shared.now (at_loop station.number station.turning.home.seat station.turning.side station.turning.lot_pass station.coroutines station.row) }
         requires turning { TurnsOn shared.now station.number station.turning.table.now station.turning.pool.now }
-        requires lent { AreOf (C.source_of env.now) shared.now }
+        requires lent { AreOfOrigin (C.source_of env.now) shared.now }
         requires can_work { CanWork C.is_of self shared.now (at_loop station.number station.turning.home.seat station.turning.side station.turning.lot_pass station.coroutines station.row) }
         ensures station { IsStation shared.now (at_loop result.station.number result.station.turning.home.seat result.station.turning.side result.station.turning.lot_pass result.station.coroutines result.station.row) }
         ensures place { KeepsPlace station.entry.number station.entry.row result.station.number result.station.row }

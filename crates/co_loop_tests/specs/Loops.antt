@@ -33,7 +33,7 @@ module _ {C O : Type 0} where
     pub idle : co_home.known.stage.taken ≡ []
 
   -- a loop between two turns
-  pub record IsCarried (is_of : ℕ → C → O → Type 0) (source : O) (shared : List (LoopShared C O)) (crew : Crew C O) (co_home : CoSeatState O) (run : RunState) (table : TableState) (pool : PoolState) (pass : PassState) (home : SeatState) (side : Side) : Type 0 where
+  pub record IsBetweenTurns (is_of : ℕ → C → O → Type 0) (source : O) (shared : List (LoopShared C O)) (crew : Crew C O) (co_home : CoSeatState O) (run : RunState) (table : TableState) (pool : PoolState) (pass : PassState) (home : SeatState) (side : Side) : Type 0 where
     pub fits : IsOnLoop is_of source shared crew co_home run
     pub timers : crew.coroutines ≤ side.timers.made
     pub lots : ServesHome table.sizes pool pass

@@ -1,7 +1,7 @@
 //! Two loops carried by one thread, a turn of each by turns.
 ghost use Rattle.std.specs.Prelude.{◌≡◌, ◌<◌, ◌∷◌, [], length, IfOk};
-ghost use Rattle.co_loop.specs.Rows.{IsRow, AreOf};
-ghost use Rattle.co_loop_tests.specs.Loops.{IsOpened, AreEndsOf, IsCarried};
+ghost use Rattle.co_loop.specs.Rows.{AreSeatsOfLoops, AreOfOrigin};
+ghost use Rattle.co_loop_tests.specs.Loops.{IsOpened, AreEndsOf, IsBetweenTurns};
 
 use crate::opened::{Ends, Opened, PLAYERS, open_side, open_with};
 use crate::players::{Player, Stage};
@@ -25,8 +25,8 @@ struct Carried<'a, C: Origin, E, W> {
 }
 
 fn turn<C: Co<E> + Drop, E, W: Wait>(carried: &mut Carried<'_, C, E, W>, block: bool)
-    requires { IsCarried C.is_of (C.source_of carried.old.here.env.now) carried.old.here.shared.now carried.old.here.crew carried.old.here.home carried.old.here.run carried.old.aio.table.now carried.old.aio.pool.now carried.old.aio.lot_pass carried.old.aio.home.seat carried.old.aio.side }
-    ensures { IsCarried C.is_of (C.source_of carried.new.here.env.now) carried.new.here.shared.now carried.new.here.crew carried.new.here.home carried.new.here.run carried.new.aio.table.now carried.new.aio.pool.now carried.new.aio.lot_pass carried.new.aio.home.seat carried.new.aio.side }
+    requires { IsBetweenTurns C.is_of (C.source_of carried.old.here.env.now) carried.old.here.shared.now carried.old.here.crew carried.old.here.home carried.old.here.run carried.old.aio.table.now carried.old.aio.pool.now carried.old.aio.lot_pass carried.old.aio.home.seat carried.old.aio.side }
+    ensures { IsBetweenTurns C.is_of (C.source_of carried.new.here.env.now) carried.new.here.shared.now carried.new.here.crew carried.new.here.home carried.new.here.run carried.new.aio.table.now carried.new.aio.pool.now carried.new.aio.lot_pass carried.new.aio.home.seat carried.new.aio.side }
 {
     let turned = carried
         .here
@@ -41,8 +41,8 @@ fn turns<C: Co<E> + Drop, E, W: Wait>(
     count: u32,
     block: bool,
 )
-    requires first { IsCarried C.is_of (C.source_of first.old.here.env.now) first.old.here.shared.now first.old.here.crew first.old.here.home first.old.here.run first.old.aio.table.now first.old.aio.pool.now first.old.aio.lot_pass first.old.aio.home.seat first.old.aio.side }
-    requires second { IsCarried C.is_of (C.source_of second.old.here.env.now) second.old.here.shared.now second.old.here.crew second.old.here.home second.old.here.run second.old.aio.table.now second.old.aio.pool.now second.old.aio.lot_pass second.old.aio.home.seat second.old.aio.side }
+    requires first { IsBetweenTurns C.is_of (C.source_of first.old.here.env.now) first.old.here.shared.now first.old.here.crew first.old.here.home first.old.here.run first.old.aio.table.now first.old.aio.pool.now first.old.aio.lot_pass first.old.aio.home.seat first.old.aio.side }
+    requires second { IsBetweenTurns C.is_of (C.source_of second.old.here.env.now) second.old.here.shared.now second.old.here.crew second.old.here.home second.old.here.run second.old.aio.table.now second.old.aio.pool.now second.old.aio.lot_pass second.old.aio.home.seat second.old.aio.side }
 {
     for _ in 0..count {
         turn(first, block);
@@ -101,11 +101,11 @@ fn carry<'a, W: Wait>(
     seats: Vec<Seats<Player>>,
     ends: Ends,
 ) -> Result<Carried<'a, Player, Stage, W>, Fail>
-    requires row { IsRow 4 shared.now seats.items }
-    requires of { AreOf tt shared.now }
+    requires row { AreSeatsOfLoops 4 shared.now seats.items }
+    requires of { AreOfOrigin tt shared.now }
     requires own { own < length shared.now }
     requires here { AreEndsOf shared.now own ends.home.seat ends.lot_pass ends.co_home ends.run }
-    ensures { IfOk result (λ c. IsCarried (λ _ _ _. Unit {0}) tt c.here.shared.now c.here.crew c.here.home c.here.run c.aio.table.now c.aio.pool.now c.aio.lot_pass c.aio.home.seat c.aio.side) }
+    ensures { IfOk result (λ c. IsBetweenTurns (λ _ _ _. Unit {0}) tt c.here.shared.now c.here.crew c.here.home c.here.run c.aio.table.now c.aio.pool.now c.aio.lot_pass c.aio.home.seat c.aio.side) }
 {
     let side = open_side(alloc)?;
     let Ok(crew) = Crew::build(alloc, own, PLAYERS, seats) else {
@@ -138,9 +138,9 @@ fn play_with<W: Wait>(
     count: u32,
     block: bool,
 ) -> Result<(Outcome, Outcome), Fail>
-    requires row { IsRow 4 shared.now seats.items }
-    requires others { IsRow 4 shared.now others.items }
-    requires of { AreOf tt shared.now }
+    requires row { AreSeatsOfLoops 4 shared.now seats.items }
+    requires others { AreSeatsOfLoops 4 shared.now others.items }
+    requires of { AreOfOrigin tt shared.now }
     requires two { 1 < length shared.now }
     requires first { AreEndsOf shared.now 0 first.home.seat first.lot_pass first.co_home first.run }
     requires second { AreEndsOf shared.now 1 second.home.seat second.lot_pass second.co_home second.run }

@@ -6,12 +6,12 @@ use lib.ListN.{get_elem?}
 use Rattle.atomic_table.proofs.Lists.{set_here, set_else}
 use Rattle.aio_chain.specs.Chains.{IsChain}
 use Rattle.aio_chain.proofs.Chains.{chain_kept}
-use Rattle.aio_model.specs.LockHistory.{LockEntry, Release, Waits, owner_of, waiters_of}
-use Rattle.co_mutex.specs.Places.{Side, Locking, Unlocking, ToPop, Nobody, Place, AtRest, Loaded, Holds, OnDuty, Published, Found, is_in_line, is_before_push, is_holding, IsNumbered}
+use Rattle.aio_model.specs.LockHistory.{LockEntry, Release, IsWaitingIn, owner_of, waiters_of}
+use Rattle.co_mutex.specs.Places.{Side, Locking, Unlocking, ToPop, Nobody, PassPlace, AtRest, Loaded, Holds, OnDuty, Published, Found, is_in_line, is_before_push, is_holding, IsNumbered}
 use Rattle.co_mutex.specs.LockWords.{locked_at, handoff_at, head_at, grant_at, next_in}
 use Rattle.co_mutex.specs.declared.slot.Slot.{Slot}
 use Rattle.co_mutex.specs.declared.slot.Slot.TheVariants.{Value}
-use Rattle.co_mutex.specs.Rule.{Popped, Baton, Free, Owned, Duty, Offered, owner_in, Fit, IsAt, one_if, Counts, grant_word, IsHome, IsWith, ListIs, IsLinked, IsNamed, Stands}
+use Rattle.co_mutex.specs.Rule.{Popped, Baton, Free, Owned, Duty, Offered, owner_in, Fit, IsAt, one_if, CountsStand, grant_word, IsHome, IsWith, ListIs, LinkStands, NameStands, Stands}
 use Rattle.co_mutex.proofs.Counting.{bit}
 use Rattle.co_mutex.proofs.Frames.{read_here, read_else, each_set, linked_kept, counts_after, is_at_kept, owned_same, duty_same}
 use Rattle.co_mutex.proofs.Quiet.{named_kept, not_holds}
@@ -21,7 +21,7 @@ use Rattle.co_mutex.proofs.DutySteps.{with_me, waiters_now}
 use Rattle.co_mutex.proofs.GotSteps.{low_fits}
 use Rattle.co_mutex.proofs.Batons.{offered_at, grant_else, holding_zero, Low, low_set, every, named_grown, none_holds, home_kept}
 
-module _ {T : Type 0} (n : ℕ) (built : T) (h : List (LockEntry T)) (words : List ℕ) (homes : List (Opt (Slot T))) (places : List Place) (b : Baton) (stack : List ℕ) (s : Stands n built h words homes places b stack) (p : ℕ) where
+module _ {T : Type 0} (n : ℕ) (built : T) (h : List (LockEntry T)) (words : List ℕ) (homes : List (Opt (Slot T))) (places : List PassPlace) (b : Baton) (stack : List ℕ) (s : Stands n built h words homes places b stack) (p : ℕ) where
   -- the lock is released; the value x was put back
   module _ (x : T) (at : get_elem? places p ≡ some Holds) where
     abbrev pub released : List (LockEntry T)
@@ -33,7 +33,7 @@ module _ {T : Type 0} (n : ℕ) (built : T) (h : List (LockEntry T)) (words : Li
     owner : owner_of h ≡ Some p
     owner = s.baton_stands.owner ∙ ap owner_in mine
 
-    apart : ¬ (Waits p (waiters_of h))
+    apart : ¬ (IsWaitingIn p (waiters_of h))
     apart = legal_owner h p s.legal owner
 
     gone : get_elem? homes 0 ≡ some none
@@ -46,7 +46,7 @@ module _ {T : Type 0} (n : ℕ) (built : T) (h : List (LockEntry T)) (words : Li
     fit : Fit (Owned p) (slice_index words locked_at) (slice_index words handoff_at)
     fit = subst (λ k. Fit k (slice_index words locked_at) (slice_index words handoff_at)) mine s.baton_stands.fit
 
-    others : (c : Baton) (q : ℕ) (place : Place) → q ≢ p → (c ≢ Owned q) → IsAt h b q place → IsAt released c q place
+    others : (c : Baton) (q : ℕ) (place : PassPlace) → q ≢ p → (c ≢ Owned q) → IsAt h b q place → IsAt released c q place
     others c q place ne isnt k =
         is_at_kept h released b c q place (λ z. z) (λ z. z) (λ e. absurd (ne (sym (owned_same p q (sym mine ∙ e))))) (λ e. absurd (isnt e)) (λ e. absurd (let bad : Owned p ≡ Duty q = sym mine ∙ e in cc)) k
 
@@ -67,7 +67,7 @@ module _ {T : Type 0} (n : ℕ) (built : T) (h : List (LockEntry T)) (words : Li
       same_head = read_else words locked_at head_at l (λ q. omega arith)
 
       -- the list and the baton are said by the caller
-      after : (c : Baton) (new : Place) (homes2 : List (Opt (Slot T))) → is_in_line new ≡ false → is_before_push new ≡ false → is_holding new ≡ false → owner_in c ≡ None → Fit c l (slice_index words handoff_at) → ((q : ℕ) → c ≢ Owned q) → IsAt released c p new → ((q : ℕ) (place : Place) → grant_word c q place ≡ 0) → get_elem? homes2 0 ≡ some (some (Value x)) → ListIs c released lowered homes2 (set places p new) stack → IsLinked lowered p new → IsNamed released lowered p new → IsNumbered new → c ≢ Offered → Stands n built released lowered homes2 (set places p new) c stack
+      after : (c : Baton) (new : PassPlace) (homes2 : List (Opt (Slot T))) → is_in_line new ≡ false → is_before_push new ≡ false → is_holding new ≡ false → owner_in c ≡ None → Fit c l (slice_index words handoff_at) → ((q : ℕ) → c ≢ Owned q) → IsAt released c p new → ((q : ℕ) (place : PassPlace) → grant_word c q place ≡ 0) → get_elem? homes2 0 ≡ some (some (Value x)) → ListIs c released lowered homes2 (set places p new) stack → LinkStands lowered p new → NameStands released lowered p new → IsNumbered new → c ≢ Offered → Stands n built released lowered homes2 (set places p new) c stack
       after c new homes2 line before holding unowned fits isnt is zero_all value list linked named numbered not_offered =
           let owned_one : one_if (owner_of h) ≡ 1 = ap one_if owner in
           let line_zero : bit (is_in_line new) ≡ 0 = ap bit line in
@@ -89,11 +89,11 @@ module _ {T : Type 0} (n : ℕ) (built : T) (h : List (LockEntry T)) (words : Li
             lists = record {
               chain = subst (λ k. IsChain (next_in lowered) k stack) (sym same_head) (chain_kept (next_in words) (next_in lowered) _ stack s.lists.chain (every _ stack w.next));
               list = list;
-              linked = each_set (IsLinked words) (IsLinked lowered) places p new s.lists.linked linked (λ q place ne atq k. linked_kept words lowered q place (w.next q) k);
+              linked = each_set (LinkStands words) (LinkStands lowered) places p new s.lists.linked linked (λ q place ne atq k. linked_kept words lowered q place (w.next q) k);
             };
             names = record {
               waiting = λ q waits. w.who q ∙ s.names.waiting q waits;
-              each = each_set (IsNamed h words) (IsNamed released lowered) places p new s.names.each named (λ q place ne atq k. named_grown h released words lowered q place (λ r. refl) (w.who q) k);
+              each = each_set (NameStands h words) (NameStands released lowered) places p new s.names.each named (λ q place ne atq k. named_grown h released words lowered q place (λ r. refl) (w.who q) k);
             };
             looks = record {
               numbered = each_set (λ q place. IsNumbered place) (λ q place. IsNumbered place) places p new s.looks.numbered numbered (λ q place ne atq k. k);
@@ -147,7 +147,7 @@ module _ {T : Type 0} (n : ℕ) (built : T) (h : List (LockEntry T)) (words : Li
         each = length-set places p new ∙ s.each;
         legal = s.legal;
         below = s.below;
-        counts = subst (λ z. Counts h z (set places p new)) (sym same_locked) (counts_after h h (slice_index words locked_at) (slice_index words locked_at) places p old new s.counts at refl refl);
+        counts = subst (λ z. CountsStand h z (set places p new)) (sym same_locked) (counts_after h h (slice_index words locked_at) (slice_index words locked_at) places p old new s.counts at refl refl);
         baton_stands = record {
           owner = s.baton_stands.owner ∙ ap owner_in is.0;
           fit = (subst (λ z. 0 < z) (sym same_locked) fit.0, λ e. some_number (sym one ∙ e));
@@ -158,11 +158,11 @@ module _ {T : Type 0} (n : ℕ) (built : T) (h : List (LockEntry T)) (words : Li
         lists = record {
           chain = subst (λ z. IsChain (next_in other) z stack) (sym same_head) (chain_kept (next_in words) (next_in other) _ stack s.lists.chain (every _ stack w.next));
           list = (home, refl);
-          linked = each_set (IsLinked words) (IsLinked other) places p new s.lists.linked tt (λ q place ne atq z. linked_kept words other q place (w.next q) z);
+          linked = each_set (LinkStands words) (LinkStands other) places p new s.lists.linked tt (λ q place ne atq z. linked_kept words other q place (w.next q) z);
         };
         names = record {
           waiting = λ q waits. w.who q ∙ s.names.waiting q waits;
-          each = each_set (IsNamed h words) (IsNamed h other) places p new s.names.each tt (λ q place ne atq z. named_kept h words other q place (w.who q) z);
+          each = each_set (NameStands h words) (NameStands h other) places p new s.names.each tt (λ q place ne atq z. named_kept h words other q place (w.who q) z);
         };
         looks = record {
           numbered = each_set (λ q place. IsNumbered place) (λ q place. IsNumbered place) places p new s.looks.numbered some_number (λ q place ne atq z. z);
@@ -171,7 +171,7 @@ module _ {T : Type 0} (n : ℕ) (built : T) (h : List (LockEntry T)) (words : Li
       }
 
   -- the hand-off is taken: the number that was loaded, or stored, still stands there
-  module _ (side : Side) (old : Place) (k : ℕ) (at : get_elem? places p ≡ some old) (there : slice_index words handoff_at ≡ k) (some_number : k ≢ 0) where
+  module _ (side : Side) (old : PassPlace) (k : ℕ) (at : get_elem? places p ≡ some old) (there : slice_index words handoff_at ≡ k) (some_number : k ≢ 0) where
     pub offered_now : b ≡ Offered
     offered_now = offered_at b _ _ s.baton_stands.fit (λ e. some_number (sym there ∙ e))
 
@@ -197,7 +197,7 @@ module _ {T : Type 0} (n : ℕ) (built : T) (h : List (LockEntry T)) (words : Li
           each = length-set places p new ∙ s.each;
           legal = s.legal;
           below = s.below;
-          counts = subst (λ z. Counts h z (set places p new)) (sym same_locked) (counts_after h h (slice_index words locked_at) (slice_index words locked_at) places p old new s.counts at (ap (λ z. slice_index words locked_at + bit z) (sym line)) (ap (λ z. one_if (owner_of h) + length (waiters_of h) + bit z + slice_index words locked_at) (sym before)));
+          counts = subst (λ z. CountsStand h z (set places p new)) (sym same_locked) (counts_after h h (slice_index words locked_at) (slice_index words locked_at) places p old new s.counts at (ap (λ z. slice_index words locked_at + bit z) (sym line)) (ap (λ z. one_if (owner_of h) + length (waiters_of h) + bit z + slice_index words locked_at) (sym before)));
           baton_stands = record {
             owner = s.baton_stands.owner ∙ ap owner_in offered_now;
             fit = (subst (λ z. 0 < z) (sym same_locked) fit.0, one);
@@ -208,11 +208,11 @@ module _ {T : Type 0} (n : ℕ) (built : T) (h : List (LockEntry T)) (words : Li
           lists = record {
             chain = subst (λ z. IsChain (next_in other) z stack) (sym same_head) (chain_kept (next_in words) (next_in other) _ stack s.lists.chain (every _ stack w.next));
             list = list;
-            linked = each_set (IsLinked words) (IsLinked other) places p new s.lists.linked tt (λ q place ne atq z. linked_kept words other q place (w.next q) z);
+            linked = each_set (LinkStands words) (LinkStands other) places p new s.lists.linked tt (λ q place ne atq z. linked_kept words other q place (w.next q) z);
           };
           names = record {
             waiting = λ q waits. w.who q ∙ s.names.waiting q waits;
-            each = each_set (IsNamed h words) (IsNamed h other) places p new s.names.each tt (λ q place ne atq z. named_kept h words other q place (w.who q) z);
+            each = each_set (NameStands h words) (NameStands h other) places p new s.names.each tt (λ q place ne atq z. named_kept h words other q place (w.who q) z);
           };
           looks = record {
             numbered = each_set (λ q place. IsNumbered place) (λ q place. IsNumbered place) places p new s.looks.numbered tt (λ q place ne atq z. z);

@@ -5,11 +5,11 @@ use mathlib.Core.Option.{Option as Opt, some}
 use lib.ListN.{get_elem?}
 use Rattle.aio_chain.proofs.Chains.{Each}
 use Rattle.aio_model.specs.LockHistory.{LockEntry, waiters_of, coroutine_of, value_of}
-use Rattle.co_mutex.specs.Places.{Side, ToPop, Walking, Nobody, Granting, Place, AtRest, Counted, Named, HeadLoaded, Linked, Pushed, Loaded, Queued, SelfGranted, Holds, OnDuty, Published, Found, is_holding}
+use Rattle.co_mutex.specs.Places.{Side, ToPop, Walking, Nobody, Granting, PassPlace, AtRest, Counted, Named, HeadLoaded, Linked, Pushed, Loaded, Queued, SelfGranted, Holds, OnDuty, Published, Found, is_holding}
 use Rattle.co_mutex.specs.LockWords.{next_at, grant_at, who_at, next_in}
 use Rattle.co_mutex.specs.declared.slot.Slot.{Slot}
 use Rattle.co_mutex.specs.declared.slot.Slot.TheVariants.{Value}
-use Rattle.co_mutex.specs.Rule.{Baton, Free, Owned, Duty, Offered, EachPlace, owner_in, Fit, IsAt, grant_word, ValueStands, IsHome, IsNamed}
+use Rattle.co_mutex.specs.Rule.{Baton, Free, Owned, Duty, Offered, EachPlace, owner_in, Fit, IsAt, grant_word, ValueStands, IsHome, NameStands}
 use Rattle.co_mutex.proofs.Frames.{read_else}
 use Rattle.co_mutex.proofs.Quiet.{Touches}
 
@@ -44,26 +44,26 @@ none_of_length [] e = refl
 none_of_length (x ∷ xs) e = absurd (omega (arith, e))
 
 -- a grant word that is 1 is the owner's
-pub owned_at_one : (b : Baton) (p : ℕ) (place : Place) → grant_word b p place ≡ 1 → b ≡ Owned p
+pub owned_at_one : (b : Baton) (p : ℕ) (place : PassPlace) → grant_word b p place ≡ 1 → b ≡ Owned p
 owned_at_one Free p place e = absurd (omega (arith, e))
 owned_at_one (Owned q) p place e =
     ⊎_elim (λ same. ap Owned same) (λ ne. (let other : eqb q p ≡ false = ne_eqb q p ne in let none_there : grant_word (Owned q) p place ≡ 0 = ap (λ k. cond (k && not (is_holding place)) 1 0) other in absurd (omega (arith, e, none_there)))) (cases_eq q p)
 owned_at_one (Duty q) p place e = absurd (omega (arith, e))
 owned_at_one Offered p place e = absurd (omega (arith, e))
 
-pub owned_else : (q r : ℕ) (place : Place) → q ≢ r → grant_word (Owned q) r place ≡ 0
+pub owned_else : (q r : ℕ) (place : PassPlace) → q ≢ r → grant_word (Owned q) r place ≡ 0
 owned_else q r place ne =
     let other : eqb q r ≡ false = ne_eqb q r ne in
     ap (λ k. cond (k && not (is_holding place)) 1 0) other
 
 -- only the owner's is 1, so another's is 0
-pub grant_else : (b : Baton) (r : ℕ) (place : Place) → b ≢ Owned r → grant_word b r place ≡ 0
+pub grant_else : (b : Baton) (r : ℕ) (place : PassPlace) → b ≢ Owned r → grant_word b r place ≡ 0
 grant_else Free r place ne = refl
 grant_else (Owned q) r place ne = owned_else q r place (λ e. ne (ap Owned e))
 grant_else (Duty q) r place ne = refl
 grant_else Offered r place ne = refl
 
-pub owned_here : (p : ℕ) (place : Place) → is_holding place ≡ false → grant_word (Owned p) p place ≡ 1
+pub owned_here : (p : ℕ) (place : PassPlace) → is_holding place ≡ false → grant_word (Owned p) p place ≡ 1
 owned_here p place isnt =
     let same : eqb p p ≡ true = eq-eqb p p refl in
     ap (λ k. cond (k && not (is_holding place)) 1 0) same ∙ ap (λ k. cond (true && not k) 1 0) isnt
@@ -95,7 +95,7 @@ every P (x ∷ xs) f = (f x, every P xs f)
 
 module _ {T : Type 0} where
   -- names stay with an entry that pushes nobody
-  pub named_grown : (h g : List (LockEntry T)) (words other : List ℕ) (q : ℕ) (place : Place) → ((r : ℕ) → coroutine_of r g ≡ coroutine_of r h) → slice_index other (who_at q) ≡ slice_index words (who_at q) → IsNamed h words q place → IsNamed g other q place
+  pub named_grown : (h g : List (LockEntry T)) (words other : List ℕ) (q : ℕ) (place : PassPlace) → ((r : ℕ) → coroutine_of r g ≡ coroutine_of r h) → slice_index other (who_at q) ≡ slice_index words (who_at q) → NameStands h words q place → NameStands g other q place
   named_grown h g words other q AtRest same e is = tt
   named_grown h g words other q Counted same e is = tt
   named_grown h g words other q (Named co) same e is = e ∙ is
@@ -118,7 +118,7 @@ module _ {T : Type 0} where
       record { long = w.long; grants = w.grants; next = λ q ne. w.next q; who = λ q ne. w.who q; own = λ k. (w.next p, w.who p) }
 
   -- names stay with an entry, where it isn't about who is to be granted
-  pub named_else : (h g : List (LockEntry T)) (words other : List ℕ) (q : ℕ) (place : Place) → ((side : Side) (r co : ℕ) (rest : List ℕ) → place ≡ OnDuty side (Granting r co rest) → coroutine_of r g ≡ coroutine_of r h) → slice_index other (who_at q) ≡ slice_index words (who_at q) → IsNamed h words q place → IsNamed g other q place
+  pub named_else : (h g : List (LockEntry T)) (words other : List ℕ) (q : ℕ) (place : PassPlace) → ((side : Side) (r co : ℕ) (rest : List ℕ) → place ≡ OnDuty side (Granting r co rest) → coroutine_of r g ≡ coroutine_of r h) → slice_index other (who_at q) ≡ slice_index words (who_at q) → NameStands h words q place → NameStands g other q place
   named_else h g words other q AtRest same e is = tt
   named_else h g words other q Counted same e is = tt
   named_else h g words other q (Named co) same e is = e ∙ is
@@ -137,12 +137,12 @@ module _ {T : Type 0} where
   named_else h g words other q (Found n) same e is = tt
 
   -- where a pass holds, or the baton is no pass's, no place but its own is Holds
-  pub none_holds : (h : List (LockEntry T)) (b : Baton) (places : List Place) → EachPlace (IsAt h b) places → ((q : ℕ) → b ≢ Owned q) → EachPlace (λ q place. place ≢ Holds) places
+  pub none_holds : (h : List (LockEntry T)) (b : Baton) (places : List PassPlace) → EachPlace (IsAt h b) places → ((q : ℕ) → b ≢ Owned q) → EachPlace (λ q place. place ≢ Holds) places
   none_holds h b places each isnt q place at e =
       isnt q (subst (IsAt h b q) e (each q place at))
 
   -- so the value is at home
-  pub value_home : (built : T) (h : List (LockEntry T)) (homes : List (Opt (Slot T))) (places : List Place) → ValueStands built h homes places → EachPlace (λ q place. place ≢ Holds) places → get_elem? homes 0 ≡ some (some (Value (value_of built h)))
+  pub value_home : (built : T) (h : List (LockEntry T)) (homes : List (Opt (Slot T))) (places : List PassPlace) → ValueStands built h homes places → EachPlace (λ q place. place ≢ Holds) places → get_elem? homes 0 ≡ some (some (Value (value_of built h)))
   value_home built h homes places is none_there =
       ⊎_elim (λ held. absurd (none_there held.0 Holds held.1 refl)) (λ home. home.1) is
 

@@ -8,7 +8,7 @@ use Rattle.co_mutex.specs.declared.lock.CoMutex.{CoMutex}
 use Rattle.co_mutex.specs.declared.lock.Pass.{Pass}
 use Rattle.aio_model.specs.LockHistory.{LockEntry}
 use Rattle.co_mutex.specs.LockWords.{head_at, next_at, grant_at, who_at}
-use Rattle.co_mutex.specs.Places.{Place, Counted, HeadLoaded, Linked, Queued, SelfGranted}
+use Rattle.co_mutex.specs.Places.{PassPlace, Counted, HeadLoaded, Linked, Queued, SelfGranted}
 use Rattle.co_mutex.specs.Known.{GrantSwap, Done, Known, moves, learns, makes}
 use Rattle.co_mutex.specs.Seats.{Kept}
 use Rattle.co_mutex.specs.Plays.{done, Is, Makes, stored_who, stored_next, compared_head, FindsGrant, TakesOwn, finds_at, swapped_grant}
@@ -35,15 +35,15 @@ module _ {T : Type 0} where
   kept_as v w c after e k =
       subst (λ (z : Known T). IsKept v z) (sym (ap (λ (z : M T). z.0) e)) k
 
-  pub kept_moves : (v : Known T) (place : Place) (d : Done) (c : List (ℕ × Slot T)) (after : M T) → after ≡ (moves v place d, c) → IsKept v after.0
+  pub kept_moves : (v : Known T) (place : PassPlace) (d : Done) (c : List (ℕ × Slot T)) (after : M T) → after ≡ (moves v place d, c) → IsKept v after.0
   kept_moves v place d c after e =
       kept_as v (moves v place d) c after e (record { opened = refl; passes = refl; live = refl; number = refl })
 
-  pub kept_learns : (v : Known T) (place : Place) (d : Done) (h : List (LockEntry T)) (c : List (ℕ × Slot T)) (after : M T) → after ≡ (learns v place d h, c) → IsKept v after.0
+  pub kept_learns : (v : Known T) (place : PassPlace) (d : Done) (h : List (LockEntry T)) (c : List (ℕ × Slot T)) (after : M T) → after ≡ (learns v place d h, c) → IsKept v after.0
   kept_learns v place d h c after e =
       kept_as v (learns v place d h) c after e (record { opened = refl; passes = refl; live = refl; number = refl })
 
-  pub kept_makes : (v : Known T) (place : Place) (d : Done) (h : List (LockEntry T)) (entry : LockEntry T) (c : List (ℕ × Slot T)) (after : M T) → Makes entry place d h c v after → IsKept v after.0
+  pub kept_makes : (v : Known T) (place : PassPlace) (d : Done) (h : List (LockEntry T)) (entry : LockEntry T) (c : List (ℕ × Slot T)) (after : M T) → Makes entry place d h c v after → IsKept v after.0
   kept_makes v place d h entry c after m =
       kept_as v (makes v place d h entry) c after m.is (record { opened = refl; passes = refl; live = refl; number = refl })
 

@@ -9,11 +9,11 @@ use Rattle.aio_model.specs.LockHistory.{LockEntry, made_by}
 use Rattle.co_mutex.specs.declared.slot.Slot.{Slot}
 use Rattle.co_mutex.specs.declared.slot.Slot.TheVariants.{Value}
 use Rattle.co_mutex.specs.declared.rule.Opened.{Opened}
-use Rattle.co_mutex.specs.Places.{Place, AtRest, is_owning}
+use Rattle.co_mutex.specs.Places.{PassPlace, AtRest, is_owning}
 use Rattle.co_mutex.specs.LockWords.{word_count}
 use Rattle.co_mutex.specs.Rule.{Popped, Free}
-use Rattle.co_mutex.specs.Known.{Part, Known, new_known}
-use Rattle.co_mutex.specs.Seats.{IsPart, IsSeat, SeatsStand, Kept}
+use Rattle.co_mutex.specs.Known.{OtherPart, Known, new_known}
+use Rattle.co_mutex.specs.Seats.{IsPassPart, IsSeat, SeatsStand, Kept}
 use Rattle.co_mutex.specs.Closing.{In}
 use Rattle.co_mutex.specs.Opening.{new_parts, first_of}
 use Rattle.co_mutex.proofs.Ends.{start_stands}
@@ -35,7 +35,7 @@ module _ {A : Type 0} where
 owning_rest : {X : Type 0} → is_owning AtRest ≡ true → X
 owning_rest e = (let bad : false ≡ true = e in absurd cc)
 
-pub all_rest_at : (n : ℕ) (p : ℕ) (place : Place) → get_elem? (replicate n AtRest) p ≡ some place → place ≡ AtRest
+pub all_rest_at : (n : ℕ) (p : ℕ) (place : PassPlace) → get_elem? (replicate n AtRest) p ≡ some place → place ≡ AtRest
 all_rest_at zero p place e = absurd (some-ne-none place (sym e))
 all_rest_at (suc n) zero place e = sym (some-injective AtRest place e)
 all_rest_at (suc n) (suc p) place e = all_rest_at n p place e
@@ -50,7 +50,7 @@ rest_long zero = refl
 rest_long (suc n) = ap suc (rest_long n)
 
 module _ {T : Type 0} where
-  new_at : (p n k : ℕ) (x : Part T) → get_elem? (new_parts p n) k ≡ some x → (x ≡ record { number = p + k; seen = []; mine = [] }) × (k < n)
+  new_at : (p n k : ℕ) (x : OtherPart T) → get_elem? (new_parts p n) k ≡ some x → (x ≡ record { number = p + k; seen = []; mine = [] }) × (k < n)
   new_at p zero k x e = absurd (some-ne-none x (sym e))
   new_at p (suc n) zero x e =
       (let same : p ≡ p + 0 = omega arith in sym (some-injective _ x e) ∙ ap (λ k. record { number = k; seen = []; mine = [] }) same, omega arith)
@@ -60,12 +60,12 @@ module _ {T : Type 0} where
       let less = t.1 in
       (t.0 ∙ ap (λ z. record { number = z; seen = []; mine = [] }) same, omega (arith, less))
 
-  pub reseat : (h : List (LockEntry T)) (seat other : ℕ → ℕ) (j k number : ℕ) (seen mine : List (LockEntry T)) → IsPart h seat j number seen mine → other number ≡ k → IsPart h other k number seen mine
+  pub reseat : (h : List (LockEntry T)) (seat other : ℕ → ℕ) (j k number : ℕ) (seen mine : List (LockEntry T)) → IsPassPart h seat j number seen mine → other number ≡ k → IsPassPart h other k number seen mine
   reseat h seat other j k number seen mine is e =
       record { sits = e; rest = is.rest; longer = is.longer; none_missed = is.none_missed; mine_is = is.mine_is }
 
   -- a seat whose parts all sit elsewhere now
-  pub moved_seat : (built : T) (h : List (LockEntry T)) (places : List Place) (seat other : ℕ → ℕ) (j k : ℕ) (u : Known T) → ((number : ℕ) → seat number ≡ j → (number ≡ u.number) ⊎ (number ≢ u.number) → other number ≡ k) → IsSeat built h places seat j u → IsSeat built h places other k u
+  pub moved_seat : (built : T) (h : List (LockEntry T)) (places : List PassPlace) (seat other : ℕ → ℕ) (j k : ℕ) (u : Known T) → ((number : ℕ) → seat number ≡ j → (number ≡ u.number) ⊎ (number ≢ u.number) → other number ≡ k) → IsSeat built h places seat j u → IsSeat built h places other k u
   moved_seat built h places seat other j k u same is =
       record { opens = is.opens; sized = is.sized; placed = is.placed; part = reseat h seat other j k u.number u.seen u.mine is.part (same u.number is.part.sits (inl refl)); value = is.value; others = λ i x atx. (let t = is.others i x atx in (reseat h seat other j k x.number x.seen x.mine t.0 (same x.number t.0.sits (inr t.2)), t.1, t.2)) }
 
@@ -99,7 +99,7 @@ module _ {T N : Type 0} (note : T → ℕ → N) (n : ℕ) (built : T) where
       left_seat : IsSeat built r.history r.places seat id (new_known o size (suc p) (new_parts (suc (suc p)) m))
       left_seat =
           let first = mine.others 0 (record { number = suc p; seen = []; mine = [] }) refl in
-          record { opens = mine.opens; sized = mine.sized; placed = first.1; part = reseat r.history r.seat seat id id (suc p) [] [] first.0 (far (suc p) (λ e. omega (arith, e)) ∙ first.0.sits); value = λ owns. owning_rest owns; others = λ k x atx. (let t = mine.others (suc k) x atx in let e = (new_at (suc (suc p)) m k x atx).0 in let number : x.number ≡ suc (suc p) + k = ap (λ (z : Part T). z.number) e in (reseat r.history r.seat seat id id x.number x.seen x.mine t.0 (far x.number (λ q. omega (arith, number, q)) ∙ t.0.sits), t.1, λ q. omega (arith, number, q))) }
+          record { opens = mine.opens; sized = mine.sized; placed = first.1; part = reseat r.history r.seat seat id id (suc p) [] [] first.0 (far (suc p) (λ e. omega (arith, e)) ∙ first.0.sits); value = λ owns. owning_rest owns; others = λ k x atx. (let t = mine.others (suc k) x atx in let e = (new_at (suc (suc p)) m k x atx).0 in let number : x.number ≡ suc (suc p) + k = ap (λ (z : OtherPart T). z.number) e in (reseat r.history r.seat seat id id x.number x.seen x.mine t.0 (far x.number (λ q. omega (arith, number, q)) ∙ t.0.sits), t.1, λ q. omega (arith, number, q))) }
 
       front_seat : IsSeat built r.history r.places seat (length s.views) (new_known o size p [])
       front_seat =
@@ -126,7 +126,7 @@ module _ {T N : Type 0} (note : T → ℕ → N) (n : ℕ) (built : T) where
     where
       first : IsSeat built [] (replicate n AtRest) (λ k. 0) 0 (first_of key)
       first =
-          record { opens = ap Some (sym value); sized = sym size ∙ sym (rest_long n); placed = rest_at n 0 (subst (λ z. 0 < z) (sym size) some_pass); part = record { sits = refl; rest = []; longer = refl; none_missed = refl; mine_is = refl }; value = λ owns. owning_rest owns; others = λ k x atx. (let t = new_at 1 (pred key.passes) k x atx in let number : x.number ≡ 1 + k = ap (λ (z : Part T). z.number) t.0 in let seen : x.seen ≡ [] = ap (λ (z : Part T). z.seen) t.0 in let made : x.mine ≡ [] = ap (λ (z : Part T). z.mine) t.0 in let less = t.1 in let low : x.number < n = omega (arith, number, less, size) in (record { sits = refl; rest = []; longer = sym seen; none_missed = refl; mine_is = ap (made_by x.number) seen ∙ sym made }, rest_at n x.number low, λ q. omega (arith, number, q))) }
+          record { opens = ap Some (sym value); sized = sym size ∙ sym (rest_long n); placed = rest_at n 0 (subst (λ z. 0 < z) (sym size) some_pass); part = record { sits = refl; rest = []; longer = refl; none_missed = refl; mine_is = refl }; value = λ owns. owning_rest owns; others = λ k x atx. (let t = new_at 1 (pred key.passes) k x atx in let number : x.number ≡ 1 + k = ap (λ (z : OtherPart T). z.number) t.0 in let seen : x.seen ≡ [] = ap (λ (z : OtherPart T). z.seen) t.0 in let made : x.mine ≡ [] = ap (λ (z : OtherPart T). z.mine) t.0 in let less = t.1 in let low : x.number < n = omega (arith, number, less, size) in (record { sits = refl; rest = []; longer = sym seen; none_missed = refl; mine_is = ap (made_by x.number) seen ∙ sym made }, rest_at n x.number low, λ q. omega (arith, number, q))) }
 
       seats : SeatsStand built [] (replicate n AtRest) (λ k. 0) (first_of key ∷ [])
       seats zero u e lives = subst (IsSeat built [] (replicate n AtRest) (λ k. 0) 0) (some-injective (first_of key) u e) first

@@ -5,11 +5,11 @@ use lib.ListN.{get_elem?}
 use Rattle.atomic_table.proofs.Lists.{set_here}
 use Rattle.aio_chain.specs.Chains.{IsChain}
 use Rattle.aio_chain.proofs.Chains.{Each, chain_kept, none_taken}
-use Rattle.aio_model.specs.LockHistory.{LockEntry, Waits, waiters_of}
-use Rattle.co_mutex.specs.Places.{Side, Locking, Unlocking, Task, ToPop, Walking, Nobody, Granting, Place, OnDuty, is_in_line, IsNumbered, pending}
+use Rattle.aio_model.specs.LockHistory.{LockEntry, IsWaitingIn, waiters_of}
+use Rattle.co_mutex.specs.Places.{Side, Locking, Unlocking, Task, ToPop, Walking, Nobody, Granting, PassPlace, OnDuty, is_in_line, IsNumbered, pending}
 use Rattle.co_mutex.specs.LockWords.{locked_at, handoff_at, head_at, next_at, grant_at, who_at, next_in}
 use Rattle.co_mutex.specs.declared.slot.Slot.{Slot}
-use Rattle.co_mutex.specs.Rule.{Baton, Duty, Offered, Fit, IsAt, Counts, grant_word, IsTask, IsWith, ListIs, IsLinked, IsNamed, Stands}
+use Rattle.co_mutex.specs.Rule.{Baton, Duty, Offered, Fit, IsAt, CountsStand, grant_word, IsTask, IsWith, ListIs, LinkStands, NameStands, Stands}
 use Rattle.co_mutex.proofs.Counting.{bit}
 use Rattle.co_mutex.proofs.Frames.{read_here, read_else, each_set, linked_kept, counts_after}
 use Rattle.co_mutex.proofs.ListSteps.{taken_last, walked_on, walk_of}
@@ -38,7 +38,7 @@ module _ {T : Type 0} where
   at_duty h b p Locking t is = is.0
   at_duty h b p Unlocking t is = is.0
 
-module _ {T : Type 0} (n : ℕ) (built : T) (h : List (LockEntry T)) (words : List ℕ) (homes : List (Opt (Slot T))) (places : List Place) (b : Baton) (stack : List ℕ) (s : Stands n built h words homes places b stack) (p : ℕ) (side : Side) (t : Task) (at : get_elem? places p ≡ some (OnDuty side t)) where
+module _ {T : Type 0} (n : ℕ) (built : T) (h : List (LockEntry T)) (words : List ℕ) (homes : List (Opt (Slot T))) (places : List PassPlace) (b : Baton) (stack : List ℕ) (s : Stands n built h words homes places b stack) (p : ℕ) (side : Side) (t : Task) (at : get_elem? places p ≡ some (OnDuty side t)) where
   pub mine : b ≡ Duty p
   mine = at_duty h b p side t (s.baton_stands.each p (OnDuty side t) at)
 
@@ -50,7 +50,7 @@ module _ {T : Type 0} (n : ℕ) (built : T) (h : List (LockEntry T)) (words : Li
       let same : OnDuty with_me.side with_me.task ≡ OnDuty side t = some-injective _ _ (sym with_me.place ∙ at) in
       cc
 
-  pub duty_stands : (u : Task) (other stack2 : List ℕ) → HeadOnly words other → IsChain (next_in other) (slice_index other head_at) stack2 → IsTask (next_in other) u → waiters_of h ≡ pending u ++ reverse stack2 → IsNamed h other p (OnDuty side u) → Stands n built h other homes (set places p (OnDuty side u)) b stack2
+  pub duty_stands : (u : Task) (other stack2 : List ℕ) → HeadOnly words other → IsChain (next_in other) (slice_index other head_at) stack2 → IsTask (next_in other) u → waiters_of h ≡ pending u ++ reverse stack2 → NameStands h other p (OnDuty side u) → Stands n built h other homes (set places p (OnDuty side u)) b stack2
   duty_stands u other stack2 only chain task waiters named =
       let new = OnDuty side u in
       let old = OnDuty side t in
@@ -61,7 +61,7 @@ module _ {T : Type 0} (n : ℕ) (built : T) (h : List (LockEntry T)) (words : Li
         each = length-set places p new ∙ s.each;
         legal = s.legal;
         below = s.below;
-        counts = subst (λ k. Counts h k (set places p new)) (sym only.locked) (counts_after h h (slice_index words locked_at) (slice_index words locked_at) places p old new s.counts at (ap (λ k. slice_index words locked_at + bit k) (line_task side u t)) refl);
+        counts = subst (λ k. CountsStand h k (set places p new)) (sym only.locked) (counts_after h h (slice_index words locked_at) (slice_index words locked_at) places p old new s.counts at (ap (λ k. slice_index words locked_at + bit k) (line_task side u t)) refl);
         baton_stands = record {
           owner = s.baton_stands.owner;
           fit = subst (λ k. Fit b k (slice_index other handoff_at)) (sym only.locked) (subst (λ k. Fit b (slice_index words locked_at) k) (sym only.handoff) s.baton_stands.fit);
@@ -72,11 +72,11 @@ module _ {T : Type 0} (n : ℕ) (built : T) (h : List (LockEntry T)) (words : Li
         lists = record {
           chain = chain;
           list = subst (λ k. ListIs k h other homes (set places p new) stack2) (sym mine) list;
-          linked = each_set (IsLinked words) (IsLinked other) places p new s.lists.linked tt (λ q place ne atq k. linked_kept words other q place (only.next q) k);
+          linked = each_set (LinkStands words) (LinkStands other) places p new s.lists.linked tt (λ q place ne atq k. linked_kept words other q place (only.next q) k);
         };
         names = record {
           waiting = λ q waits. only.who q ∙ s.names.waiting q waits;
-          each = each_set (IsNamed h words) (IsNamed h other) places p new s.names.each named (λ q place ne atq k. named_kept h words other q place (only.who q) k);
+          each = each_set (NameStands h words) (NameStands h other) places p new s.names.each named (λ q place ne atq k. named_kept h words other q place (only.who q) k);
         };
         looks = record {
           numbered = each_set (λ q place. IsNumbered place) (λ q place. IsNumbered place) places p new s.looks.numbered tt (λ q place ne atq k. k);
@@ -128,7 +128,7 @@ module _ {T : Type 0} (n : ℕ) (built : T) (h : List (LockEntry T)) (words : Li
       let bare : stack ≡ [] = none_taken (next_in words) (slice_index words head_at) stack s.lists.chain empty in
       let all : waiters_of h ≡ [] = waiters_now ∙ ap (λ k. pending k ++ reverse stack) is ∙ ap reverse bare in
       let waits = (subst (λ k. IsAt h b p (OnDuty k t)) lock (s.baton_stands.each p (OnDuty side t) at)).1 in
-      subst (Waits p) all waits
+      subst (IsWaitingIn p) all waits
 
   -- a next load: the word leads to a waiter, and it is put in front of those that were found
   pub record Steps (word : ℕ) (left found : List ℕ) : Type 0 where
@@ -160,4 +160,4 @@ module _ {T : Type 0} (n : ℕ) (built : T) (h : List (LockEntry T)) (words : Li
   pub who_loaded : (q : ℕ) (rest : List ℕ) → t ≡ ToPop (q ∷ rest) → Stands n built h words homes (set places p (OnDuty side (Granting q (slice_index words (who_at q)) rest))) b stack
   who_loaded q rest is =
       let all = waiters_now ∙ ap (λ k. pending k ++ reverse stack) is in
-      duty_stands (Granting q (slice_index words (who_at q)) rest) words stack same_words s.lists.chain tt all (s.names.waiting q (subst (Waits q) (sym all) (inl refl)))
+      duty_stands (Granting q (slice_index words (who_at q)) rest) words stack same_words s.lists.chain tt all (s.names.waiting q (subst (IsWaitingIn q) (sym all) (inl refl)))

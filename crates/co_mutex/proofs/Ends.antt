@@ -3,7 +3,7 @@ use Rattle.std.proofs.Common.{◌≡◌, ℕ, ◌≤◌, inr, Bool, false, None,
 use mathlib.Core.Option.{Option as Opt, some}
 use lib.ListN.{get_elem?}
 use Rattle.aio_model.specs.LockHistory.{LockEntry, owner_of, waiters_of, value_of}
-use Rattle.co_mutex.specs.Places.{Place, AtRest, Holds, is_in_line, is_before_push, count}
+use Rattle.co_mutex.specs.Places.{PassPlace, AtRest, Holds, is_in_line, is_before_push, count}
 use Rattle.co_mutex.specs.LockWords.{locked_at, handoff_at, head_at, grant_at, word_count}
 use Rattle.co_mutex.specs.declared.slot.Slot.{Slot}
 use Rattle.co_mutex.specs.declared.slot.Slot.TheVariants.{Value}
@@ -11,14 +11,14 @@ use Rattle.co_mutex.specs.Rule.{Popped, Baton, Free, Owned, Duty, Offered, EachP
 use Rattle.co_mutex.proofs.Counting.{bit, count_low}
 use Rattle.co_mutex.proofs.Batons.{free_at_zero, none_holds, value_home}
 
-count_none : (test : Place → Bool) (places : List Place) → EachPlace (λ p place. test place ≡ false) places → count test places ≡ 0
+count_none : (test : PassPlace → Bool) (places : List PassPlace) → EachPlace (λ p place. test place ≡ false) places → count test places ≡ 0
 count_none test [] h = refl
 count_none test (x ∷ xs) h =
     let here : bit (test x) ≡ 0 = ap bit (h 0 x refl) in
     let rest = count_none test xs (λ p place at. h (suc p) place at) in
     omega (arith, here, rest)
 
-module _ {T : Type 0} (n : ℕ) (built : T) (h : List (LockEntry T)) (words : List ℕ) (homes : List (Opt (Slot T))) (places : List Place) (b : Baton) (stack : List ℕ) where
+module _ {T : Type 0} (n : ℕ) (built : T) (h : List (LockEntry T)) (words : List ℕ) (homes : List (Opt (Slot T))) (places : List PassPlace) (b : Baton) (stack : List ℕ) where
   -- all passes are at rest, so the lock is free and the value at home
   pub all_rest : Stands n built h words homes places b stack → EachPlace (λ p place. place ≡ AtRest) places → (owner_of h ≡ None) × (waiters_of h ≡ []) × (get_elem? homes 0 ≡ some (some (Value (value_of built h))))
   all_rest s rests =
@@ -55,9 +55,9 @@ module _ {T : Type 0} (n : ℕ) (built : T) (h : List (LockEntry T)) (words : Li
 
 module _ {T : Type 0} where
   -- the start
-  pub start_stands : (n last : ℕ) (built : T) (words : List ℕ) (places : List Place) → length words ≡ word_count n → ((k : ℕ) → slice_index words k ≡ 0) → length places ≡ n → EachPlace (λ p place. place ≡ AtRest) places → Stands n built [] words (some (Value built) ∷ some (Popped [] last) ∷ []) places Free []
+  pub start_stands : (n last : ℕ) (built : T) (words : List ℕ) (places : List PassPlace) → length words ≡ word_count n → ((k : ℕ) → slice_index words k ≡ 0) → length places ≡ n → EachPlace (λ p place. place ≡ AtRest) places → Stands n built [] words (some (Value built) ∷ some (Popped [] last) ∷ []) places Free []
   start_stands n last built words places long zeros each rests =
-      let at_rest : (P : ℕ → Place → Type 0) → ((p : ℕ) → P p AtRest) → EachPlace P places = λ P f p place at. subst (P p) (sym (rests p place at)) (f p) in
+      let at_rest : (P : ℕ → PassPlace → Type 0) → ((p : ℕ) → P p AtRest) → EachPlace P places = λ P f p place at. subst (P p) (sym (rests p place at)) (f p) in
       record {
         long = long;
         each = each;

@@ -7,12 +7,12 @@ use Rattle.aio_model.specs.LockSeats.{StandsInLock}
 use Rattle.co_mutex.specs.declared.slot.Slot.TheVariants.{Value, Out}
 use Rattle.co_state.specs.declared.cx.CoId.{CoId}
 use Rattle.co_mutex.specs.LockWords.{head_at, handoff_at, grant_at, who_at}
-use Rattle.co_mutex.specs.Places.{Locking, Place, ToPop, Pushed, Loaded, Queued, SelfGranted, Holds, OnDuty, after_grant}
+use Rattle.co_mutex.specs.Places.{Locking, PassPlace, ToPop, Pushed, Loaded, Queued, SelfGranted, Holds, OnDuty, after_grant}
 use Rattle.co_mutex.specs.Known.{Kind, HeadCompare, HandoffLoad, HandoffCompare, WhoLoad, GrantStore, GrantSwap, Done, Known, moves, makes, advances, GoesOn}
 use Rattle.co_mutex.specs.Plays.{done, TakesDuty, TakesOwn}
 use Rattle.std.proofs.lemmas.Bool.{and_parts}
 use Rattle.std.specs.Cmp.Derive.{both_true}
-use Rattle.co_mutex.specs.Waking.{is_numbered, AllOf, pushes, takes_up, walks, PushedFor, LookedAt, Woke}
+use Rattle.co_mutex.specs.Waking.{is_numbered, AllOfKinds, pushes, takes_up, walks, PushedFor, LooksAtHandOff, WokePass}
 use Rattle.co_mutex.specs.Calls.{finishes, Did, Comes, Names, word_of, HoldsNow}
 use Rattle.co_mutex.proofs.Calls.{stands_one, stands_more}
 use Rattle.co_mutex.proofs.Codes.{M}
@@ -20,7 +20,7 @@ use Rattle.co_mutex.proofs.Holding.{held_of, first_value}
 use Rattle.co_mutex.proofs.WakeOne.{all_append}
 
 -- one test is as wide as another
-pub all_wider : (test other : Kind → Bool) → ((k : Kind) → test k ≡ true → other k ≡ true) → (xs : List Done) → AllOf test xs → AllOf other xs
+pub all_wider : (test other : Kind → Bool) → ((k : Kind) → test k ≡ true → other k ≡ true) → (xs : List Done) → AllOfKinds test xs → AllOfKinds other xs
 all_wider test other f [] a = tt
 all_wider test other f (x ∷ xs) a =
     let parts = and_parts (test x.kind) (is_numbered x.kind x.found) a.0 in
@@ -80,7 +80,7 @@ from_walks Rattle.co_mutex.specs.Known.HandoffStore e = absurd cc
 from_walks Rattle.co_mutex.specs.Known.HandoffCompare e = absurd cc
 from_walks Rattle.co_mutex.specs.Known.SecondLook e = absurd cc
 
-pub did_more : (test : Kind → Bool) (before middle after : List Done) (steps : List Done) → Did test before middle → AllOf test steps → after ≡ steps ++ middle → Did test before after
+pub did_more : (test : Kind → Bool) (before middle after : List Done) (steps : List Done) → Did test before middle → AllOfKinds test steps → after ≡ steps ++ middle → Did test before after
 did_more test before middle after steps d kinds e =
     record { steps = steps ++ d.steps; is = e ∙ ap (λ (l : List Done). steps ++ l) d.is ∙ sym (append_assoc steps d.steps before); kinds = all_append test steps d.steps kinds d.kinds }
 
@@ -96,24 +96,24 @@ module _ {T : Type 0} where
       let w = makes (advances v v.place p.steps) Pushed (done HeadCompare head_at p.found) p.older (Wait v.number who) in
       subst (λ (z : Known T). Waited who v z) (sym (ap (λ (z : M T). z.0) p.makes.is)) record { number_is = refl; stands = stands_one v.number (Wait v.number who) p.older v.seen v.mine refl p.makes.goes p.makes.legal; did = record { steps = done HeadCompare head_at p.found ∷ p.steps; is = refl; kinds = (refl, all_wider pushes finishes from_pushes p.steps p.kinds) } }
 
-  waits_on : (who : ℕ) (v w : Known T) (place : Place) (steps : List Done) → AllOf finishes steps → Waited who v w → Waited who v (advances w place steps)
+  waits_on : (who : ℕ) (v w : Known T) (place : PassPlace) (steps : List Done) → AllOfKinds finishes steps → Waited who v w → Waited who v (advances w place steps)
   waits_on who v w place steps kinds h =
       record { number_is = h.number_is; stands = h.stands; did = did_more finishes v.did w.did (steps ++ w.did) steps h.did kinds refl }
 
   abbrev pub TakenUp : Bool → Known T → List Done → M T → Type 0
   TakenUp b v steps after = MatchBool b ((last : ℕ) × (after ≡ (advances v (OnDuty Locking (ToPop [])) steps, (1, Rattle.co_mutex.specs.Rule.Popped [] last) ∷ []))) (after ≡ (advances v Queued steps, []))
 
-  pub looked_waits : (who : ℕ) (taken : Bool) (v w : Known T) (after : M T) → Waited who v w → LookedAt taken w after → Waited who v after.0
+  pub looked_waits : (who : ℕ) (taken : Bool) (v w : Known T) (after : M T) → Waited who v w → LooksAtHandOff taken w after → Waited who v after.0
   looked_waits who taken v w after h l = by taken l.is
     where
-      wider : AllOf finishes l.steps
+      wider : AllOfKinds finishes l.steps
       wider = all_wider takes_up finishes from_takes_up l.steps l.kinds
 
       by : (b : Bool) → TakenUp b w l.steps after → Waited who v after.0
       by true is = subst (λ (z : Known T). Waited who v z) (sym (ap (λ (z : M T). z.0) is.1)) (waits_on who v w _ l.steps wider h)
       by false is = subst (λ (z : Known T). Waited who v z) (sym (ap (λ (z : M T). z.0) is)) (waits_on who v w _ l.steps wider h)
 
-  pub looked_queued : (taken : Bool) (w : Known T) (after : M T) → LookedAt taken w after → taken ≡ false → after.0.place ≡ Queued
+  pub looked_queued : (taken : Bool) (w : Known T) (after : M T) → LooksAtHandOff taken w after → taken ≡ false → after.0.place ≡ Queued
   looked_queued taken w after l e =
       ap (λ (z : M T). z.0.place) (subst (λ b. TakenUp b w l.steps after) e l.is)
 
@@ -130,7 +130,7 @@ module _ {T : Type 0} where
     pub named_is : named ≡ coroutine_of q older
     pub did : Did finishes v.did w.did
 
-  pub has_granted : (who q named : ℕ) (v w : Known T) (after : M T) → Waited who v w → Woke q named w after → HasGranted who q named v after.0
+  pub has_granted : (who q named : ℕ) (v w : Known T) (after : M T) → Waited who v w → WokePass q named w after → HasGranted who q named v after.0
   has_granted who q named v w after h woke =
       let kinds = all_wider walks finishes from_walks woke.steps woke.kinds in
       let t = woke.granted.1 in
@@ -175,17 +175,17 @@ module _ {T N : Type 0} (note : T → ℕ → N) (built : T) where
 
 -- the look at the hand-off
 module _ {T : Type 0} (v : Known T) (loaded : M T) (number : ℕ) (loads : loaded ≡ (moves v (cond (eqb number 0) Queued (Loaded number)) (done HandoffLoad handoff_at number), [])) where
-  pub look_none : number ≡ 0 → LookedAt false v loaded
+  pub look_none : number ≡ 0 → LooksAtHandOff false v loaded
   look_none e =
       record { steps = done HandoffLoad handoff_at number ∷ []; kinds = (refl, tt); is = loads ∙ ap (λ b. (moves v (cond b Queued (Loaded number)) (done HandoffLoad handoff_at number), [])) (eq-eqb number 0 e) }
 
-  pub look_took : number ≢ 0 → (after : M T) (found : ℕ) → MatchBool (eqb found number) (TakesDuty Locking found loaded.0 after) (after ≡ (moves loaded.0 Queued (done HandoffCompare handoff_at found), [])) → LookedAt (eqb found number) v after
+  pub look_took : number ≢ 0 → (after : M T) (found : ℕ) → MatchBool (eqb found number) (TakesDuty Locking found loaded.0 after) (after ≡ (moves loaded.0 Queued (done HandoffCompare handoff_at found), [])) → LooksAtHandOff (eqb found number) v after
   look_took ne after found told = by (eqb found number) told
     where
       is : loaded.0 ≡ moves v (Loaded number) (done HandoffLoad handoff_at number)
       is = ap (λ (z : M T). z.0) loads ∙ ap (λ b. moves v (cond b Queued (Loaded number)) (done HandoffLoad handoff_at number)) (ne_eqb number 0 ne)
 
-      by : (b : Bool) → MatchBool b (TakesDuty Locking found loaded.0 after) (after ≡ (moves loaded.0 Queued (done HandoffCompare handoff_at found), [])) → LookedAt b v after
+      by : (b : Bool) → MatchBool b (TakesDuty Locking found loaded.0 after) (after ≡ (moves loaded.0 Queued (done HandoffCompare handoff_at found), [])) → LooksAtHandOff b v after
       by true t =
           record { steps = done HandoffCompare handoff_at found ∷ done HandoffLoad handoff_at number ∷ []; kinds = (refl, (refl, tt)); is = (t.last, t.is ∙ ap (λ (z : Known T). (moves z (OnDuty Locking (ToPop [])) (done HandoffCompare handoff_at found), (1, Rattle.co_mutex.specs.Rule.Popped [] t.last) ∷ [])) is) }
       by false t =

@@ -9,10 +9,10 @@ use Rattle.aio_model.specs.LockHistory.{LockEntry, made_by, value_of, IsLegalLoc
 use Rattle.aio_model.specs.LockNotes.{IsNoted}
 use Rattle.co_mutex.specs.declared.slot.Slot.{Slot}
 use Rattle.co_mutex.specs.declared.slot.Slot.TheVariants.{Value}
-use Rattle.co_mutex.specs.Places.{Place, AtRest}
+use Rattle.co_mutex.specs.Places.{PassPlace, AtRest}
 use Rattle.co_mutex.specs.Rule.{Popped}
-use Rattle.co_mutex.specs.Known.{Part, Known, spent_known}
-use Rattle.co_mutex.specs.Seats.{IsPart, IsSeat, SeatsStand, Kept}
+use Rattle.co_mutex.specs.Known.{OtherPart, Known, spent_known}
+use Rattle.co_mutex.specs.Seats.{IsPassPart, IsSeat, SeatsStand, Kept}
 use Rattle.co_mutex.specs.Closing.{In}
 use Rattle.co_mutex.specs.Opening.{part_of, parts_of, joined}
 use Rattle.co_mutex.proofs.Ends.{all_rest}
@@ -45,18 +45,18 @@ module _ {T N : Type 0} (note : T → ℕ → N) (n : ℕ) (built : T) where
       theirs : IsSeat built r.history r.places r.seat other w
       theirs = r.seats other w was live
 
-      Good : Part T → Type 0
-      Good x = IsPart r.history seat id x.number x.seen x.mine × (get_elem? r.places x.number ≡ some AtRest) × (x.number ≢ v.number)
+      Good : OtherPart T → Type 0
+      Good x = IsPassPart r.history seat id x.number x.seen x.mine × (get_elem? r.places x.number ≡ some AtRest) × (x.number ≢ v.number)
 
       far : (number : ℕ) → r.seat number ≡ other → number ≢ v.number
       far number e q = apart (sym e ∙ ap r.seat q ∙ mine.part.sits)
 
-      from_mine : (k : ℕ) (x : Part T) → get_elem? v.others k ≡ some x → Good x
+      from_mine : (k : ℕ) (x : OtherPart T) → get_elem? v.others k ≡ some x → Good x
       from_mine k x atx =
           let t = mine.others k x atx in
           (reseat r.history r.seat seat id id x.number x.seen x.mine t.0 (stays x.number id (λ h. apart (sym h)) t.0.sits), t.1, t.2)
 
-      from_theirs : (k : ℕ) (x : Part T) → get_elem? (parts_of w) k ≡ some x → Good x
+      from_theirs : (k : ℕ) (x : OtherPart T) → get_elem? (parts_of w) k ≡ some x → Good x
       from_theirs zero x atx =
           subst Good (some-injective (part_of w) x atx) (reseat r.history r.seat seat other id w.number w.seen w.mine theirs.part (comes w.number theirs.part.sits), theirs.placed ∙ ap some resting, far w.number theirs.part.sits)
       from_theirs (suc k) x atx =
@@ -83,11 +83,11 @@ module _ {T N : Type 0} (note : T → ℕ → N) (n : ℕ) (built : T) where
     pub legal : IsLegalLock history
     pub noted : IsNoted note built history
     pub below : AreBelow n history
-    pub each : (x : Part T) → In x (parts_of view) → ((rest : List (LockEntry T)) × (history ≡ rest ++ x.seen)) × (made_by x.number history ≡ x.mine)
+    pub each : (x : OtherPart T) → In x (parts_of view) → ((rest : List (LockEntry T)) × (history ≡ rest ++ x.seen)) × (made_by x.number history ≡ x.mine)
     pub value : get_elem? xs 0 ≡ some (Value (value_of built history))
     pub list : (popped : List ℕ) × (last : ℕ) × (get_elem? xs 1 ≡ some (Popped popped last))
 
-  pub ends : (id : ℕ) (view : Known T) (ws : List ℕ) (xs : List (Slot T)) → Final (Seen (Kept note n built) id view) ws xs → view.live ≡ true → view.place ≡ AtRest → ((k : ℕ) → k < n → (x : Part T) × In x (parts_of view) × (x.number ≡ k)) → Ended view xs
+  pub ends : (id : ℕ) (view : Known T) (ws : List ℕ) (xs : List (Slot T)) → Final (Seen (Kept note n built) id view) ws xs → view.live ≡ true → view.place ≡ AtRest → ((k : ℕ) → k < n → (x : OtherPart T) × In x (parts_of view) × (x.number ≡ k)) → Ended view xs
   ends id view ws xs final lives resting all =
       record { history = r.history; legal = r.lock.legal; noted = r.noted; below = r.makers; each = each; value = final.4 0 (Value (value_of built r.history)) rests.2; list = (list.0, list.1, final.4 1 (Popped list.0 list.1) list.2) }
     where
@@ -100,20 +100,20 @@ module _ {T N : Type 0} (note : T → ℕ → N) (n : ℕ) (built : T) where
       mine : IsSeat built r.history r.places r.seat id view
       mine = r.seats id view final.1.1 lives
 
-      Good : Part T → Type 0
-      Good x = IsPart r.history r.seat id x.number x.seen x.mine × (get_elem? r.places x.number ≡ some AtRest)
+      Good : OtherPart T → Type 0
+      Good x = IsPassPart r.history r.seat id x.number x.seen x.mine × (get_elem? r.places x.number ≡ some AtRest)
 
-      good : (k : ℕ) (x : Part T) → get_elem? (parts_of view) k ≡ some x → Good x
+      good : (k : ℕ) (x : OtherPart T) → get_elem? (parts_of view) k ≡ some x → Good x
       good zero x atx =
           subst Good (some-injective (part_of view) x atx) (mine.part, mine.placed ∙ ap some resting)
       good (suc k) x atx = let t = mine.others k x atx in (t.0, t.1)
 
-      each : (x : Part T) → In x (parts_of view) → ((rest : List (LockEntry T)) × (r.history ≡ rest ++ x.seen)) × (made_by x.number r.history ≡ x.mine)
+      each : (x : OtherPart T) → In x (parts_of view) → ((rest : List (LockEntry T)) × (r.history ≡ rest ++ x.seen)) × (made_by x.number r.history ≡ x.mine)
       each x t =
           let p = (good t.0 x t.1).0 in
           ((p.rest, p.longer), made_whole r.history r.seat id x.number x.seen x.mine p)
 
-      resting_all : (p : ℕ) (place : Place) → get_elem? r.places p ≡ some place → place ≡ AtRest
+      resting_all : (p : ℕ) (place : PassPlace) → get_elem? r.places p ≡ some place → place ≡ AtRest
       resting_all p place e =
           let low = at_low r.places p place e in
           let size = r.lock.each in
@@ -168,7 +168,7 @@ module _ {A : Type 0} where
         ⊎_elim (λ (u : In p items). absurd (some-ne-none p (sym (subst (λ (z : List A). get_elem? z u.0 ≡ some p) none_left u.1)))) (λ (u : In (f p) parts). u) (kept p t)
 
 module _ {T : Type 0} where
-  pub joined_wider : (v w : Known T) (x : Part T) → In x (parts_of v) → In x (parts_of (joined v w))
+  pub joined_wider : (v w : Known T) (x : OtherPart T) → In x (parts_of v) → In x (parts_of (joined v w))
   joined_wider v w x t = (t.0, at_longer (parts_of v) (parts_of w) t.0 x t.1)
 
   pub joined_other : (v w : Known T) → In (part_of w) (parts_of (joined v w))

@@ -6,17 +6,17 @@ use Rattle.atomic_table.proofs.Lists.{set_here, set_else}
 use Rattle.aio_chain.specs.Chains.{IsChain}
 use Rattle.aio_chain.proofs.Chains.{chain_kept}
 use Rattle.aio_model.specs.LockHistory.{LockEntry, Got, owner_of, waiters_of, value_of}
-use Rattle.co_mutex.specs.Places.{Place, AtRest, Counted, Holds, IsNumbered}
+use Rattle.co_mutex.specs.Places.{PassPlace, AtRest, Counted, Holds, IsNumbered}
 use Rattle.co_mutex.specs.LockWords.{locked_at, handoff_at, head_at, grant_at, next_in}
 use Rattle.co_mutex.specs.declared.slot.Slot.{Slot}
 use Rattle.co_mutex.specs.declared.slot.Slot.TheVariants.{Value}
-use Rattle.co_mutex.specs.Rule.{Baton, Free, Owned, Duty, Offered, owner_in, Fit, IsAt, one_if, grant_word, ListIs, IsLinked, IsNamed, Stands}
+use Rattle.co_mutex.specs.Rule.{Baton, Free, Owned, Duty, Offered, owner_in, Fit, IsAt, one_if, grant_word, ListIs, LinkStands, NameStands, Stands}
 use Rattle.co_mutex.proofs.Frames.{read_here, read_else, each_set, linked_kept, counts_after, is_at_kept, owned_same}
 use Rattle.co_mutex.proofs.Quiet.{named_kept, grant_same, value_kept, list_kept}
 use Rattle.co_mutex.proofs.QuietSteps.{at_low}
 use Rattle.co_mutex.proofs.Batons.{free_at_zero, fit_more, none_of_length, owned_else, grant_else, holding_zero, low_set, every, named_grown, none_holds, value_home, home_kept}
 
-module _ {T : Type 0} (n : ℕ) (built : T) (h : List (LockEntry T)) (words : List ℕ) (homes : List (Opt (Slot T))) (places : List Place) (b : Baton) (stack : List ℕ) (s : Stands n built h words homes places b stack) (p : ℕ) where
+module _ {T : Type 0} (n : ℕ) (built : T) (h : List (LockEntry T)) (words : List ℕ) (homes : List (Opt (Slot T))) (places : List PassPlace) (b : Baton) (stack : List ℕ) (s : Stands n built h words homes places b stack) (p : ℕ) where
   pub low_fits : (k : ℕ) → k < 3 → k < length words
   low_fits k low = let long = s.long in omega (arith, long, low)
 
@@ -53,11 +53,11 @@ module _ {T : Type 0} (n : ℕ) (built : T) (h : List (LockEntry T)) (words : Li
           lists = record {
             chain = subst (λ k. IsChain (next_in other) k stack) (sym (read_else words locked_at head_at 1 (λ q. omega arith))) (chain_kept (next_in words) (next_in other) _ stack s.lists.chain (every _ stack w.next));
             list = home_kept h g homes (set homes 0 none) stack (set_else homes 0 1 none (λ e. omega arith)) refl (subst (λ k. ListIs k h words homes places stack) free s.lists.list);
-            linked = each_set (IsLinked words) (IsLinked other) places p Holds s.lists.linked tt (λ q place ne atq k. linked_kept words other q place (w.next q) k);
+            linked = each_set (LinkStands words) (LinkStands other) places p Holds s.lists.linked tt (λ q place ne atq k. linked_kept words other q place (w.next q) k);
           };
           names = record {
             waiting = λ q waits. w.who q ∙ s.names.waiting q waits;
-            each = each_set (IsNamed h words) (IsNamed g other) places p Holds s.names.each tt (λ q place ne atq k. named_grown h g words other q place (λ r. refl) (w.who q) k);
+            each = each_set (NameStands h words) (NameStands g other) places p Holds s.names.each tt (λ q place ne atq k. named_grown h g words other q place (λ r. refl) (w.who q) k);
           };
           looks = record {
             numbered = each_set (λ q place. IsNumbered place) (λ q place. IsNumbered place) places p Holds s.looks.numbered tt (λ q place ne atq k. k);
@@ -92,11 +92,11 @@ module _ {T : Type 0} (n : ℕ) (built : T) (h : List (LockEntry T)) (words : Li
         lists = record {
           chain = subst (λ k. IsChain (next_in other) k stack) (sym same_head) (chain_kept (next_in words) (next_in other) _ stack s.lists.chain (every _ stack w.next));
           list = list_kept b h words other homes places p AtRest Counted stack (record { long = w.long; grants = w.grants; next = λ q ne. w.next q; who = λ q ne. w.who q; own = λ k. (w.next p, w.who p) }) at refl s.lists.list;
-          linked = each_set (IsLinked words) (IsLinked other) places p Counted s.lists.linked tt (λ q place ne atq k. linked_kept words other q place (w.next q) k);
+          linked = each_set (LinkStands words) (LinkStands other) places p Counted s.lists.linked tt (λ q place ne atq k. linked_kept words other q place (w.next q) k);
         };
         names = record {
           waiting = λ q waits. w.who q ∙ s.names.waiting q waits;
-          each = each_set (IsNamed h words) (IsNamed h other) places p Counted s.names.each tt (λ q place ne atq k. named_kept h words other q place (w.who q) k);
+          each = each_set (NameStands h words) (NameStands h other) places p Counted s.names.each tt (λ q place ne atq k. named_kept h words other q place (w.who q) k);
         };
         looks = record {
           numbered = each_set (λ q place. IsNumbered place) (λ q place. IsNumbered place) places p Counted s.looks.numbered tt (λ q place ne atq k. k);

@@ -6,12 +6,12 @@ use lib.ListN.{get_elem?}
 use Rattle.atomic_table.proofs.Lists.{at_set, set_here, set_else}
 use Rattle.aio_chain.specs.Chains.{IsChain}
 use Rattle.aio_chain.proofs.Chains.{chain_kept}
-use Rattle.aio_model.specs.LockHistory.{LockEntry, Grant, Waits, IsFirst, without_first, owner_of, waiters_of, value_of}
-use Rattle.co_mutex.specs.Places.{Side, Locking, Unlocking, Task, Place, AtRest, Counted, Named, HeadLoaded, Linked, Pushed, Loaded, Queued, SelfGranted, Holds, OnDuty, Published, Found, is_in_line, is_before_push, is_holding, IsNumbered, pending}
+use Rattle.aio_model.specs.LockHistory.{LockEntry, Grant, IsWaitingIn, IsFirst, without_first, owner_of, waiters_of, value_of}
+use Rattle.co_mutex.specs.Places.{Side, Locking, Unlocking, Task, PassPlace, AtRest, Counted, Named, HeadLoaded, Linked, Pushed, Loaded, Queued, SelfGranted, Holds, OnDuty, Published, Found, is_in_line, is_before_push, is_holding, IsNumbered, pending}
 use Rattle.co_mutex.specs.LockWords.{locked_at, handoff_at, head_at, next_at, grant_at, who_at, next_in}
 use Rattle.co_mutex.specs.declared.slot.Slot.{Slot}
 use Rattle.co_mutex.specs.declared.slot.Slot.TheVariants.{Value}
-use Rattle.co_mutex.specs.Rule.{Popped, Baton, Owned, Duty, Offered, EachPlace, owner_in, Fit, IsAt, IsApart, one_if, Counts, grant_word, IsHome, IsWith, ListIs, IsLinked, IsNamed, Stands}
+use Rattle.co_mutex.specs.Rule.{Popped, Baton, Owned, Duty, Offered, EachPlace, owner_in, Fit, IsAt, IsApart, one_if, CountsStand, grant_word, IsHome, IsWith, ListIs, LinkStands, NameStands, Stands}
 use Rattle.co_mutex.proofs.Counting.{bit}
 use Rattle.co_mutex.proofs.Frames.{read_here, read_else, each_set, linked_kept, counts_after, owned_same, duty_same}
 use Rattle.co_mutex.proofs.Quiet.{is_duty, named_kept, not_holds}
@@ -46,25 +46,25 @@ grant_set words q x low =
 
 module _ {T : Type 0} where
   -- a pass other than the one that grants: the granted one no longer waits and owns, all others stand as before
-  granted_at : (h g : List (LockEntry T)) (p q r : ℕ) (rest : List ℕ) (place : Place) → waiters_of h ≡ q ∷ rest → waiters_of g ≡ rest → r ≢ p → IsAt h (Duty p) r place → IsAt g (Owned q) r place
+  granted_at : (h g : List (LockEntry T)) (p q r : ℕ) (rest : List ℕ) (place : PassPlace) → waiters_of h ≡ q ∷ rest → waiters_of g ≡ rest → r ≢ p → IsAt h (Duty p) r place → IsAt g (Owned q) r place
   granted_at h g p q r rest place was now ne = by place
     where
       -- waits before: it is the first, or in the rest
-      parted : Waits r (waiters_of h) → (q ≡ r) ⊎ Waits r (waiters_of g)
-      parted w = ⊎_elim (λ e. inl e) (λ k. inr (subst (Waits r) (sym now) k)) (subst (Waits r) was w)
+      parted : IsWaitingIn r (waiters_of h) → (q ≡ r) ⊎ IsWaitingIn r (waiters_of g)
+      parted w = ⊎_elim (λ e. inl e) (λ k. inr (subst (IsWaitingIn r) (sym now) k)) (subst (IsWaitingIn r) was w)
 
-      back : Waits r (waiters_of g) → Waits r (waiters_of h)
-      back w = subst (Waits r) (sym was) (inr (subst (Waits r) now w))
+      back : IsWaitingIn r (waiters_of g) → IsWaitingIn r (waiters_of h)
+      back w = subst (IsWaitingIn r) (sym was) (inr (subst (IsWaitingIn r) now w))
 
       out : IsApart h (Duty p) r → IsApart g (Owned q) r
       out is =
-          ((λ w. is.0 (back w)), (λ e. is.0 (subst (Waits r) (sym was) (inl (owned_same q r e)))))
+          ((λ w. is.0 (back w)), (λ e. is.0 (subst (IsWaitingIn r) (sym was) (inl (owned_same q r e)))))
 
-      in_line : Waits r (waiters_of h) ⊎ (Duty p ≡ Owned r) → Waits r (waiters_of g) ⊎ (Owned q ≡ Owned r)
+      in_line : IsWaitingIn r (waiters_of h) ⊎ (Duty p ≡ Owned r) → IsWaitingIn r (waiters_of g) ⊎ (Owned q ≡ Owned r)
       in_line is =
           ⊎_elim (λ w. ⊎_elim (λ e. inr (ap Owned e)) (λ k. inl k) (parted w)) (λ e. absurd cc) is
 
-      by : (place : Place) → IsAt h (Duty p) r place → IsAt g (Owned q) r place
+      by : (place : PassPlace) → IsAt h (Duty p) r place → IsAt g (Owned q) r place
       by AtRest is = out is
       by Counted is = out is
       by (Named co) is = out is
@@ -80,7 +80,7 @@ module _ {T : Type 0} where
       by (Published n) is = out is
       by (Found n) is = out is
 
-module _ {T : Type 0} (n : ℕ) (built : T) (h : List (LockEntry T)) (words : List ℕ) (homes : List (Opt (Slot T))) (places : List Place) (b : Baton) (stack : List ℕ) (s : Stands n built h words homes places b stack) (p : ℕ) where
+module _ {T : Type 0} (n : ℕ) (built : T) (h : List (LockEntry T)) (words : List ℕ) (homes : List (Opt (Slot T))) (places : List PassPlace) (b : Baton) (stack : List ℕ) (s : Stands n built h words homes places b stack) (p : ℕ) where
   -- the grant store, by who has the duty; the first waiter and the rest that is put back are those of its task
   module _ (side : Side) (t : Task) (at : get_elem? places p ≡ some (OnDuty side t)) (q last : ℕ) (rest : List ℕ) (first : pending t ≡ q ∷ rest) where
     duty : b ≡ Duty p
@@ -93,8 +93,8 @@ module _ {T : Type 0} (n : ℕ) (built : T) (h : List (LockEntry T)) (words : Li
     all =
         waiters_now n built h words homes places b stack s p side t at ∙ ap (λ (l : List ℕ). l ++ reverse stack) first
 
-    pub first_waits : Waits q (waiters_of h)
-    first_waits = subst (Waits q) (sym all) (inl refl)
+    pub first_waits : IsWaitingIn q (waiters_of h)
+    first_waits = subst (IsWaitingIn q) (sym all) (inl refl)
 
     abbrev pub granted : List (LockEntry T)
     granted = Grant p q ∷ h
@@ -108,7 +108,7 @@ module _ {T : Type 0} (n : ℕ) (built : T) (h : List (LockEntry T)) (words : Li
     not_owned : (r : ℕ) → b ≢ Owned r
     not_owned r e = let bad : Duty p ≡ Owned r = sym duty ∙ e in cc
 
-    pub given : (new : Place) → is_in_line new ≡ is_in_line (OnDuty side t) → is_before_push new ≡ false → is_holding new ≡ false → IsAt granted (Owned q) p new → ((words2 : List ℕ) → IsLinked words2 p new) → ((words2 : List ℕ) → IsNamed granted words2 p new) → IsNumbered new → Stands n built granted (set words (grant_at q) 1) (set homes 1 (some (Popped rest last))) (set places p new) (Owned q) stack
+    pub given : (new : PassPlace) → is_in_line new ≡ is_in_line (OnDuty side t) → is_before_push new ≡ false → is_holding new ≡ false → IsAt granted (Owned q) p new → ((words2 : List ℕ) → LinkStands words2 p new) → ((words2 : List ℕ) → NameStands granted words2 p new) → IsNumbered new → Stands n built granted (set words (grant_at q) 1) (set homes 1 (some (Popped rest last))) (set places p new) (Owned q) stack
     given new line before holding is linked named numbered =
         let old = OnDuty side t in
         let other = set words (grant_at q) 1 in
@@ -143,11 +143,11 @@ module _ {T : Type 0} (n : ℕ) (built : T) (h : List (LockEntry T)) (words : Li
           lists = record {
             chain = subst (λ z. IsChain (next_in other) z stack) (sym w.head) (chain_kept (next_in words) (next_in other) _ stack s.lists.chain (every _ stack w.next));
             list = home;
-            linked = each_set (IsLinked words) (IsLinked other) places p new s.lists.linked (linked other) (λ r place ne atr k. linked_kept words other r place (w.next r) k);
+            linked = each_set (LinkStands words) (LinkStands other) places p new s.lists.linked (linked other) (λ r place ne atr k. linked_kept words other r place (w.next r) k);
           };
           names = record {
             waiting = λ r waits. w.who r ∙ s.names.waiting r (tail_waits r (waiters_of h) waits);
-            each = each_set (IsNamed h words) (IsNamed granted other) places p new s.names.each (named other) (λ r place ne atr k. named_grown h granted words other r place (λ z. refl) (w.who r) k);
+            each = each_set (NameStands h words) (NameStands granted other) places p new s.names.each (named other) (λ r place ne atr k. named_grown h granted words other r place (λ z. refl) (w.who r) k);
           };
           looks = record {
             numbered = each_set (λ r place. IsNumbered place) (λ r place. IsNumbered place) places p new s.looks.numbered numbered (λ r place ne atr k. k);
@@ -155,7 +155,7 @@ module _ {T : Type 0} (n : ℕ) (built : T) (h : List (LockEntry T)) (words : Li
           };
         }
       where
-        unheld : (place : Place) → place ≢ Holds → is_holding place ≡ false
+        unheld : (place : PassPlace) → place ≢ Holds → is_holding place ≡ false
         unheld AtRest ne = refl
         unheld Counted ne = refl
         unheld (Named co) ne = refl
@@ -170,7 +170,7 @@ module _ {T : Type 0} (n : ℕ) (built : T) (h : List (LockEntry T)) (words : Li
         unheld (Published k) ne = refl
         unheld (Found k) ne = refl
 
-        old_zero : (r : ℕ) (place made : Place) → r ≢ q → get_elem? (set places p made) r ≡ some place → slice_index words (grant_at r) ≡ 0
+        old_zero : (r : ℕ) (place made : PassPlace) → r ≢ q → get_elem? (set places p made) r ≡ some place → slice_index words (grant_at r) ≡ 0
         old_zero r place made ne atr =
             ⊎_elim (λ z. subst (λ y. slice_index words (grant_at y) ≡ 0) (sym z.0) (s.grants p (OnDuty side t) at ∙ grant_else b p (OnDuty side t) (not_owned p))) (λ z. s.grants r place z.1 ∙ grant_else b r place (not_owned r)) (at_set places p r made place atr)
 
@@ -178,13 +178,13 @@ module _ {T : Type 0} (n : ℕ) (built : T) (h : List (LockEntry T)) (words : Li
     pub unlock_grants : side ≡ Unlocking → Stands n built granted (set words (grant_at q) 1) (set homes 1 (some (Popped rest last))) (set places p AtRest) (Owned q) stack
     unlock_grants is =
         let waits_not = (subst (λ k. IsAt h b p (OnDuty k t)) is (s.baton_stands.each p (OnDuty side t) at)).1 in
-        given AtRest (sym (ap (λ k. is_in_line (OnDuty k t)) is)) refl refl ((λ w. waits_not (tail_waits p (waiters_of h) w)), (λ e. waits_not (subst (λ k. Waits k (waiters_of h)) (owned_same q p e) first_waits))) (λ o. tt) (λ o. tt) tt
+        given AtRest (sym (ap (λ k. is_in_line (OnDuty k t)) is)) refl refl ((λ w. waits_not (tail_waits p (waiters_of h) w)), (λ e. waits_not (subst (λ k. IsWaitingIn k (waiters_of h)) (owned_same q p e) first_waits))) (λ o. tt) (λ o. tt) tt
 
     -- a locker's, for another: it stays queued
     pub lock_grants : side ≡ Locking → q ≢ p → Stands n built granted (set words (grant_at q) 1) (set homes 1 (some (Popped rest last))) (set places p Queued) (Owned q) stack
     lock_grants is ne =
         let waits = (subst (λ k. IsAt h b p (OnDuty k t)) is (s.baton_stands.each p (OnDuty side t) at)).1 in
-        given Queued (sym (ap (λ k. is_in_line (OnDuty k t)) is)) refl refl (⊎_elim (λ e. inr (ap Owned e)) (λ k. inl (subst (Waits p) (sym now) k)) (subst (Waits p) all waits)) (λ o. tt) (λ o. tt) tt
+        given Queued (sym (ap (λ k. is_in_line (OnDuty k t)) is)) refl refl (⊎_elim (λ e. inr (ap Owned e)) (λ k. inl (subst (IsWaitingIn p) (sym now) k)) (subst (IsWaitingIn p) all waits)) (λ o. tt) (λ o. tt) tt
 
     -- a locker's, for itself
     pub lock_grants_itself : side ≡ Locking → q ≡ p → Stands n built granted (set words (grant_at q) 1) (set homes 1 (some (Popped rest last))) (set places p SelfGranted) (Owned q) stack
@@ -192,7 +192,7 @@ module _ {T : Type 0} (n : ℕ) (built : T) (h : List (LockEntry T)) (words : Li
         given SelfGranted (sym (ap (λ k. is_in_line (OnDuty k t)) is)) refl refl (ap Owned same) (λ o. tt) (λ o. tt) tt
 
   -- the grant swap that found 1, from the queue or after an own grant: the value is at home
-  pub swapped : (old : Place) → get_elem? places p ≡ some old → (old ≡ Queued) ⊎ (old ≡ SelfGranted) → slice_index words (grant_at p) ≡ 1 → (b ≡ Owned p) × (get_elem? homes 0 ≡ some (some (Value (value_of built h)))) × Stands n built h (set words (grant_at p) 0) (set homes 0 none) (set places p Holds) b stack
+  pub swapped : (old : PassPlace) → get_elem? places p ≡ some old → (old ≡ Queued) ⊎ (old ≡ SelfGranted) → slice_index words (grant_at p) ≡ 1 → (b ≡ Owned p) × (get_elem? homes 0 ≡ some (some (Value (value_of built h)))) × Stands n built h (set words (grant_at p) 0) (set homes 0 none) (set places p Holds) b stack
   swapped old at kind found =
       let own : b ≡ Owned p = owned_at_one b p old (sym (s.grants p old at) ∙ found) in
       let other = set words (grant_at p) 0 in
@@ -215,7 +215,7 @@ module _ {T : Type 0} (n : ℕ) (built : T) (h : List (LockEntry T)) (words : Li
           each = length-set places p Holds ∙ s.each;
           legal = s.legal;
           below = s.below;
-          counts = subst (λ z. Counts h z (set places p Holds)) (sym w.locked) (counts_after h h (slice_index words locked_at) (slice_index words locked_at) places p old Holds s.counts at (ap (λ z. slice_index words locked_at + bit z) in_it) (ap (λ z. one_if (owner_of h) + length (waiters_of h) + bit z + slice_index words locked_at) (sym pushed_it)));
+          counts = subst (λ z. CountsStand h z (set places p Holds)) (sym w.locked) (counts_after h h (slice_index words locked_at) (slice_index words locked_at) places p old Holds s.counts at (ap (λ z. slice_index words locked_at + bit z) in_it) (ap (λ z. one_if (owner_of h) + length (waiters_of h) + bit z + slice_index words locked_at) (sym pushed_it)));
           baton_stands = record {
             owner = s.baton_stands.owner;
             fit = subst (λ z. Fit b z (slice_index other handoff_at)) (sym w.locked) (subst (λ z. Fit b (slice_index words locked_at) z) (sym w.handoff) s.baton_stands.fit);
@@ -226,11 +226,11 @@ module _ {T : Type 0} (n : ℕ) (built : T) (h : List (LockEntry T)) (words : Li
           lists = record {
             chain = subst (λ z. IsChain (next_in other) z stack) (sym w.head) (chain_kept (next_in words) (next_in other) _ stack s.lists.chain (every _ stack w.next));
             list = subst (λ z. ListIs z h other homes2 (set places p Holds) stack) (sym own) (home_kept h h homes homes2 stack (set_else homes 0 1 none (λ e. omega arith)) refl list);
-            linked = each_set (IsLinked words) (IsLinked other) places p Holds s.lists.linked tt (λ r place ne atr k. linked_kept words other r place (w.next r) k);
+            linked = each_set (LinkStands words) (LinkStands other) places p Holds s.lists.linked tt (λ r place ne atr k. linked_kept words other r place (w.next r) k);
           };
           names = record {
             waiting = λ r waits. w.who r ∙ s.names.waiting r waits;
-            each = each_set (IsNamed h words) (IsNamed h other) places p Holds s.names.each tt (λ r place ne atr k. named_kept h words other r place (w.who r) k);
+            each = each_set (NameStands h words) (NameStands h other) places p Holds s.names.each tt (λ r place ne atr k. named_kept h words other r place (w.who r) k);
           };
           looks = record {
             numbered = each_set (λ r place. IsNumbered place) (λ r place. IsNumbered place) places p Holds s.looks.numbered tt (λ r place ne atr k. k);

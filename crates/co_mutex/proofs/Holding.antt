@@ -9,7 +9,7 @@ use Rattle.co_mutex.specs.declared.slot.Slot.TheVariants.{Value, Out}
 use Rattle.co_mutex.specs.declared.lock.CoMutex.{CoMutex}
 use Rattle.co_mutex.specs.declared.lock.Pass.{Pass}
 use Rattle.co_mutex.specs.LockWords.{locked_at}
-use Rattle.co_mutex.specs.Places.{Place, AtRest, Holds}
+use Rattle.co_mutex.specs.Places.{PassPlace, AtRest, Holds}
 use Rattle.co_mutex.specs.Known.{Kind, GrantSwap, Done, Known, moves, advances}
 use Rattle.co_mutex.specs.Plays.{done, Gets, FindsGrant}
 use Rattle.co_mutex.specs.Passes.{IsOf, IsPassOf, hand_of}
@@ -19,14 +19,14 @@ use Rattle.co_mutex.proofs.Codes.{M}
 use Rattle.co_mutex.proofs.OwnerSteps.{value_same}
 
 module _ {P T N : Type 0} where
-  pub pass_free : (m : CoMutex P T N) (p : Pass P T N) (place : Place) → IsOf m p → p.seat.me.1 ≡ [] → p.seat.me.0.place ≡ place → hand_of {T = T} place ≡ [] → IsPassOf m p
+  pub pass_free : (m : CoMutex P T N) (p : Pass P T N) (place : PassPlace) → IsOf m p → p.seat.me.1 ≡ [] → p.seat.me.0.place ≡ place → hand_of {T = T} place ≡ [] → IsPassOf m p
   pass_free m p place is none_there here empty =
       record { of = is; hand = none_there ∙ sym empty ∙ ap hand_of (sym here) }
 
   pub pass_holds : (m : CoMutex P T N) (p : Pass P T N) → IsOf m p → p.seat.me.1 ≡ (0, Out) ∷ [] → p.seat.me.0.place ≡ Holds → IsPassOf m p
   pass_holds m p is one here = record { of = is; hand = one ∙ ap hand_of (sym here) }
 
-  pub hand_free : (m : CoMutex P T N) (p : Pass P T N) (place : Place) → IsPassOf m p → p.seat.me.0.place ≡ place → hand_of {T = T} place ≡ [] → p.seat.me.1 ≡ []
+  pub hand_free : (m : CoMutex P T N) (p : Pass P T N) (place : PassPlace) → IsPassOf m p → p.seat.me.0.place ≡ place → hand_of {T = T} place ≡ [] → p.seat.me.1 ≡ []
   hand_free m p place is here empty = is.hand ∙ ap hand_of here ∙ empty
 
 module _ {T : Type 0} where
@@ -62,7 +62,7 @@ module _ {T N : Type 0} (note : T → ℕ → N) (built : T) where
             ap (λ (z : M T). z.0) is ∙ ap (λ (z : M T). z.0) g.makes.is ∙ ap (λ (z : Known T). Rattle.co_mutex.specs.Known.makes z Holds (done kind locked_at 0) g.older (Got z.number)) start
 
         goes : Rattle.co_mutex.specs.Known.GoesOn v.number v.seen v.mine g.older
-        goes = subst (λ (z : Known T). Rattle.co_mutex.specs.Known.Goes z g.older) start g.makes.goes
+        goes = subst (λ (z : Known T). Rattle.co_mutex.specs.Known.KnownGoesOn z g.older) start g.makes.goes
 
         legal : Rattle.aio_model.specs.LockHistory.IsLegalLock (Got v.number ∷ g.older)
         legal =

@@ -4,7 +4,7 @@ use Rattle.aio_model.specs.LockHistory.{LockEntry}
 use Rattle.co_mutex.specs.declared.answers.Lock.{Lock}
 use Rattle.co_mutex.specs.declared.answers.Lock.TheVariants.{Held, Queued as Waits}
 use Rattle.co_mutex.specs.LockWords.{locked_at}
-use Rattle.co_mutex.specs.Places.{Place, Counted}
+use Rattle.co_mutex.specs.Places.{PassPlace, Counted}
 use Rattle.co_mutex.specs.Known.{Kind, LockedCompare, LockedFetchAdd, Done, Known, advances}
 use Rattle.co_mutex.specs.Plays.{done}
 use Rattle.co_mutex.specs.Calls.{finishes, locks, Did, Comes, Finishes, Locks}
@@ -29,7 +29,7 @@ from_finishes Rattle.co_mutex.specs.Known.HandoffCompare e = refl
 from_finishes Rattle.co_mutex.specs.Known.SecondLook e = absurd cc
 
 module _ {T : Type 0} where
-  comes_from : (place p : Place) (entries : List (LockEntry T)) (v w : Known T) (steps : List Done) → Comes place entries (advances v p steps) w → Comes place entries v w
+  comes_from : (place p : PassPlace) (entries : List (LockEntry T)) (v w : Known T) (steps : List Done) → Comes place entries (advances v p steps) w → Comes place entries v w
   comes_from place p entries v w steps c = record { place_is = c.place_is; number_is = c.number_is; stands = c.stands }
 
   pub did_lock : (v mid w : Known T) (x more : ℕ) → mid ≡ advances v Counted (done LockedFetchAdd locked_at more ∷ done LockedCompare locked_at x ∷ []) → Did finishes mid.did w.did → Did locks v.did w.did

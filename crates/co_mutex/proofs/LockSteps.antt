@@ -10,7 +10,7 @@ use Rattle.atomic_table.proofs.Lists.{set_again}
 use Rattle.co_mutex.specs.declared.slot.Slot.{Slot}
 use Rattle.co_mutex.specs.declared.slot.Slot.TheVariants.{Value}
 use Rattle.aio_model.specs.LockHistory.{LockEntry, Got, Wait, value_of}
-use Rattle.co_mutex.specs.Places.{Locking, Unlocking, ToPop, Place, AtRest, Counted, Named, HeadLoaded, Linked, Pushed, Loaded, Queued, Holds, OnDuty, Found}
+use Rattle.co_mutex.specs.Places.{Locking, Unlocking, ToPop, PassPlace, AtRest, Counted, Named, HeadLoaded, Linked, Pushed, Loaded, Queued, Holds, OnDuty, Found}
 use Rattle.co_mutex.specs.LockWords.{locked_at, handoff_at, head_at, next_at, who_at}
 use Rattle.co_mutex.specs.Rule.{Popped, Baton, Owned, Duty, Stands}
 use Rattle.co_mutex.specs.Known.{Kind, LockedCompare, LockedFetchAdd, WhoStore, HeadLoad, NextStore, HeadCompare, HandoffLoad, HandoffCompare, Known, moves, makes}
@@ -31,7 +31,7 @@ isnt_eqb x y f e = (let yes : eqb x y ≡ true = eq-eqb x y e in let bad : true 
 
 module _ {T : Type 0} where
   -- nothing is changed
-  pub unmoved : (n : ℕ) (built : T) (h : List (LockEntry T)) (words : List ℕ) (homes : List (mathlib.Core.Option.Option (Slot T))) (places : List Place) (b : Baton) (stack : List ℕ) (k p : ℕ) (place : Place) → get_elem? places p ≡ some place → Stands n built h words homes places b stack → Stands n built h (set words k (slice_index words k)) homes (set places p place) b stack
+  pub unmoved : (n : ℕ) (built : T) (h : List (LockEntry T)) (words : List ℕ) (homes : List (mathlib.Core.Option.Option (Slot T))) (places : List PassPlace) (b : Baton) (stack : List ℕ) (k p : ℕ) (place : PassPlace) → get_elem? places p ≡ some place → Stands n built h words homes places b stack → Stands n built h (set words k (slice_index words k)) homes (set places p place) b stack
   unmoved n built h words homes places b stack k p place at s =
       subst (λ z. Stands n built h z homes (set places p place) b stack) (sym (set_back words k)) (subst (λ z. Stands n built h words homes z b stack) (sym (set_again places p place at)) s)
 

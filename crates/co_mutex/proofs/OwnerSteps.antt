@@ -8,10 +8,10 @@ use Rattle.atomic_table.specs.Table.{Me, Act, keeps, takes, gives, chain, step, 
 use Rattle.atomic_table.proofs.Lists.{set_else, set_again}
 use Rattle.co_mutex.specs.declared.slot.Slot.{Slot}
 use Rattle.co_mutex.specs.declared.slot.Slot.TheVariants.{Value}
-use Rattle.aio_model.specs.LockHistory.{LockEntry, Release, Waits, value_of}
+use Rattle.aio_model.specs.LockHistory.{LockEntry, Release, IsWaitingIn, value_of}
 use Rattle.aio_model.specs.LockNotes.{SameNotes, IsNoted}
 use Rattle.co_mutex.specs.Lists.{Each}
-use Rattle.co_mutex.specs.Places.{Unlocking, ToPop, Place, AtRest, Counted, Named, HeadLoaded, Linked, Pushed, Loaded, Queued, SelfGranted, Holds, OnDuty, Published, Found, is_holding, is_owning}
+use Rattle.co_mutex.specs.Places.{Unlocking, ToPop, PassPlace, AtRest, Counted, Named, HeadLoaded, Linked, Pushed, Loaded, Queued, SelfGranted, Holds, OnDuty, Published, Found, is_holding, is_owning}
 use Rattle.co_mutex.specs.LockWords.{locked_at, handoff_at, grant_at}
 use Rattle.co_mutex.specs.Rule.{Popped, Baton, Free, Owned, Duty, Offered, owner_in, Fit, IsAt, grant_word, Stands}
 use Rattle.co_mutex.specs.Known.{LockedFetchSub, GrantSwap, Known, moves, learns, makes}
@@ -25,7 +25,7 @@ use Rattle.co_mutex.proofs.Histories.{noted_rest}
 use Rattle.co_mutex.proofs.StepForms.{set_as, seat_is, sized_as, placed_as, history_goes, kept_move, kept_own, kept_learn, kept_make, makes_told}
 use Rattle.co_mutex.proofs.LockSteps.{some_same}
 
-pub low_each : (P : ℕ → Type 0) (xs : List ℕ) → ((q : ℕ) → Waits q xs → P q) → Each P xs
+pub low_each : (P : ℕ → Type 0) (xs : List ℕ) → ((q : ℕ) → IsWaitingIn q xs → P q) → Each P xs
 low_each P [] f = tt
 low_each P (x ∷ xs) f = (f x (inl refl), low_each P xs (λ q w. f q (inr w)))
 
@@ -42,7 +42,7 @@ pub value_same : {T : Type 0} (x y : T) → Value x ≡ Value y → x ≡ y
 value_same x y e = cc
 
 module _ {T : Type 0} where
-  owning_owns : (h : List (LockEntry T)) (b : Baton) (p : ℕ) (place : Place) → is_owning place ≡ true → IsAt h b p place → b ≡ Owned p
+  owning_owns : (h : List (LockEntry T)) (b : Baton) (p : ℕ) (place : PassPlace) → is_owning place ≡ true → IsAt h b p place → b ≡ Owned p
   owning_owns h b p AtRest e is = absurd cc
   owning_owns h b p Counted e is = absurd cc
   owning_owns h b p (Named co) e is = absurd cc
@@ -57,7 +57,7 @@ module _ {T : Type 0} where
   owning_owns h b p (Published n) e is = absurd cc
   owning_owns h b p (Found n) e is = absurd cc
 
-zero_or_one : (b : Baton) (p : ℕ) (place : Place) (x : ℕ) → x ≡ grant_word b p place → (x ≡ 0) ⊎ (x ≡ 1)
+zero_or_one : (b : Baton) (p : ℕ) (place : PassPlace) (x : ℕ) → x ≡ grant_word b p place → (x ≡ 0) ⊎ (x ≡ 1)
 zero_or_one Free p place x e = inl e
 zero_or_one (Owned q) p place x e = bits (eqb q p && not (is_holding place)) x e
   where
@@ -130,7 +130,7 @@ module _ {T N : Type 0} (note : T → ℕ → N) (n : ℕ) (built : T) (slots id
           let more : below.0 ≢ 0 = λ q. (let one : eqb (slice_index s.words locked_at) 1 ≡ true = eq-eqb _ _ (omega (arith, e, q)) in cc) in
           let lock = sub_more n built r.history s.words s.homes r.places r.baton r.stack r.lock v.number x here below.0 e more in
           let a = chain gives (takes 1 (Popped list.popped list.last)) in
-          (w, a, (tt, set_else s.homes 0 1 (some (Value x)) (λ q. omega arith) ∙ list.there), subst (λ z. Kept note n built (stepped s locked_at z id ((0, Value x) ∷ []) w a)) (sym word) (kept_make note n built id v s r at live new d locked_at below.0 ((0, Value x) ∷ []) a (Duty v.number) r.stack (Release v.number x) refl noted stays lock), record { older = r.history; popped = list.popped; last = list.last; makes = makes_told note n built id v s r at live new d locked_at below.0 ((0, Value x) ∷ []) a (Duty v.number) r.stack (Release v.number x) ((1, Popped list.popped list.last) ∷ []) lock.legal; low = low_each (λ q. q < v.passes) list.popped (λ q w. subst (λ z. q < z) (sym (sized_as note n built id v s r at live)) (r.lock.below q (subst (Waits q) (sym list.waiters) (waits_front q list.popped (reverse r.stack) w)))) })
+          (w, a, (tt, set_else s.homes 0 1 (some (Value x)) (λ q. omega arith) ∙ list.there), subst (λ z. Kept note n built (stepped s locked_at z id ((0, Value x) ∷ []) w a)) (sym word) (kept_make note n built id v s r at live new d locked_at below.0 ((0, Value x) ∷ []) a (Duty v.number) r.stack (Release v.number x) refl noted stays lock), record { older = r.history; popped = list.popped; last = list.last; makes = makes_told note n built id v s r at live new d locked_at below.0 ((0, Value x) ∷ []) a (Duty v.number) r.stack (Release v.number x) ((1, Popped list.popped list.last) ∷ []) lock.legal; low = low_each (λ q. q < v.passes) list.popped (λ q w. subst (λ z. q < z) (sym (sized_as note n built id v s r at live)) (r.lock.below q (subst (IsWaitingIn q) (sym list.waiters) (waits_front q list.popped (reverse r.stack) w)))) })
 
   first_value : (x y : T) → ◌≡◌ {A = List (ℕ × S)} ((0, Value x) ∷ []) ((0, Value y) ∷ []) → x ≡ y
   first_value x y e =

@@ -9,14 +9,14 @@ use Rattle.co_mutex.specs.Places.{Named, HeadLoaded, Linked, Pushed}
 use Rattle.co_mutex.specs.Known.{WhoStore, HeadLoad, NextStore, HeadCompare, Done, Known, moves, advances}
 use Rattle.co_mutex.specs.Plays.{done, Pushes}
 use Rattle.co_mutex.specs.Passes.{IsOf, known, carried}
-use Rattle.co_mutex.specs.Waking.{pushes, AllOf, PushedFor}
+use Rattle.co_mutex.specs.Waking.{pushes, AllOfKinds, PushedFor}
 use Rattle.co_mutex.proofs.Codes.{M}
 
 module _ {P T N : Type 0} where
   pub record IsPushing (m : CoMutex P T N) (who : ℕ) (start now : Pass P T N) : Type 0 where
     pub pass : IsOf m now
     pub steps : List Done
-    pub kinds : AllOf pushes steps
+    pub kinds : AllOfKinds pushes steps
     pub is : now.seat.me ≡ (advances (known start) (Named who) steps, [])
 
   pub push_init : (m : CoMutex P T N) (who : ℕ) (start now : Pass P T N) → IsOf m now → now.seat.me ≡ (moves (known start) (Named who) (done WhoStore (who_at (known start).number) who), []) → IsPushing m who start now

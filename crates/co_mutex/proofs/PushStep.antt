@@ -6,11 +6,11 @@ use lib.ListN.{get_elem?}
 use Rattle.atomic_table.proofs.Lists.{set_here}
 use Rattle.aio_chain.specs.Chains.{IsChain}
 use Rattle.aio_chain.proofs.Chains.{chain_kept, pushed}
-use Rattle.aio_model.specs.LockHistory.{LockEntry, Wait, Waits, waiters_of, coroutine_of}
-use Rattle.co_mutex.specs.Places.{Side, Granting, Place, Linked, Pushed, OnDuty, IsNumbered, pending}
+use Rattle.aio_model.specs.LockHistory.{LockEntry, Wait, IsWaitingIn, waiters_of, coroutine_of}
+use Rattle.co_mutex.specs.Places.{Side, Granting, PassPlace, Linked, Pushed, OnDuty, IsNumbered, pending}
 use Rattle.co_mutex.specs.LockWords.{locked_at, handoff_at, head_at, grant_at, who_at, next_in}
 use Rattle.co_mutex.specs.declared.slot.Slot.{Slot}
-use Rattle.co_mutex.specs.Rule.{Baton, Free, Owned, Duty, Offered, Fit, IsAt, IsApart, grant_word, ListIs, IsLinked, IsNamed, Stands}
+use Rattle.co_mutex.specs.Rule.{Baton, Free, Owned, Duty, Offered, Fit, IsAt, IsApart, grant_word, ListIs, LinkStands, NameStands, Stands}
 use Rattle.co_mutex.proofs.Frames.{read_here, read_else, each_set, linked_kept, counts_after, is_at_kept}
 use Rattle.co_mutex.proofs.WaitLists.{waits_front, waits_back, waits_either}
 use Rattle.co_mutex.proofs.ListSteps.{pushed_last}
@@ -22,7 +22,7 @@ use Rattle.co_mutex.proofs.GotSteps.{low_fits}
 use Rattle.co_mutex.proofs.Batons.{owner_apart, low_set, low_touches, every, named_else}
 
 module _ {T : Type 0} where
-  grown_list : (b : Baton) (h g : List (LockEntry T)) (words : List ℕ) (homes : List (Opt (Slot T))) (places : List Place) (stack : List ℕ) (p : ℕ) → waiters_of g ≡ waiters_of h ++ p ∷ [] → ListIs b h words homes places stack → ListIs b g words homes places (p ∷ stack)
+  grown_list : (b : Baton) (h g : List (LockEntry T)) (words : List ℕ) (homes : List (Opt (Slot T))) (places : List PassPlace) (stack : List ℕ) (p : ℕ) → waiters_of g ≡ waiters_of h ++ p ∷ [] → ListIs b h words homes places stack → ListIs b g words homes places (p ∷ stack)
   grown_list Free h g words homes places stack p e is =
       record { popped = is.popped; last = is.last; there = is.there; waiters = e ∙ pushed_last (waiters_of h) is.popped stack p is.waiters }
   grown_list (Owned q) h g words homes places stack p e is =
@@ -32,7 +32,7 @@ module _ {T : Type 0} where
   grown_list Offered h g words homes places stack p e is =
       (record { popped = is.0.popped; last = is.0.last; there = is.0.there; waiters = e ∙ pushed_last (waiters_of h) is.0.popped stack p is.0.waiters }, is.1)
 
-module _ {T : Type 0} (n : ℕ) (built : T) (h : List (LockEntry T)) (words : List ℕ) (homes : List (Opt (Slot T))) (places : List Place) (b : Baton) (stack : List ℕ) (s : Stands n built h words homes places b stack) (p co found : ℕ) (at : get_elem? places p ≡ some (Linked co found)) where
+module _ {T : Type 0} (n : ℕ) (built : T) (h : List (LockEntry T)) (words : List ℕ) (homes : List (Opt (Slot T))) (places : List PassPlace) (b : Baton) (stack : List ℕ) (s : Stands n built h words homes places b stack) (p co found : ℕ) (at : get_elem? places p ≡ some (Linked co found)) where
   abbrev pub grown : List (LockEntry T)
   grown = Wait p co ∷ h
 
@@ -45,12 +45,12 @@ module _ {T : Type 0} (n : ℕ) (built : T) (h : List (LockEntry T)) (words : Li
   granted_else : (q r other_co : ℕ) (side : Side) (rest : List ℕ) → get_elem? places q ≡ some (OnDuty side (Granting r other_co rest)) → coroutine_of r grown ≡ coroutine_of r h
   granted_else q r other_co side rest atq =
       let all = waiters_now n built h words homes places b stack s q side (Granting r other_co rest) atq in
-      let waits : Waits r (waiters_of h) = subst (Waits r) (sym all) (inl refl) in
-      let ne : r ≢ p = λ e. apart.0 (subst (λ k. Waits k (waiters_of h)) e waits) in
+      let waits : IsWaitingIn r (waiters_of h) = subst (IsWaitingIn r) (sym all) (inl refl) in
+      let ne : r ≢ p = λ e. apart.0 (subst (λ k. IsWaitingIn k (waiters_of h)) e waits) in
       let other : eqb r p ≡ false = ne_eqb r p ne in
       ap (λ k. cond k co (coroutine_of r h)) other
 
-  named_now : (r : ℕ) → Waits r (waiters_of grown) → slice_index words (who_at r) ≡ coroutine_of r grown
+  named_now : (r : ℕ) → IsWaitingIn r (waiters_of grown) → slice_index words (who_at r) ≡ coroutine_of r grown
   named_now r waits =
       ⊎_elim
       (λ e. (let same : eqb r p ≡ true = eq-eqb r p e in subst (λ k. slice_index words (who_at k) ≡ co) (sym e) (s.names.each p (Linked co found) at) ∙ sym (ap (λ k. cond k co (coroutine_of r h)) same)))
@@ -84,11 +84,11 @@ module _ {T : Type 0} (n : ℕ) (built : T) (h : List (LockEntry T)) (words : Li
         lists = record {
           chain = subst (λ k. IsChain (next_in other) k (p ∷ stack)) (sym top) (pushed (next_in other) (slice_index words head_at) p stack below_it linked);
           list = grown_list b h grown other homes (set places p Pushed) stack p refl (list_kept b h words other homes places p (Linked co found) Pushed stack (low_touches h words other p w) at refl s.lists.list);
-          linked = each_set (IsLinked words) (IsLinked other) places p Pushed s.lists.linked tt (λ q place ne atq k. linked_kept words other q place (w.next q) k);
+          linked = each_set (LinkStands words) (LinkStands other) places p Pushed s.lists.linked tt (λ q place ne atq k. linked_kept words other q place (w.next q) k);
         };
         names = record {
           waiting = λ q waits. w.who q ∙ named_now q waits;
-          each = each_set (IsNamed h words) (IsNamed grown other) places p Pushed s.names.each tt (λ q place ne atq k. named_else h grown words other q place (λ side r oco rest e. granted_else q r oco side rest (atq ∙ ap some e)) (w.who q) k);
+          each = each_set (NameStands h words) (NameStands grown other) places p Pushed s.names.each tt (λ q place ne atq k. named_else h grown words other q place (λ side r oco rest e. granted_else q r oco side rest (atq ∙ ap some e)) (w.who q) k);
         };
         looks = record {
           numbered = each_set (λ q place. IsNumbered place) (λ q place. IsNumbered place) places p Pushed s.looks.numbered tt (λ q place ne atq k. k);

@@ -5,8 +5,8 @@ use mathlib.Core.Option.{Option as Opt, some, some-injective, some-ne-none}
 use lib.ListN.{get_elem?}
 use Rattle.atomic_table.proofs.Lists.{set_here, set_else}
 use Rattle.aio_chain.proofs.Chains.{none_taken}
-use Rattle.aio_model.specs.LockHistory.{LockEntry, Waits, owner_of, waiters_of}
-use Rattle.co_mutex.specs.Places.{Place, AtRest, Counted, Named, HeadLoaded, Linked, Pushed, Loaded, Queued, SelfGranted, Holds, OnDuty, Published, Found, is_before_push, Looks}
+use Rattle.aio_model.specs.LockHistory.{LockEntry, IsWaitingIn, owner_of, waiters_of}
+use Rattle.co_mutex.specs.Places.{PassPlace, AtRest, Counted, Named, HeadLoaded, Linked, Pushed, Loaded, Queued, SelfGranted, Holds, OnDuty, Published, Found, is_before_push, StillLooks}
 use Rattle.co_mutex.specs.LockWords.{locked_at, handoff_at, head_at, next_at, grant_at, who_at, next_in}
 use Rattle.co_mutex.specs.declared.slot.Slot.{Slot}
 use Rattle.co_mutex.specs.Rule.{Baton, Offered, owner_in, Fit, one_if, ListIs, Stands}
@@ -23,7 +23,7 @@ pub no_touch : {T : Type 0} (h : List (LockEntry T)) (words : List ℕ) (p : ℕ
 no_touch h words p =
     record { long = refl; grants = λ q. refl; next = λ q ne. refl; who = λ q ne. refl; own = λ w. (refl, refl) }
 
-pub looks_before : (handoff : ℕ) (place : Place) → is_before_push place ≡ true → Looks handoff place
+pub looks_before : (handoff : ℕ) (place : PassPlace) → is_before_push place ≡ true → StillLooks handoff place
 looks_before handoff AtRest e = absurd cc
 looks_before handoff Counted e = tt
 looks_before handoff (Named co) e = tt
@@ -38,8 +38,8 @@ looks_before handoff (OnDuty side task) e = absurd cc
 looks_before handoff (Published n) e = absurd cc
 looks_before handoff (Found n) e = absurd cc
 
-module _ {T : Type 0} (n : ℕ) (built : T) (h : List (LockEntry T)) (words : List ℕ) (homes : List (Opt (Slot T))) (places : List Place) (b : Baton) (stack : List ℕ) (s : Stands n built h words homes places b stack) (p : ℕ) where
-  who_touches : (co : ℕ) → ¬ (Waits p (waiters_of h)) → Touches h words (set words (who_at p) co) p
+module _ {T : Type 0} (n : ℕ) (built : T) (h : List (LockEntry T)) (words : List ℕ) (homes : List (Opt (Slot T))) (places : List PassPlace) (b : Baton) (stack : List ℕ) (s : Stands n built h words homes places b stack) (p : ℕ) where
+  who_touches : (co : ℕ) → ¬ (IsWaitingIn p (waiters_of h)) → Touches h words (set words (who_at p) co) p
   who_touches co apart =
       record {
         long = length-set words (who_at p) co;
@@ -49,7 +49,7 @@ module _ {T : Type 0} (n : ℕ) (built : T) (h : List (LockEntry T)) (words : Li
         own = λ w. absurd (apart w);
       }
 
-  next_touches : (to : ℕ) → ¬ (Waits p (waiters_of h)) → Touches h words (set words (next_at p) to) p
+  next_touches : (to : ℕ) → ¬ (IsWaitingIn p (waiters_of h)) → Touches h words (set words (next_at p) to) p
   next_touches to apart =
       record {
         long = length-set words (next_at p) to;
@@ -59,7 +59,7 @@ module _ {T : Type 0} (n : ℕ) (built : T) (h : List (LockEntry T)) (words : Li
         own = λ w. absurd (apart w);
       }
 
-  pub itself : (handoff : ℕ) (old new : Place) → get_elem? places p ≡ some old → Looks handoff new → (q : ℕ) × (place : Place) × (get_elem? (set places p new) q ≡ some place) × Looks handoff place
+  pub itself : (handoff : ℕ) (old new : PassPlace) → get_elem? places p ≡ some old → StillLooks handoff new → (q : ℕ) × (place : PassPlace) × (get_elem? (set places p new) q ≡ some place) × StillLooks handoff place
   itself handoff old new at looks = (p, new, set_here places p new (at_low places p old at), looks)
 
   pub who_stored : (co : ℕ) → get_elem? places p ≡ some Counted → Stands n built h (set words (who_at p) co) homes (set places p (Named co)) b stack
@@ -113,7 +113,7 @@ module _ {T : Type 0} (n : ℕ) (built : T) (h : List (LockEntry T)) (words : Li
       quiet_stands n built h words words homes places b stack p (Published k) (Found k) s at (record { touches = no_touch h words p; head = refl; locked = refl; handoff = refl; line = refl; before = refl; held = refl; holds = refl; duty = refl; is_at = λ k. k; linked = tt; named = tt; numbered = s.looks.numbered p (Published k) at; looker = λ o l. itself _ (Published k) _ at l })
 
   -- nobody was pushed, so somebody is counted who has still to push
-  other_looks : (k : ℕ) → get_elem? places p ≡ some (Published k) → slice_index words head_at ≡ 0 → b ≡ Offered → (q : ℕ) × (place : Place) × (get_elem? (set places p AtRest) q ≡ some place) × Looks (slice_index words handoff_at) place
+  other_looks : (k : ℕ) → get_elem? places p ≡ some (Published k) → slice_index words head_at ≡ 0 → b ≡ Offered → (q : ℕ) × (place : PassPlace) × (get_elem? (set places p AtRest) q ≡ some place) × StillLooks (slice_index words handoff_at) place
   other_looks k at empty o =
       let list = subst (λ k. ListIs k h words homes places stack) o s.lists.list in
       let bare : stack ≡ [] = none_taken (next_in words) (slice_index words head_at) stack s.lists.chain empty in

@@ -4,26 +4,26 @@ use mathlib.Core.Option.{some}
 use lib.ListN.{get_elem?}
 use Rattle.atomic_table.proofs.Lists.{at_set, set_here, set_else}
 use Rattle.aio_model.specs.LockHistory.{LockEntry, maker_of, made_by, value_of, IsLegalLock}
-use Rattle.co_mutex.specs.Places.{Place, AtRest, is_owning}
-use Rattle.co_mutex.specs.Known.{Part, Done, Known, moves, learns, makes, Goes}
-use Rattle.co_mutex.specs.Seats.{IsPart, IsSeat, SeatsStand}
+use Rattle.co_mutex.specs.Places.{PassPlace, AtRest, is_owning}
+use Rattle.co_mutex.specs.Known.{OtherPart, Done, Known, moves, learns, makes, KnownGoesOn}
+use Rattle.co_mutex.specs.Seats.{IsPassPart, IsSeat, SeatsStand}
 use Rattle.co_mutex.proofs.QuietSteps.{at_low}
 use Rattle.co_mutex.proofs.Histories.{made_by-append, made_more, made_else}
 
 module _ {T : Type 0} where
-  pub made_whole : (h : List (LockEntry T)) (seat : ℕ → ℕ) (id number : ℕ) (seen mine : List (LockEntry T)) → IsPart h seat id number seen mine → made_by number h ≡ mine
+  pub made_whole : (h : List (LockEntry T)) (seat : ℕ → ℕ) (id number : ℕ) (seen mine : List (LockEntry T)) → IsPassPart h seat id number seen mine → made_by number h ≡ mine
   made_whole h seat id number seen mine is =
       ap (made_by number) is.longer ∙ made_by-append number is.rest seen ∙ ap (λ (l : List (LockEntry T)). l ++ made_by number seen) is.none_missed ∙ is.mine_is
 
-  part_made : (h : List (LockEntry T)) (seat : ℕ → ℕ) (e : LockEntry T) (id number : ℕ) (seen mine : List (LockEntry T)) → maker_of e ≢ number → IsPart h seat id number seen mine → IsPart (e ∷ h) seat id number seen mine
+  part_made : (h : List (LockEntry T)) (seat : ℕ → ℕ) (e : LockEntry T) (id number : ℕ) (seen mine : List (LockEntry T)) → maker_of e ≢ number → IsPassPart h seat id number seen mine → IsPassPart (e ∷ h) seat id number seen mine
   part_made h seat e id number seen mine ne is =
       record { sits = is.sits; rest = e ∷ is.rest; longer = ap (λ (l : List (LockEntry T)). e ∷ l) is.longer; none_missed = made_else number e is.rest ne ∙ is.none_missed; mine_is = is.mine_is }
 
-  module _ (built : T) (h : List (LockEntry T)) (places : List Place) (seat : ℕ → ℕ) (views : List (Known T)) (id : ℕ) (v : Known T) (s : SeatsStand built h places seat views) (at : get_elem? views id ≡ some v) (live : v.live ≡ true) (new : Place) where
+  module _ (built : T) (h : List (LockEntry T)) (places : List PassPlace) (seat : ℕ → ℕ) (views : List (Known T)) (id : ℕ) (v : Known T) (s : SeatsStand built h places seat views) (at : get_elem? views id ≡ some v) (live : v.live ≡ true) (new : PassPlace) where
     me : IsSeat built h places seat id v
     me = s id v at live
 
-    pub goes_on : IsLegalLock h → Goes v h
+    pub goes_on : IsLegalLock h → KnownGoesOn v h
     goes_on legal =
         record { others = me.part.rest; longer = me.part.longer; foreign = me.part.none_missed; all_mine = made_whole h seat id v.number v.seen v.mine me.part; legal = legal }
 
@@ -31,7 +31,7 @@ module _ {T : Type 0} where
     low = at_low places v.number v.place me.placed
 
     abbrev Keeps : List (LockEntry T) → Type 0
-    Keeps g = (j number : ℕ) (seen mine : List (LockEntry T)) → number ≢ v.number → IsPart h seat j number seen mine → IsPart g seat j number seen mine
+    Keeps g = (j number : ℕ) (seen mine : List (LockEntry T)) → number ≢ v.number → IsPassPart h seat j number seen mine → IsPassPart g seat j number seen mine
 
     keeps_made : (e : LockEntry T) → maker_of e ≡ v.number → Keeps (e ∷ h)
     keeps_made e by_it j number seen mine ne is = part_made h seat e j number seen mine (λ q. ne (sym q ∙ by_it)) is
@@ -42,7 +42,7 @@ module _ {T : Type 0} where
     abbrev pub ValueStays : List (LockEntry T) → Type 0
     ValueStays g = (j : ℕ) (u : Known T) → j ≢ id → get_elem? views j ≡ some u → u.live ≡ true → is_owning u.place ≡ true → value_of built g ≡ value_of built h
 
-    my_others : (g : List (LockEntry T)) → Keeps g → (k : ℕ) (x : Part T) → get_elem? v.others k ≡ some x → IsPart g seat id x.number x.seen x.mine × (get_elem? (set places v.number new) x.number ≡ some AtRest) × (x.number ≢ v.number)
+    my_others : (g : List (LockEntry T)) → Keeps g → (k : ℕ) (x : OtherPart T) → get_elem? v.others k ≡ some x → IsPassPart g seat id x.number x.seen x.mine × (get_elem? (set places v.number new) x.number ≡ some AtRest) × (x.number ≢ v.number)
     my_others g keep k x atk =
         let t = me.others k x atk in
         (keep id x.number x.seen x.mine t.2 t.0, set_else places v.number x.number new t.2 ∙ t.1, t.2)

@@ -7,9 +7,9 @@ use Rattle.atomic_table.specs.Table.{State, Act, homes_after, stepped}
 use Rattle.aio_model.specs.LockHistory.{LockEntry, maker_of, value_of, IsLegalLock}
 use Rattle.aio_model.specs.LockNotes.{IsNoted}
 use Rattle.co_mutex.specs.declared.slot.Slot.{Slot}
-use Rattle.co_mutex.specs.Places.{Place, is_owning}
+use Rattle.co_mutex.specs.Places.{PassPlace, is_owning}
 use Rattle.co_mutex.specs.Rule.{Baton, Stands}
-use Rattle.co_mutex.specs.Known.{Done, Known, moves, learns, makes, Goes}
+use Rattle.co_mutex.specs.Known.{Done, Known, moves, learns, makes, KnownGoesOn}
 use Rattle.co_mutex.specs.Seats.{IsSeat, Kept}
 use Rattle.co_mutex.specs.Plays.{Makes}
 use Rattle.co_mutex.proofs.QuietSteps.{at_low}
@@ -23,7 +23,7 @@ set_back (x ∷ xs) (suc k) = ap (λ (l : List ℕ). x ∷ l) (set_back xs k)
 pub set_as : (words : List ℕ) (k x : ℕ) → slice_index words k ≡ x → set words k x ≡ words
 set_as words k x e = subst (λ z. set words k z ≡ words) e (set_back words k)
 
-pub isnt_owning : (place : Place) {X : Type 0} → is_owning place ≡ false → is_owning place ≡ true → X
+pub isnt_owning : (place : PassPlace) {X : Type 0} → is_owning place ≡ false → is_owning place ≡ true → X
 isnt_owning place e f = (let bad : true ≡ false = sym f ∙ e in absurd cc)
 
 module _ {T N : Type 0} (note : T → ℕ → N) (n : ℕ) (built : T) (id : ℕ) where
@@ -34,16 +34,16 @@ module _ {T N : Type 0} (note : T → ℕ → N) (n : ℕ) (built : T) (id : ℕ
     pub seat_is : IsSeat built r.history r.places r.seat id v
     seat_is = r.seats id v at live
 
-    pub placed_as : (place : Place) → v.place ≡ place → get_elem? r.places v.number ≡ some place
+    pub placed_as : (place : PassPlace) → v.place ≡ place → get_elem? r.places v.number ≡ some place
     placed_as place e = seat_is.placed ∙ ap some e
 
     pub sized_as : v.passes ≡ n
     sized_as = seat_is.sized ∙ r.lock.each
 
-    pub history_goes : Goes v r.history
+    pub history_goes : KnownGoesOn v r.history
     history_goes = goes_on built r.history r.places r.seat s.views id v r.seats at live v.place r.lock.legal
 
-    module _ (new : Place) (d : Done) (k x : ℕ) (c : List (ℕ × S)) (a : Act S) (b : Baton) (stack : List ℕ) where
+    module _ (new : PassPlace) (d : Done) (k x : ℕ) (c : List (ℕ × S)) (a : Act S) (b : Baton) (stack : List ℕ) where
       pub kept_move : is_owning new ≡ false → Stands n built r.history (set s.words k x) (homes_after s.homes c a) (set r.places v.number new) b stack → Kept note n built (stepped s k x id c (moves v new d) a)
       kept_move isnt lock =
           record { history = r.history; places = set r.places v.number new; baton = b; stack = stack; seat = r.seat; lock = lock; seats = seats_move built r.history r.places r.seat s.views id v r.seats at live new d (λ e. isnt_owning new isnt e); noted = r.noted; makers = r.makers; few = r.few }

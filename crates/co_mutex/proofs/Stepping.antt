@@ -5,7 +5,7 @@ use Rattle.co_mutex.specs.declared.slot.Slot.TheVariants.{Waiters, Out}
 use Rattle.co_mutex.specs.Lists.{Each}
 use Rattle.co_mutex.specs.PoppedList.{PoppedList}
 use Rattle.co_mutex.specs.LockWords.{next_at}
-use Rattle.co_mutex.specs.Places.{Side, Locking, Unlocking, Task, ToPop, Walking, Place, AtRest, Queued, SelfGranted, OnDuty, side_of, left_of, after_grant}
+use Rattle.co_mutex.specs.Places.{Side, Locking, Unlocking, Task, ToPop, Walking, PassPlace, AtRest, Queued, SelfGranted, OnDuty, side_of, left_of, after_grant}
 use Rattle.co_mutex.specs.Known.{NextLoad, Known, moves}
 use Rattle.co_mutex.specs.Plays.{done, Is, TakesDuty, LeftOthers, Grants, Loads}
 use Rattle.co_mutex.specs.declared.lock.CoMutex.{CoMutex}
@@ -15,7 +15,7 @@ use Rattle.co_mutex.specs.Decks.{IsResting}
 use Rattle.co_mutex.proofs.Codes.{M}
 use Rattle.co_mutex.proofs.UnlockLoop.{list_of}
 
-pub on_duty : (place : Place) (side : Side) (task : Task) → place ≡ OnDuty side task → place ≡ OnDuty (side_of place) task
+pub on_duty : (place : PassPlace) (side : Side) (task : Task) → place ≡ OnDuty side task → place ≡ OnDuty (side_of place) task
 on_duty place side task e = e ∙ ap (λ s. OnDuty s task) (sym (ap side_of e))
 
 module _ {T : Type 0} where

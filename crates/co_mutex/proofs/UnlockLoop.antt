@@ -10,12 +10,12 @@ use Rattle.aio_model.specs.LockHistory.{LockEntry, Release, Grant, IsLegalLock}
 use Rattle.co_mutex.specs.Lists.{Each}
 use Rattle.co_mutex.specs.PoppedList.{PoppedList}
 use Rattle.co_mutex.specs.LockWords.{locked_at, head_at, grant_at, who_at}
-use Rattle.co_mutex.specs.Places.{Unlocking, ToPop, Place, AtRest, OnDuty, side_of}
+use Rattle.co_mutex.specs.Places.{Unlocking, ToPop, PassPlace, AtRest, OnDuty, side_of}
 use Rattle.co_mutex.specs.Rule.{Popped}
 use Rattle.co_mutex.specs.Known.{Kind, LockedFetchSub, HeadSwap, WhoLoad, GrantStore, Done, Known, makes, moves, advances, GoesOn}
 use Rattle.co_mutex.specs.Plays.{done, LeftAlone, LeftOthers}
 use Rattle.co_mutex.specs.Passes.{IsOf, known, carried}
-use Rattle.co_mutex.specs.Waking.{AllOf, looks_for, walks, Granted, Offered, Walked}
+use Rattle.co_mutex.specs.Waking.{AllOfKinds, looks_for, walks, Granted, Offered, WalkedPasses}
 use Rattle.co_mutex.specs.Calls.{wakes, Comes, Names, word_of, UnlockSteps}
 use Rattle.co_mutex.proofs.Calls.{stands_one, stands_more}
 use Rattle.co_mutex.proofs.Codes.{M}
@@ -107,7 +107,7 @@ module _ {P T N : Type 0} where
     pub goes : GoesOn (known start).number (known start).seen (known start).mine older
     pub legal : IsLegalLock (Release (known start).number x ∷ older)
     pub steps : List Done
-    pub kinds : AllOf looks_for steps
+    pub kinds : AllOfKinds looks_for steps
     pub is : now.seat.me ≡ (advances (left_known x found (known start) older) (OnDuty Unlocking (ToPop list.waiting)) steps, (1, Out) ∷ [])
     pub each : Each (λ k. k < (known start).passes) list.waiting
     pub room : list.room ≡ 64
@@ -153,16 +153,16 @@ module _ {P T N : Type 0} where
       swap_steps head = done HeadSwap head_at head ∷ h.steps
 
       -- the head was swapped
-      swapped_is : (head : ℕ) (swapped : Known T) (place : Place) → swapped ≡ moves (known now) place (done HeadSwap head_at head) → swapped ≡ advances base place (done HeadSwap head_at head ∷ h.steps)
+      swapped_is : (head : ℕ) (swapped : Known T) (place : PassPlace) → swapped ≡ moves (known now) place (done HeadSwap head_at head) → swapped ≡ advances base place (done HeadSwap head_at head ∷ h.steps)
       swapped_is head swapped place e =
           e ∙ ap (λ (z : M T). moves z.0 place (done HeadSwap head_at head)) h.is
 
-      advance : (v w : Known T) (place place2 : Place) (steps more : List Done) → w ≡ advances v place more → advances w place2 steps ≡ advances v place2 (steps ++ more)
+      advance : (v w : Known T) (place place2 : PassPlace) (steps more : List Done) → w ≡ advances v place more → advances w place2 steps ≡ advances v place2 (steps ++ more)
       advance v w place place2 steps more e =
           ap (λ (z : Known T). advances z place2 steps) e ∙ ap (λ (l : List Done). record v { place = place2; did = l }) (sym (append_assoc steps more v.did))
 
       -- the pushed list was walked
-      pub wake_walked : (walked : Pass P T N) (list : PoppedList) (head : ℕ) (swapped : Known T) (place : Place) (side : Rattle.co_mutex.specs.Places.Side) → swapped ≡ moves (known now) place (done HeadSwap head_at head) → side ≡ Unlocking → Walked side swapped list.waiting walked.seat.me → IsOf m walked → list.room ≡ 64 → IsWaking m x start walked list
+      pub wake_walked : (walked : Pass P T N) (list : PoppedList) (head : ℕ) (swapped : Known T) (place : PassPlace) (side : Rattle.co_mutex.specs.Places.Side) → swapped ≡ moves (known now) place (done HeadSwap head_at head) → side ≡ Unlocking → WalkedPasses side swapped list.waiting walked.seat.me → IsOf m walked → list.room ≡ 64 → IsWaking m x start walked list
       wake_walked walked list head swapped place side e unlocks w pass room =
           let s = swapped_is head swapped place e in
           let passes : swapped.passes ≡ (known start).passes = ap (λ (z : Known T). z.passes) s in
@@ -181,7 +181,7 @@ module _ {P T N : Type 0} where
           }
 
       -- the duty was given up and taken back
-      pub wake_back : (offered taken : Pass P T N) (list : PoppedList) (head : ℕ) (swapped : Known T) (place : Place) (b : Bool) → swapped ≡ moves (known now) place (done HeadSwap head_at head) → Offered b swapped offered.seat.me → b ≡ true → IsOf m taken → carried offered ≡ (1, Waiters list) ∷ [] → taken.seat.me ≡ (known offered, (1, Out) ∷ []) → IsWaking m x start taken list
+      pub wake_back : (offered taken : Pass P T N) (list : PoppedList) (head : ℕ) (swapped : Known T) (place : PassPlace) (b : Bool) → swapped ≡ moves (known now) place (done HeadSwap head_at head) → Offered b swapped offered.seat.me → b ≡ true → IsOf m taken → carried offered ≡ (1, Waiters list) ∷ [] → taken.seat.me ≡ (known offered, (1, Out) ∷ []) → IsWaking m x start taken list
       wake_back offered taken list head swapped place b e o back pass had out =
           let t = taken_again b swapped offered.seat.me o back in
           let same : list ≡ record { waiting = []; last = t.0; room = 64 } = list_of list _ (sym had ∙ ap (λ (z : M T). z.1) t.1) in
@@ -202,7 +202,7 @@ module _ {P T N : Type 0} where
           }
 
       -- nobody was found, and the hand-off stays published
-      pub wake_none : (offered : Pass P T N) (head : ℕ) (swapped : Known T) (place : Place) (b : Bool) → swapped ≡ moves (known now) place (done HeadSwap head_at head) → Offered b swapped offered.seat.me → b ≡ false → Comes AtRest (Release (known start).number x ∷ []) (known start) (known offered) × UnlockSteps None (known start).did (known offered).did
+      pub wake_none : (offered : Pass P T N) (head : ℕ) (swapped : Known T) (place : PassPlace) (b : Bool) → swapped ≡ moves (known now) place (done HeadSwap head_at head) → Offered b swapped offered.seat.me → b ≡ false → Comes AtRest (Release (known start).number x ∷ []) (known start) (known offered) × UnlockSteps None (known start).did (known offered).did
       wake_none offered head swapped place b e o isnt =
           let s = swapped_is head swapped place e in
           let is : offered.seat.me ≡ (advances swapped AtRest o.steps, []) = subst (λ c. MatchBool c ((last : ℕ) × (offered.seat.me ≡ (advances swapped (OnDuty Unlocking (ToPop [])) o.steps, (1, Popped [] last) ∷ []))) (offered.seat.me ≡ (advances swapped AtRest o.steps, []))) isnt o.is in

@@ -7,7 +7,7 @@ use Rattle.co_mutex.specs.declared.slot.Slot.TheVariants.{Value, Waiters, Out}
 use Rattle.aio_model.specs.LockHistory.{value_of}
 use Rattle.aio_model.specs.LockNotes.{SameNotes}
 use Rattle.co_mutex.specs.LockWords.{locked_at, head_at, next_at, grant_at, who_at}
-use Rattle.co_mutex.specs.Places.{Side, Task, ToPop, Walking, Nobody, Granting, Place, AtRest, Holds, OnDuty, Published, Found}
+use Rattle.co_mutex.specs.Places.{Side, Task, ToPop, Walking, Nobody, Granting, PassPlace, AtRest, Holds, OnDuty, Published, Found}
 use Rattle.co_mutex.specs.Rule.{Popped}
 use Rattle.co_mutex.specs.Known.{HeadSwap, NextLoad, WhoLoad, SecondLook, Known, moves}
 use Rattle.co_mutex.specs.PoppedList.{PoppedList}
@@ -85,7 +85,7 @@ module _ {T : Type 0} where
   roomy list e =
       ap (λ r. (1, Waiters (record { waiting = list.waiting; last = list.last; room = r })) ∷ []) e
 
-  pub granted_of : (v w : Known T) (side : Side) (q who : ℕ) (place : Place) (after : M T) → w ≡ moves v place (done WhoLoad (who_at q) who) → Grants side q who (grant_at q) w after → Granted side q who v after
+  pub granted_of : (v w : Known T) (side : Side) (q who : ℕ) (place : PassPlace) (after : M T) → w ≡ moves v place (done WhoLoad (who_at q) who) → Grants side q who (grant_at q) w after → Granted side q who v after
   granted_of v w side q who place after e told =
       let t = subst (λ z. Grants side q who (grant_at q) z after) e told in
       (t.older, record { is = t.makes.is; goes = t.makes.goes; legal = t.makes.legal }, t.named)

@@ -6,7 +6,7 @@ use lib.ListN.{get_elem?}
 use Rattle.aio_model.specs.LockHistory.{LockEntry}
 use Rattle.co_mutex.specs.declared.slot.Slot.{Slot}
 use Rattle.co_mutex.specs.declared.rule.Opened.{Opened}
-use Rattle.co_mutex.specs.Places.{Side, Locking, Unlocking, Task, Place, AtRest, Counted, Named, HeadLoaded, Linked, Pushed, Loaded, Queued, SelfGranted, Holds, OnDuty, Published, Found, Looks}
+use Rattle.co_mutex.specs.Places.{Side, Locking, Unlocking, Task, PassPlace, AtRest, Counted, Named, HeadLoaded, Linked, Pushed, Loaded, Queued, SelfGranted, Holds, OnDuty, Published, Found, StillLooks}
 use Rattle.co_mutex.specs.LockWords.{locked_at, handoff_at}
 use Rattle.co_mutex.specs.Rule.{Baton, Free, Owned, Duty, Offered, EachPlace, IsAt, Stands}
 use Rattle.co_mutex.specs.Known.{Known}
@@ -14,7 +14,7 @@ use Rattle.co_mutex.specs.Opening.{holds_of}
 use Rattle.co_mutex.specs.WakeDuty.{is_between, HasOwner, HasNext}
 use Rattle.co_mutex.proofs.Frames.{duty_same}
 
-module _ {T : Type 0} (n : ℕ) (built : T) (h : List (LockEntry T)) (words : List ℕ) (homes : List (Opt (Slot T))) (places : List Place) (stack : List ℕ) where
+module _ {T : Type 0} (n : ℕ) (built : T) (h : List (LockEntry T)) (words : List ℕ) (homes : List (Opt (Slot T))) (places : List PassPlace) (stack : List ℕ) where
   at_duty_of : (c : Baton) → EachPlace (IsAt h c) places → (q : ℕ) (side : Side) (task : Task) → get_elem? places q ≡ some (OnDuty side task) → c ≡ Duty q
   at_duty_of c each q Locking task at = (each q (OnDuty Locking task) at).0
   at_duty_of c each q Unlocking task at = (each q (OnDuty Unlocking task) at).0
@@ -29,7 +29,7 @@ module _ {T : Type 0} (n : ℕ) (built : T) (h : List (LockEntry T)) (words : Li
       inr (inr (record { unowned = s.baton_stands.owner; idle = λ q side task at. (let bad = at_duty_of Offered s.baton_stands.each q side task at in absurd cc); published = s.baton_stands.fit.1; looker = s.looks.looker refl }))
 
 -- who is between two calls has nothing left to look at
-looks_no_more : (handoff : ℕ) (place : Place) → is_between place ≡ true → Looks handoff place → ⊥
+looks_no_more : (handoff : ℕ) (place : PassPlace) → is_between place ≡ true → StillLooks handoff place → ⊥
 looks_no_more handoff AtRest e l = l
 looks_no_more handoff Counted e l = absurd cc
 looks_no_more handoff (Named co) e l = absurd cc

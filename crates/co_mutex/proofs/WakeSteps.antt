@@ -9,7 +9,7 @@ use lib.ListN.{get_elem?}
 use Rattle.atomic_table.specs.Table.{State, Me, Act, keeps, gives, step, Valid, carried_after, stepped, Allows}
 use Rattle.aio_chain.specs.Chains.{IsChain}
 use Rattle.co_mutex.specs.declared.slot.Slot.{Slot}
-use Rattle.aio_model.specs.LockHistory.{Grant, Waits, waiters_of}
+use Rattle.aio_model.specs.LockHistory.{Grant, IsWaitingIn, waiters_of}
 use Rattle.co_mutex.specs.Places.{Side, Locking, Unlocking, ToPop, Walking, Nobody, Granting, AtRest, Queued, SelfGranted, OnDuty, Published, Found, after_grant}
 use Rattle.co_mutex.specs.LockWords.{handoff_at, head_at, next_at, grant_at, who_at, next_in}
 use Rattle.co_mutex.specs.Rule.{Popped, Offered, Owned, Stands}
@@ -25,14 +25,14 @@ use Rattle.co_mutex.proofs.Ends.{bounds}
 use Rattle.co_mutex.proofs.StepForms.{set_back, sized_as, placed_as, kept_move, kept_make, makes_told}
 
 -- the word that leads to the first of a chain of waiters
-pub head_low : (next : ℕ → ℕ) (n word : ℕ) (xs : List ℕ) → IsChain next word xs → ((q : ℕ) → Waits q xs → q < n) → word ≤ n
+pub head_low : (next : ℕ → ℕ) (n word : ℕ) (xs : List ℕ) → IsChain next word xs → ((q : ℕ) → IsWaitingIn q xs → q < n) → word ≤ n
 head_low next n word [] c low = omega (arith, c)
 head_low next n word (x ∷ xs) c low = let e = c.0 in let l = low x (inl refl) in omega (arith, e, l)
 
-waits_turned : (q : ℕ) (xs : List ℕ) → Waits q xs → Waits q (reverse xs)
+waits_turned : (q : ℕ) (xs : List ℕ) → IsWaitingIn q xs → IsWaitingIn q (reverse xs)
 waits_turned q (x ∷ xs) w =
     let turned : reverse (x ∷ xs) ≡ reverse xs ++ x ∷ [] = reverse-append (x ∷ []) xs in
-    subst (Waits q) (sym turned) (⊎_elim (λ e. waits_back q (reverse xs) (x ∷ []) (inl e)) (λ r. waits_front q (reverse xs) (x ∷ []) (waits_turned q xs r)) w)
+    subst (IsWaitingIn q) (sym turned) (⊎_elim (λ e. waits_back q (reverse xs) (x ∷ []) (inl e)) (λ r. waits_front q (reverse xs) (x ∷ []) (waits_turned q xs r)) w)
 waits_turned q [] w = absurd w
 
 side_is : (side : Side) → (side ≡ Locking → ⊥) → side ≡ Unlocking
@@ -65,7 +65,7 @@ module _ {T N : Type 0} (note : T → ℕ → N) (n : ℕ) (built : T) (slots id
 
       low : slice_index s.words head_at ≤ me.0.passes
       low =
-          subst (λ z. slice_index s.words head_at ≤ z) (sym (sized_as note n built id me.0 s r at live)) (head_low (next_in s.words) n (slice_index s.words head_at) r.stack r.lock.lists.chain (λ q w. r.lock.below q (subst (Waits q) (sym all) (waits_turned q r.stack w))))
+          subst (λ z. slice_index s.words head_at ≤ z) (sym (sized_as note n built id me.0 s r at live)) (head_low (next_in s.words) n (slice_index s.words head_at) r.stack r.lock.lists.chain (λ q w. r.lock.below q (subst (IsWaitingIn q) (sym all) (waits_turned q r.stack w))))
 
       by : (c : Bool) → eqb (slice_index s.words head_at) 0 ≡ c → Result me s head_at 0 (swaps_at me.0.place me (slice_index s.words head_at))
       by true empty =
@@ -107,23 +107,23 @@ module _ {T N : Type 0} (note : T → ℕ → N) (n : ℕ) (built : T) (slots id
       all : waiters_of r.history ≡ (reverse left ++ list) ++ reverse r.stack
       all = waiters_now n built r.history s.words s.homes r.places r.baton r.stack r.lock me.0.number side (Walking word left list) here
 
-      waits_left : (i : ℕ) → Waits i left → Waits i (waiters_of r.history)
+      waits_left : (i : ℕ) → IsWaitingIn i left → IsWaitingIn i (waiters_of r.history)
       waits_left i k =
-          subst (Waits i) (sym all) (waits_front i (reverse left ++ list) (reverse r.stack) (waits_front i (reverse left) list (waits_turned i left k)))
+          subst (IsWaitingIn i) (sym all) (waits_front i (reverse left ++ list) (reverse r.stack) (waits_front i (reverse left) list (waits_turned i left k)))
 
       passes : me.0.passes ≡ n
       passes = sized_as note n built id me.0 s r at live
 
       below : w.q < me.0.passes
       below =
-          subst (λ z. w.q < z) (sym passes) (r.lock.below w.q (waits_left w.q (subst (Waits w.q) (sym w.left_is) (inl refl))))
+          subst (λ z. w.q < z) (sym passes) (r.lock.below w.q (waits_left w.q (subst (IsWaitingIn w.q) (sym w.left_is) (inl refl))))
 
       found : ℕ
       found = slice_index s.words (next_at w.q)
 
       more : found ≤ me.0.passes
       more =
-          subst (λ z. found ≤ z) (sym passes) (head_low (next_in s.words) n found w.rest w.chain (λ i k. r.lock.below i (waits_left i (subst (Waits i) (sym w.left_is) (inr k)))))
+          subst (λ z. found ≤ z) (sym passes) (head_low (next_in s.words) n found w.rest w.chain (λ i k. r.lock.below i (waits_left i (subst (IsWaitingIn i) (sym w.left_is) (inr k)))))
 
       room : length list < 64
       room =

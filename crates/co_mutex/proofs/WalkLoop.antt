@@ -11,7 +11,7 @@ use Rattle.co_mutex.specs.Places.{Side, ToPop, Walking, OnDuty, side_of}
 use Rattle.co_mutex.specs.Known.{NextLoad, Done, moves, advances}
 use Rattle.co_mutex.specs.Plays.{done, Is, Loads}
 use Rattle.co_mutex.specs.Passes.{IsOf, known, carried}
-use Rattle.co_mutex.specs.Waking.{walks, AllOf, Walked}
+use Rattle.co_mutex.specs.Waking.{walks, AllOfKinds, WalkedPasses}
 use Rattle.co_mutex.proofs.Codes.{M}
 
 module _ {P T N : Type 0} where
@@ -24,7 +24,7 @@ module _ {P T N : Type 0} where
     pub low : word ≤ (known start).passes
     pub left : List ℕ
     pub steps : List Done
-    pub kinds : AllOf walks steps
+    pub kinds : AllOfKinds walks steps
     pub is : now.seat.me ≡ (advances (known start) (OnDuty (side start) (Walking word left list.waiting)) steps, (1, Out) ∷ [])
     pub each : Each (λ k. k < (known start).passes) list.waiting
     pub room : list.room ≡ 64
@@ -89,7 +89,7 @@ module _ {P T N : Type 0} where
       }
 
   -- that was the last
-  pub walk_end : (m : CoMutex P T N) (start now after : Pass P T N) (list next : PoppedList) (word q found : ℕ) → IsWalking m start now list word → q + 1 ≡ word → Told now after q found → next.waiting ≡ q ∷ list.waiting → found ≡ 0 → Walked (side start) (known start) next.waiting after.seat.me
+  pub walk_end : (m : CoMutex P T N) (start now after : Pass P T N) (list next : PoppedList) (word q found : ℕ) → IsWalking m start now list word → q + 1 ≡ word → Told now after q found → next.waiting ≡ q ∷ list.waiting → found ≡ 0 → WalkedPasses (side start) (known start) next.waiting after.seat.me
   walk_end m start now after list next word q found h e told longer last =
       let at = walk_place m start now list word q h e in
       let t = told at.0 list.waiting at.1 in

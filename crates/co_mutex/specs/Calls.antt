@@ -9,10 +9,10 @@ use Rattle.co_mutex.specs.declared.answers.Begun.TheVariants.{Held as BeginsHeld
 use Rattle.co_mutex.specs.declared.answers.Lock.{Lock}
 use Rattle.co_mutex.specs.declared.answers.Lock.TheVariants.{Held, Queued as Waits}
 use Rattle.co_mutex.specs.LockWords.{locked_at, grant_at}
-use Rattle.co_mutex.specs.Places.{Place, AtRest, Counted, Queued, Holds}
+use Rattle.co_mutex.specs.Places.{PassPlace, AtRest, Counted, Queued, Holds}
 use Rattle.co_mutex.specs.Known.{Kind, LockedCompare, LockedFetchAdd, LockedFetchSub, WhoStore, HeadLoad, NextStore, HeadCompare, HeadSwap, NextLoad, WhoLoad, GrantStore, GrantSwap, HandoffLoad, HandoffStore, HandoffCompare, SecondLook, Done, Known, moves, advances}
 use Rattle.co_mutex.specs.Plays.{done}
-use Rattle.co_mutex.specs.Waking.{AllOf}
+use Rattle.co_mutex.specs.Waking.{AllOfKinds}
 
 -- the number that names a coroutine
 abbrev pub word_of : CoId → ℕ
@@ -22,7 +22,7 @@ word_of co = co.co * 2 ^ 32 + co.home
 pub record Did (test : Kind → Bool) (before after : List Done) : Type 0 where
   pub steps : List Done
   pub is : after ≡ steps ++ before
-  pub kinds : AllOf test steps
+  pub kinds : AllOfKinds test steps
 
 -- the kinds of step of `finish_lock`
 abbrev pub finishes : Kind → Bool
@@ -64,7 +64,7 @@ pub record UnlockSteps (answer : Option CoId) (before after : List Done) : Type 
 
 module _ {T : Type 0} where
   -- the pass is in this place, by a call that made these entries
-  pub record Comes (place : Place) (entries : List (LockEntry T)) (before after : Known T) : Type 0 where
+  pub record Comes (place : PassPlace) (entries : List (LockEntry T)) (before after : Known T) : Type 0 where
     pub place_is : after.place ≡ place
     pub number_is : after.number ≡ before.number
     pub stands : StandsInLock before.number entries before.seen before.mine after.seen after.mine
@@ -97,10 +97,10 @@ module _ {T N : Type 0} (note : T → ℕ → N) (built : T) where
     pub own : note value before.number ≡ note (value_of built after.mine) before.number
 
   module _ {P : Type 0} where
-    abbrev pub Begins : Known T → Begun P T N → Known T → Type 0
-    Begins before (BeginsHeld guard) after =
+    abbrev pub BeginsLock : Known T → Begun P T N → Known T → Type 0
+    BeginsLock before (BeginsHeld guard) after =
         HoldsNow (Got before.number ∷ []) guard.value before after × ((after.did ≡ done LockedCompare locked_at 0 ∷ before.did) ⊎ ((w : ℕ) × (w ≢ 0) × (after.did ≡ done LockedFetchAdd locked_at 0 ∷ done LockedCompare locked_at w ∷ before.did)))
-    Begins before (Later waiting) after =
+    BeginsLock before (Later waiting) after =
         (waiting.number ≡ before.number) × ((w : ℕ) × (more : ℕ) × (w ≢ 0) × (more ≢ 0) × (after ≡ advances before Counted (done LockedFetchAdd locked_at more ∷ done LockedCompare locked_at w ∷ [])))
 
     abbrev pub Finishes : ℕ → Known T → Lock P T N → Known T → Type 0
@@ -114,8 +114,8 @@ module _ {T N : Type 0} (note : T → ℕ → N) (built : T) where
     Locks who before (Waits named) after = Queues who before named after
 
     -- a resume: one swap of the grant word, which found 1 exactly where the pass now holds
-    abbrev pub Resumes : Known T → Lock P T N → Known T → Type 0
-    Resumes before (Held guard) after =
+    abbrev pub ResumesLock : Known T → Lock P T N → Known T → Type 0
+    ResumesLock before (Held guard) after =
         HoldsNow [] guard.value before after × (after.did ≡ done GrantSwap (grant_at before.number) 1 ∷ before.did)
-    Resumes before (Waits named) after =
+    ResumesLock before (Waits named) after =
         (named ≡ None) × (after ≡ moves before Queued (done GrantSwap (grant_at before.number) 0))

@@ -4,7 +4,7 @@ use Rattle.atomic_table.specs.Table.{State}
 use Rattle.co_mutex.specs.declared.slot.Slot.{Slot}
 use Rattle.co_mutex.specs.declared.rule.Opened.{Opened}
 use Rattle.co_mutex.specs.Places.{AtRest}
-use Rattle.co_mutex.specs.Known.{Part, Known, new_known}
+use Rattle.co_mutex.specs.Known.{OtherPart, Known, new_known}
 use Rattle.co_mutex.specs.Seats.{Kept}
 
 module _ {T N : Type 0} (note : T → ℕ → N) where
@@ -13,7 +13,7 @@ module _ {T N : Type 0} (note : T → ℕ → N) where
 
 module _ {T : Type 0} where
   -- so many passes that did nothing yet, from this number on
-  abbrev pub new_parts : ℕ → ℕ → List (Part T)
+  abbrev pub new_parts : ℕ → ℕ → List (OtherPart T)
   new_parts p zero = []
   new_parts p (suc count) =
       record { number = p; seen = []; mine = [] } ∷ new_parts (suc p) count
@@ -26,7 +26,7 @@ module _ {T : Type 0} where
   abbrev pub front : Known T → Known T
   front known = record known { others = [] }
 
-  abbrev pub behind_of : Known T → List (Part T) → Known T
+  abbrev pub behind_of : Known T → List (OtherPart T) → Known T
   behind_of known [] = known
   behind_of known (part ∷ parts) =
       record known { number = part.number; place = AtRest; seen = part.seen; mine = part.mine; did = []; others = parts }
@@ -35,10 +35,10 @@ module _ {T : Type 0} where
   abbrev pub behind : Known T → Known T
   behind known = behind_of known known.others
 
-  abbrev pub part_of : Known T → Part T
+  abbrev pub part_of : Known T → OtherPart T
   part_of known = record { number = known.number; seen = known.seen; mine = known.mine }
 
-  abbrev pub parts_of : Known T → List (Part T)
+  abbrev pub parts_of : Known T → List (OtherPart T)
   parts_of known = part_of known ∷ known.others
 
   abbrev pub joined : Known T → Known T → Known T

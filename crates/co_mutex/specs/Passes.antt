@@ -4,7 +4,7 @@ use Rattle.co_mutex.specs.declared.slot.Slot.{Slot}
 use Rattle.co_mutex.specs.declared.slot.Slot.TheVariants.{Out}
 use Rattle.co_mutex.specs.declared.lock.CoMutex.{CoMutex}
 use Rattle.co_mutex.specs.declared.lock.Pass.{Pass}
-use Rattle.co_mutex.specs.Places.{Place, Holds}
+use Rattle.co_mutex.specs.Places.{PassPlace, Holds}
 use Rattle.co_mutex.specs.Known.{Known, new_known}
 
 module _ {P T N : Type 0} where
@@ -32,7 +32,7 @@ module _ {P T N : Type 0} where
 
 module _ {T : Type 0} where
   -- between two calls a pass has a slot exactly where it holds
-  abbrev pub hand_of : Place → List (ℕ × Slot T)
+  abbrev pub hand_of : PassPlace → List (ℕ × Slot T)
   hand_of Holds = (0, Out) ∷ []
   hand_of _ = []
 

@@ -7,9 +7,9 @@ use Rattle.co_mutex.specs.Lists.{Each}
 use Rattle.co_mutex.specs.declared.slot.Slot.{Slot}
 use Rattle.co_mutex.specs.declared.slot.Slot.TheVariants.{Value}
 use Rattle.co_mutex.specs.LockWords.{locked_at, handoff_at, head_at}
-use Rattle.co_mutex.specs.Places.{Side, Locking, Unlocking, Place, ToPop, Walking, Nobody, Granting, AtRest, Counted, Named, HeadLoaded, Linked, Pushed, Loaded, Queued, SelfGranted, Holds, OnDuty, Published, Found, after_grant}
+use Rattle.co_mutex.specs.Places.{Side, Locking, Unlocking, PassPlace, ToPop, Walking, Nobody, Granting, AtRest, Counted, Named, HeadLoaded, Linked, Pushed, Loaded, Queued, SelfGranted, Holds, OnDuty, Published, Found, after_grant}
 use Rattle.co_mutex.specs.Rule.{Popped}
-use Rattle.co_mutex.specs.Known.{Kind, LockedCompare, LockedFetchAdd, LockedFetchSub, WhoStore, HeadLoad, NextStore, HeadCompare, HeadSwap, NextLoad, WhoLoad, GrantStore, GrantSwap, HandoffLoad, HandoffStore, HandoffCompare, SecondLook, Done, Known, moves, learns, makes, Goes}
+use Rattle.co_mutex.specs.Known.{Kind, LockedCompare, LockedFetchAdd, LockedFetchSub, WhoStore, HeadLoad, NextStore, HeadCompare, HeadSwap, NextLoad, WhoLoad, GrantStore, GrantSwap, HandoffLoad, HandoffStore, HandoffCompare, SecondLook, Done, Known, moves, learns, makes, KnownGoesOn}
 
 abbrev pub done : Kind → ℕ → ℕ → Done
 done kind word found = record { kind = kind; word = word; found = found }
@@ -19,9 +19,9 @@ module _ {T : Type 0} where
   Is after me = after ≡ me
 
   -- A pass makes an entry over this history.
-  pub record Makes (entry : LockEntry T) (place : Place) (done : Done) (older : List (LockEntry T)) (hand : List (ℕ × Slot T)) (before : Known T) (after : Me (Slot T) (Known T)) : Type 0 where
+  pub record Makes (entry : LockEntry T) (place : PassPlace) (done : Done) (older : List (LockEntry T)) (hand : List (ℕ × Slot T)) (before : Known T) (after : Me (Slot T) (Known T)) : Type 0 where
     pub is : after ≡ (makes before place done older entry, hand)
-    pub goes : Goes before older
+    pub goes : KnownGoesOn before older
     pub legal : IsLegalLock (entry ∷ older)
 
   -- The sub: at 1 the pass is at rest, and else it has the duty, and the popped list in hand.
@@ -45,7 +45,7 @@ module _ {T : Type 0} where
   stored_who step before found after =
       Is after (moves before.0 (Named step.first) (done WhoStore step.word found), before.1)
 
-  abbrev pub heads_at : Place → Me (Slot T) (Known T) → ℕ → Me (Slot T) (Known T) → Type 0
+  abbrev pub heads_at : PassPlace → Me (Slot T) (Known T) → ℕ → Me (Slot T) (Known T) → Type 0
   heads_at (Named co) before found after =
       Is after (moves before.0 (HeadLoaded co found) (done HeadLoad head_at found), before.1)
   heads_at _ before found after = Unit {0}
@@ -53,7 +53,7 @@ module _ {T : Type 0} where
   abbrev pub loaded_head : Step (Slot T) → Me (Slot T) (Known T) → ℕ → Me (Slot T) (Known T) → Type 0
   loaded_head step before found after = heads_at before.0.place before found after
 
-  abbrev pub links_at : Place → ℕ → Me (Slot T) (Known T) → ℕ → Me (Slot T) (Known T) → Type 0
+  abbrev pub links_at : PassPlace → ℕ → Me (Slot T) (Known T) → ℕ → Me (Slot T) (Known T) → Type 0
   links_at (HeadLoaded co head) word before found after =
       Is after (moves before.0 (Linked co head) (done NextStore word found), before.1)
   links_at _ word before found after = Unit {0}
@@ -65,7 +65,7 @@ module _ {T : Type 0} where
     pub older : List (LockEntry T)
     pub makes : Makes (Wait before.0.number co) Pushed (done HeadCompare head_at found) older before.1 before.0 after
 
-  abbrev pub pushes_at : Place → Me (Slot T) (Known T) → ℕ → Me (Slot T) (Known T) → Type 0
+  abbrev pub pushes_at : PassPlace → Me (Slot T) (Known T) → ℕ → Me (Slot T) (Known T) → Type 0
   pushes_at (Linked co head) before found after =
       MatchBool (found == head) (Pushes co found before after) (Is after (moves before.0 (Named co) (done HeadCompare head_at found), before.1))
   pushes_at _ before found after = Unit {0}
@@ -82,7 +82,7 @@ module _ {T : Type 0} where
     pub last : ℕ
     pub is : after ≡ (moves v (OnDuty side (ToPop [])) (done HandoffCompare handoff_at found), (1, Popped [] last) ∷ [])
 
-  abbrev pub takes_at : Place → Me (Slot T) (Known T) → ℕ → Me (Slot T) (Known T) → Type 0
+  abbrev pub takes_at : PassPlace → Me (Slot T) (Known T) → ℕ → Me (Slot T) (Known T) → Type 0
   takes_at (Loaded k) before found after =
       MatchBool (found == k) (TakesDuty Locking found before.0 after) (Is after (moves before.0 Queued (done HandoffCompare handoff_at found), []))
   takes_at (Found k) before found after =
@@ -97,7 +97,7 @@ module _ {T : Type 0} where
     pub more : found ≤ before.0.passes
     pub is : MatchBool (found == 0) ((side ≡ Unlocking) × Is after (moves before.0 (OnDuty side Nobody) (done HeadSwap head_at found), before.1)) ((left : List ℕ) × Is after (moves before.0 (OnDuty side (Walking found left [])) (done HeadSwap head_at found), before.1))
 
-  abbrev pub swaps_at : Place → Me (Slot T) (Known T) → ℕ → Me (Slot T) (Known T) → Type 0
+  abbrev pub swaps_at : PassPlace → Me (Slot T) (Known T) → ℕ → Me (Slot T) (Known T) → Type 0
   swaps_at (OnDuty side task) before found after = Swaps side before found after
   swaps_at _ before found after = Unit {0}
 
@@ -112,7 +112,7 @@ module _ {T : Type 0} where
     pub more : found ≤ before.0.passes
     pub is : MatchBool (found == 0) (Is after (moves before.0 (OnDuty side (ToPop (q ∷ list))) (done NextLoad at found), before.1)) ((left : List ℕ) × Is after (moves before.0 (OnDuty side (Walking found left (q ∷ list))) (done NextLoad at found), before.1))
 
-  abbrev pub loads_at : Place → ℕ → Me (Slot T) (Known T) → ℕ → Me (Slot T) (Known T) → Type 0
+  abbrev pub loads_at : PassPlace → ℕ → Me (Slot T) (Known T) → ℕ → Me (Slot T) (Known T) → Type 0
   loads_at (OnDuty side (Walking word left list)) at before found after =
       Loads side word list at before found after
   loads_at _ at before found after = Unit {0}
@@ -120,7 +120,7 @@ module _ {T : Type 0} where
   abbrev pub loaded_next : Step (Slot T) → Me (Slot T) (Known T) → ℕ → Me (Slot T) (Known T) → Type 0
   loaded_next step before found after = loads_at before.0.place step.word before found after
 
-  abbrev pub names_at : Place → ℕ → Me (Slot T) (Known T) → ℕ → Me (Slot T) (Known T) → Type 0
+  abbrev pub names_at : PassPlace → ℕ → Me (Slot T) (Known T) → ℕ → Me (Slot T) (Known T) → Type 0
   names_at (OnDuty side (ToPop (q ∷ rest))) at before found after =
       Is after (moves before.0 (OnDuty side (Granting q found rest)) (done WhoLoad at found), before.1)
   names_at _ at before found after = Unit {0}
@@ -134,7 +134,7 @@ module _ {T : Type 0} where
     pub makes : Makes (Grant v.number q) (after_grant side v.number q) (done GrantStore at 1) older [] v after
     pub named : co ≡ coroutine_of q older
 
-  abbrev pub grants_at : Place → ℕ → Known T → Me (Slot T) (Known T) → Type 0
+  abbrev pub grants_at : PassPlace → ℕ → Known T → Me (Slot T) (Known T) → Type 0
   grants_at (OnDuty side (Granting q co rest)) at v after = Grants side q co at v after
   grants_at _ at v after = Unit {0}
 
@@ -145,7 +145,7 @@ module _ {T : Type 0} where
   stored_number step before found after =
       Is after (moves before.0 (Published step.first) (done HandoffStore handoff_at found), [])
 
-  abbrev pub looks_at : Place → Me (Slot T) (Known T) → ℕ → Me (Slot T) (Known T) → Type 0
+  abbrev pub looks_at : PassPlace → Me (Slot T) (Known T) → ℕ → Me (Slot T) (Known T) → Type 0
   looks_at (Published k) before found after =
       Is after (moves before.0 (cond (found == 0) AtRest (Found k)) (done SecondLook head_at found), before.1)
   looks_at _ before found after = Unit {0}
@@ -172,7 +172,7 @@ module _ {T N : Type 0} (note : T → ℕ → N) where
   pub record FindsGrant (at : ℕ) (built : T) (before after : Me (Slot T) (Known T)) : Type 0 where
     pub all : List (LockEntry T)
     pub is : after ≡ (learns before.0 Holds (done GrantSwap at 1) all, (0, Value (value_of built all)) ∷ [])
-    pub goes : Goes before.0 all
+    pub goes : KnownGoesOn before.0 all
     pub owner : owner_of all ≡ Some before.0.number
     pub noted : IsNoted note built all
 
@@ -181,7 +181,7 @@ module _ {T N : Type 0} (note : T → ℕ → N) where
     pub is : after ≡ (moves before.0 Holds (done GrantSwap at 1), (0, Value (value_of built before.0.seen)) ∷ [])
     pub noted : IsNoted note built before.0.seen
 
-  abbrev pub finds_at : Place → ℕ → T → Me (Slot T) (Known T) → ℕ → Me (Slot T) (Known T) → Type 0
+  abbrev pub finds_at : PassPlace → ℕ → T → Me (Slot T) (Known T) → ℕ → Me (Slot T) (Known T) → Type 0
   finds_at Queued at built before found after =
       MatchBool (found == 1) (FindsGrant at built before after) ((found ≡ 0) × Is after (moves before.0 Queued (done GrantSwap at 0), []))
   finds_at SelfGranted at built before found after =

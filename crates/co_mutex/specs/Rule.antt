@@ -4,8 +4,8 @@ use Rattle.std.specs.Prelude.{◌≡◌, ◌≢◌, ℕ, ◌+◌, ◌<◌, ◌==
 use mathlib.Core.Option.{Option as Opt, none, some}
 use lib.ListN.{get_elem?}
 use Rattle.aio_chain.specs.Chains.{IsChain}
-use Rattle.aio_model.specs.LockHistory.{LockEntry, Waits, owner_of, waiters_of, coroutine_of, value_of, IsLegalLock}
-use Rattle.co_mutex.specs.Places.{Side, Locking, Unlocking, Task, ToPop, Walking, Nobody, Granting, Place, AtRest, Counted, Named, HeadLoaded, Linked, Pushed, Loaded, Queued, SelfGranted, Holds, OnDuty, Published, Found, is_in_line, is_before_push, is_holding, count, Looks, IsNumbered, pending}
+use Rattle.aio_model.specs.LockHistory.{LockEntry, IsWaitingIn, owner_of, waiters_of, coroutine_of, value_of, IsLegalLock}
+use Rattle.co_mutex.specs.Places.{Side, Locking, Unlocking, Task, ToPop, Walking, Nobody, Granting, PassPlace, AtRest, Counted, Named, HeadLoaded, Linked, Pushed, Loaded, Queued, SelfGranted, Holds, OnDuty, Published, Found, is_in_line, is_before_push, is_holding, count, StillLooks, IsNumbered, pending}
 use Rattle.co_mutex.specs.declared.slot.Slot.{Slot}
 use Rattle.co_mutex.specs.declared.slot.Slot.TheVariants.{Value, Waiters}
 use Rattle.co_mutex.specs.LockWords.{locked_at, handoff_at, head_at, grant_at, who_at, word_count, next_in}
@@ -21,8 +21,8 @@ pub data Baton : Type 0 where
 abbrev pub Popped : {T : Type 0} → List ℕ → ℕ → Slot T
 Popped waiting last = Waiters (record { waiting = waiting; last = last; room = 64 })
 
-abbrev pub EachPlace : (ℕ → Place → Type 0) → List Place → Type 0
-EachPlace P places = (p : ℕ) (place : Place) → get_elem? places p ≡ some place → P p place
+abbrev pub EachPlace : (ℕ → PassPlace → Type 0) → List PassPlace → Type 0
+EachPlace P places = (p : ℕ) (place : PassPlace) → get_elem? places p ≡ some place → P p place
 
 -- Counts.
 
@@ -44,13 +44,13 @@ Fit Offered locked handoff = (0 < locked) × (handoff ≢ 0)
 
 -- Grant words.
 
-abbrev pub grant_word : Baton → ℕ → Place → ℕ
+abbrev pub grant_word : Baton → ℕ → PassPlace → ℕ
 grant_word Free p place = 0
 grant_word (Owned q) p place = cond (q == p && not (is_holding place)) 1 0
 grant_word (Duty q) p place = 0
 grant_word Offered p place = 0
 
-abbrev pub GrantsStand : List ℕ → List Place → Baton → Type 0
+abbrev pub GrantsStand : List ℕ → List PassPlace → Baton → Type 0
 GrantsStand words places baton = EachPlace (λ p place. slice_index words (grant_at p) ≡ grant_word baton p place) places
 
 abbrev pub IsTask : (ℕ → ℕ) → Task → Type 0
@@ -59,18 +59,18 @@ IsTask next (Walking word left found) = (0 < word) × IsChain next word left
 IsTask next Nobody = Unit {0}
 IsTask next (Granting q co rest) = Unit {0}
 
-abbrev pub IsLinked : List ℕ → ℕ → Place → Type 0
-IsLinked words p (Linked co found) = next_in words p ≡ found
-IsLinked words p _ = Unit {0}
+abbrev pub LinkStands : List ℕ → ℕ → PassPlace → Type 0
+LinkStands words p (Linked co found) = next_in words p ≡ found
+LinkStands words p _ = Unit {0}
 
 -- Looking.
 
-pub record LooksStand (handoff : ℕ) (places : List Place) (baton : Baton) : Type 0 where
+pub record LooksStand (handoff : ℕ) (places : List PassPlace) (baton : Baton) : Type 0 where
   pub numbered : EachPlace (λ p place. IsNumbered place) places
-  pub looker : baton ≡ Offered → (p : ℕ) × (place : Place) × (get_elem? places p ≡ some place) × Looks handoff place
+  pub looker : baton ≡ Offered → (p : ℕ) × (place : PassPlace) × (get_elem? places p ≡ some place) × StillLooks handoff place
 
 module _ {T : Type 0} where
-  pub record Counts (h : List (LockEntry T)) (locked : ℕ) (places : List Place) : Type 0 where
+  pub record CountsStand (h : List (LockEntry T)) (locked : ℕ) (places : List PassPlace) : Type 0 where
     pub line : locked ≡ count is_in_line places
     pub parts : locked ≡ one_if (owner_of h) + length (waiters_of h) + count is_before_push places
 
@@ -78,32 +78,32 @@ module _ {T : Type 0} where
 
   -- where each pass stands in the history
   abbrev pub IsApart : List (LockEntry T) → Baton → ℕ → Type 0
-  IsApart h baton p = ¬ (Waits p (waiters_of h)) × (baton ≢ Owned p)
+  IsApart h baton p = ¬ (IsWaitingIn p (waiters_of h)) × (baton ≢ Owned p)
 
-  abbrev pub IsAt : List (LockEntry T) → Baton → ℕ → Place → Type 0
+  abbrev pub IsAt : List (LockEntry T) → Baton → ℕ → PassPlace → Type 0
   IsAt h baton p AtRest = IsApart h baton p
   IsAt h baton p Counted = IsApart h baton p
   IsAt h baton p (Named co) = IsApart h baton p
   IsAt h baton p (HeadLoaded co found) = IsApart h baton p
   IsAt h baton p (Linked co found) = IsApart h baton p
-  IsAt h baton p Pushed = Waits p (waiters_of h) ⊎ (baton ≡ Owned p)
-  IsAt h baton p (Loaded n) = Waits p (waiters_of h) ⊎ (baton ≡ Owned p)
-  IsAt h baton p Queued = Waits p (waiters_of h) ⊎ (baton ≡ Owned p)
+  IsAt h baton p Pushed = IsWaitingIn p (waiters_of h) ⊎ (baton ≡ Owned p)
+  IsAt h baton p (Loaded n) = IsWaitingIn p (waiters_of h) ⊎ (baton ≡ Owned p)
+  IsAt h baton p Queued = IsWaitingIn p (waiters_of h) ⊎ (baton ≡ Owned p)
   IsAt h baton p SelfGranted = baton ≡ Owned p
   IsAt h baton p Holds = baton ≡ Owned p
-  IsAt h baton p (OnDuty Locking task) = (baton ≡ Duty p) × Waits p (waiters_of h)
-  IsAt h baton p (OnDuty Unlocking task) = (baton ≡ Duty p) × ¬ (Waits p (waiters_of h))
+  IsAt h baton p (OnDuty Locking task) = (baton ≡ Duty p) × IsWaitingIn p (waiters_of h)
+  IsAt h baton p (OnDuty Unlocking task) = (baton ≡ Duty p) × ¬ (IsWaitingIn p (waiters_of h))
   IsAt h baton p (Published n) = IsApart h baton p
   IsAt h baton p (Found n) = IsApart h baton p
 
-  pub record BatonStands (h : List (LockEntry T)) (locked handoff : ℕ) (places : List Place) (baton : Baton) : Type 0 where
+  pub record BatonStands (h : List (LockEntry T)) (locked handoff : ℕ) (places : List PassPlace) (baton : Baton) : Type 0 where
     pub owner : owner_of h ≡ owner_in baton
     pub fit : Fit baton locked handoff
     pub each : EachPlace (IsAt h baton) places
 
   -- The value.
 
-  abbrev pub ValueStands : T → List (LockEntry T) → List (Opt (Slot T)) → List Place → Type 0
+  abbrev pub ValueStands : T → List (LockEntry T) → List (Opt (Slot T)) → List PassPlace → Type 0
   ValueStands built h homes places =
       ((p : ℕ) × (get_elem? places p ≡ some Holds) × (get_elem? homes 0 ≡ some none))
       ⊎ (EachPlace (λ p place. place ≢ Holds) places × (get_elem? homes 0 ≡ some (some (Value (value_of built h)))))
@@ -118,7 +118,7 @@ module _ {T : Type 0} where
     pub waiters : waiters_of h ≡ popped ++ reverse stack
 
   -- or it is with this pass
-  pub record IsWith (p : ℕ) (h : List (LockEntry T)) (words : List ℕ) (homes : List (Opt (Slot T))) (places : List Place) (stack : List ℕ) : Type 0 where
+  pub record IsWith (p : ℕ) (h : List (LockEntry T)) (words : List ℕ) (homes : List (Opt (Slot T))) (places : List PassPlace) (stack : List ℕ) : Type 0 where
     pub side : Side
     pub task : Task
     pub place : get_elem? places p ≡ some (OnDuty side task)
@@ -126,38 +126,38 @@ module _ {T : Type 0} where
     pub tasked : IsTask (next_in words) task
     pub waiters : waiters_of h ≡ pending task ++ reverse stack
 
-  abbrev pub ListIs : Baton → List (LockEntry T) → List ℕ → List (Opt (Slot T)) → List Place → List ℕ → Type 0
+  abbrev pub ListIs : Baton → List (LockEntry T) → List ℕ → List (Opt (Slot T)) → List PassPlace → List ℕ → Type 0
   ListIs Free h words homes places stack = IsHome h homes stack
   ListIs (Owned p) h words homes places stack = IsHome h homes stack
   ListIs (Duty p) h words homes places stack = IsWith p h words homes places stack
   ListIs Offered h words homes places stack = (home : IsHome h homes stack) × (home.popped ≡ [])
 
-  pub record ListsStand (h : List (LockEntry T)) (words : List ℕ) (homes : List (Opt (Slot T))) (places : List Place) (baton : Baton) (stack : List ℕ) : Type 0 where
+  pub record ListsStand (h : List (LockEntry T)) (words : List ℕ) (homes : List (Opt (Slot T))) (places : List PassPlace) (baton : Baton) (stack : List ℕ) : Type 0 where
     pub chain : IsChain (next_in words) (slice_index words head_at) stack
     pub list : ListIs baton h words homes places stack
-    pub linked : EachPlace (IsLinked words) places
+    pub linked : EachPlace (LinkStands words) places
 
   -- Names.
 
-  abbrev pub IsNamed : List (LockEntry T) → List ℕ → ℕ → Place → Type 0
-  IsNamed h words p (Named co) = slice_index words (who_at p) ≡ co
-  IsNamed h words p (HeadLoaded co found) = slice_index words (who_at p) ≡ co
-  IsNamed h words p (Linked co found) = slice_index words (who_at p) ≡ co
-  IsNamed h words p (OnDuty side (Granting q co rest)) = co ≡ coroutine_of q h
-  IsNamed h words p _ = Unit {0}
+  abbrev pub NameStands : List (LockEntry T) → List ℕ → ℕ → PassPlace → Type 0
+  NameStands h words p (Named co) = slice_index words (who_at p) ≡ co
+  NameStands h words p (HeadLoaded co found) = slice_index words (who_at p) ≡ co
+  NameStands h words p (Linked co found) = slice_index words (who_at p) ≡ co
+  NameStands h words p (OnDuty side (Granting q co rest)) = co ≡ coroutine_of q h
+  NameStands h words p _ = Unit {0}
 
-  pub record NamesStand (h : List (LockEntry T)) (words : List ℕ) (places : List Place) : Type 0 where
-    pub waiting : (q : ℕ) → Waits q (waiters_of h) → slice_index words (who_at q) ≡ coroutine_of q h
-    pub each : EachPlace (IsNamed h words) places
+  pub record NamesStand (h : List (LockEntry T)) (words : List ℕ) (places : List PassPlace) : Type 0 where
+    pub waiting : (q : ℕ) → IsWaitingIn q (waiters_of h) → slice_index words (who_at q) ≡ coroutine_of q h
+    pub each : EachPlace (NameStands h words) places
 
   -- The whole.
 
-  pub record Stands (passes : ℕ) (built : T) (h : List (LockEntry T)) (words : List ℕ) (homes : List (Opt (Slot T))) (places : List Place) (baton : Baton) (stack : List ℕ) : Type 0 where
+  pub record Stands (passes : ℕ) (built : T) (h : List (LockEntry T)) (words : List ℕ) (homes : List (Opt (Slot T))) (places : List PassPlace) (baton : Baton) (stack : List ℕ) : Type 0 where
     pub long : length words ≡ word_count passes
     pub each : length places ≡ passes
     pub legal : IsLegalLock h
-    pub below : (q : ℕ) → Waits q (waiters_of h) → q < passes
-    pub counts : Counts h (slice_index words locked_at) places
+    pub below : (q : ℕ) → IsWaitingIn q (waiters_of h) → q < passes
+    pub counts : CountsStand h (slice_index words locked_at) places
     pub baton_stands : BatonStands h (slice_index words locked_at) (slice_index words handoff_at) places baton
     pub grants : GrantsStand words places baton
     pub value : ValueStands built h homes places

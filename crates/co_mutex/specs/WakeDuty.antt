@@ -3,26 +3,26 @@ use Rattle.std.specs.Prelude.{◌≡◌, ◌≢◌, ℕ, Bool, true, false, Some
 use mathlib.Core.Option.{some}
 use lib.ListN.{get_elem?}
 use Rattle.aio_model.specs.LockHistory.{LockEntry, owner_of}
-use Rattle.co_mutex.specs.Places.{Side, Task, Place, AtRest, Queued, Holds, OnDuty, Looks}
+use Rattle.co_mutex.specs.Places.{Side, Task, PassPlace, AtRest, Queued, Holds, OnDuty, StillLooks}
 
 -- where a pass stands between two calls, unless it is counted and still to be queued
-abbrev pub is_between : Place → Bool
+abbrev pub is_between : PassPlace → Bool
 is_between AtRest = true
 is_between Queued = true
 is_between Holds = true
 is_between _ = false
 
-module _ {T : Type 0} (h : List (LockEntry T)) (handoff : ℕ) (places : List Place) where
+module _ {T : Type 0} (h : List (LockEntry T)) (handoff : ℕ) (places : List PassPlace) where
   -- no pass has the duty to grant
-  abbrev pub IsIdle : Type 0
-  IsIdle =
+  abbrev pub HasNoDuty : Type 0
+  HasNoDuty =
       (p : ℕ) (side : Side) (task : Task) → get_elem? places p ≡ some (OnDuty side task) → ⊥
 
   -- it has an owner
   pub record HasOwner : Type 0 where
     pub owner : ℕ
     pub owns : owner_of h ≡ Some owner
-    pub idle : IsIdle
+    pub idle : HasNoDuty
     pub unpublished : handoff ≡ 0
 
   -- one pass, and no other, has the duty to grant
@@ -39,8 +39,8 @@ module _ {T : Type 0} (h : List (LockEntry T)) (handoff : ℕ) (places : List Pl
   pub record IsOffered : Type 0 where
     pub published : handoff ≢ 0
     pub unowned : owner_of h ≡ None
-    pub idle : IsIdle
-    pub looker : (p : ℕ) × (place : Place) × (get_elem? places p ≡ some place) × Looks handoff place
+    pub idle : HasNoDuty
+    pub looker : (p : ℕ) × (place : PassPlace) × (get_elem? places p ≡ some place) × StillLooks handoff place
 
   abbrev pub HasNext : Type 0
   HasNext = HasOwner ⊎ HasDuty ⊎ IsOffered

@@ -46,10 +46,10 @@ is_numbered HandoffStore number = not (number == 0)
 is_numbered _ number = true
 
 -- all are of kinds that pass
-abbrev pub AllOf : (Kind → Bool) → List Done → Type 0
-AllOf test [] = Unit {0}
-AllOf test (step ∷ steps) =
-    ((test step.kind && is_numbered step.kind step.found) ≡ true) × AllOf test steps
+abbrev pub AllOfKinds : (Kind → Bool) → List Done → Type 0
+AllOfKinds test [] = Unit {0}
+AllOfKinds test (step ∷ steps) =
+    ((test step.kind && is_numbered step.kind step.found) ≡ true) × AllOfKinds test steps
 
 module _ {T : Type 0} where
   -- the pass loaded the coroutine of q, granted it and has nothing in hand
@@ -60,19 +60,19 @@ module _ {T : Type 0} where
   -- the hand-off was published: it was taken back, or not
   pub record Offered (taken : Bool) (v : Known T) (after : Me (Slot T) (Known T)) : Type 0 where
     pub steps : List Done
-    pub kinds : AllOf looks_for steps
+    pub kinds : AllOfKinds looks_for steps
     pub is : MatchBool taken ((last : ℕ) × (after ≡ (advances v (OnDuty Unlocking (ToPop [])) steps, (1, Popped [] last) ∷ []))) (after ≡ (advances v AtRest steps, []))
 
   -- a pushed pass looked at the hand-off: it took it, or is queued
-  pub record LookedAt (taken : Bool) (v : Known T) (after : Me (Slot T) (Known T)) : Type 0 where
+  pub record LooksAtHandOff (taken : Bool) (v : Known T) (after : Me (Slot T) (Known T)) : Type 0 where
     pub steps : List Done
-    pub kinds : AllOf takes_up steps
+    pub kinds : AllOfKinds takes_up steps
     pub is : MatchBool taken ((last : ℕ) × (after ≡ (advances v (OnDuty Locking (ToPop [])) steps, (1, Popped [] last) ∷ []))) (after ≡ (advances v Queued steps, []))
 
   -- the pushed list was walked, and the first of the waiters is a pass
-  pub record Walked (side : Side) (v : Known T) (waiting : List ℕ) (after : Me (Slot T) (Known T)) : Type 0 where
+  pub record WalkedPasses (side : Side) (v : Known T) (waiting : List ℕ) (after : Me (Slot T) (Known T)) : Type 0 where
     pub steps : List Done
-    pub kinds : AllOf walks steps
+    pub kinds : AllOfKinds walks steps
     pub q : ℕ
     pub rest : List ℕ
     pub some_one : waiting ≡ q ∷ rest
@@ -84,11 +84,11 @@ module _ {T : Type 0} where
     pub older : List (LockEntry T)
     pub found : ℕ
     pub steps : List Done
-    pub kinds : AllOf pushes steps
+    pub kinds : AllOfKinds pushes steps
     pub makes : Makes (Wait v.number who) Pushed (done HeadCompare head_at found) older [] (advances v v.place steps) after
 
   -- a locker with the duty granted q, as the first of all who wait
-  pub record Woke (q who : ℕ) (v : Known T) (after : Me (Slot T) (Known T)) : Type 0 where
+  pub record WokePass (q who : ℕ) (v : Known T) (after : Me (Slot T) (Known T)) : Type 0 where
     pub steps : List Done
-    pub kinds : AllOf walks steps
+    pub kinds : AllOfKinds walks steps
     pub granted : Granted Locking q who (advances v v.place steps) after

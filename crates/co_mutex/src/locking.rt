@@ -9,7 +9,7 @@ ghost use Rattle.co_mutex.specs.Known.{LockedCompare, moves};
 ghost use Rattle.co_mutex.specs.Plays.{done};
 ghost use Rattle.co_mutex.specs.Passes.{IsOf, IsPassOf, built_of, known, carried};
 ghost use Rattle.co_mutex.specs.Waking.{PushedFor};
-ghost use Rattle.co_mutex.specs.Calls.{HoldsNow, Begins, Resumes};
+ghost use Rattle.co_mutex.specs.Calls.{HoldsNow, BeginsLock, ResumesLock};
 
 use crate::answers::{Begun, Lock};
 use crate::lock::{Busy, CoMutex, Guard, Pass, Waiting};
@@ -41,7 +41,7 @@ impl<P: LockRule> CoMutex<P> {
         requires pass { IsPassOf self.now pass.old }
         requires rest { (known pass.old).place ≡ AtRest }
         ensures pass { IsPassOf self.now pass.new }
-        ensures lock { Begins P.note (built_of self.now) (known pass.old) result (known pass.new) }
+        ensures lock { BeginsLock P.note (built_of self.now) (known pass.old) result (known pass.new) }
     {
         if self.compare_locked(pass) == 0 {
             let value = self.take_value(pass);
@@ -61,7 +61,7 @@ impl<P: LockRule> CoMutex<P> {
         requires pass { IsPassOf self.now pass.old }
         requires queued { (known pass.old).place ≡ Queued }
         ensures pass { IsPassOf self.now pass.new }
-        ensures lock { Resumes P.note (built_of self.now) (known pass.old) result (known pass.new) }
+        ensures lock { ResumesLock P.note (built_of self.now) (known pass.old) result (known pass.new) }
     {
         if self.swap_grant(pass) == 1 {
             let value = self.take_value(pass);

@@ -3,7 +3,7 @@ ghost use Rattle.std.specs.Prelude.{◌≡◌, ◌≢◌, ℕ, Some, None, List,
 ghost use Rattle.co_mutex.specs.Places.{Locking, ToPop, AtRest, Counted, Pushed, Queued, OnDuty};
 ghost use Rattle.co_mutex.specs.Rule.{Popped as Listed};
 ghost use Rattle.co_mutex.specs.Passes.{IsOf, IsPassOf, built_of, known, carried};
-ghost use Rattle.co_mutex.specs.Waking.{PushedFor, LookedAt, Woke};
+ghost use Rattle.co_mutex.specs.Waking.{PushedFor, LooksAtHandOff, WokePass};
 ghost use Rattle.co_mutex.specs.Calls.{word_of as number_of, finishes, locks, Did, Finishes, Locks};
 
 use crate::answers::{Begun, Lock};
@@ -38,7 +38,7 @@ impl<P: LockRule> CoMutex<P> {
         requires duty { (known pass.old).place ≡ OnDuty Locking (ToPop []) }
         requires list { (last : ℕ) × (carried pass.old ≡ (1, Listed [] last) ∷ []) }
         ensures pass { IsOf self.now pass.new }
-        ensures woke { Woke result.0 result.1 (known pass.old) pass.new.seat.me }
+        ensures woke { WokePass result.0 result.1 (known pass.old) pass.new.seat.me }
     {
         let mut list = self.take_list(pass);
         let head = self.swap_head(pass);
@@ -55,7 +55,7 @@ impl<P: LockRule> CoMutex<P> {
         requires pass { IsOf self.now pass.old }
         requires place { (carried pass.old ≡ []) × ((known pass.old).place ≡ Pushed) }
         ensures pass { IsOf self.now pass.new }
-        ensures looked { LookedAt result (known pass.old) pass.new.seat.me }
+        ensures looked { LooksAtHandOff result (known pass.old) pass.new.seat.me }
     {
         let number = self.load_handoff(pass);
         if number == 0 {

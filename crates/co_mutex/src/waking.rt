@@ -3,7 +3,7 @@ ghost use Rattle.std.specs.Prelude.{◌≡◌, ◌≢◌, ℕ, ◌<◌, ◌≤�
 ghost use Rattle.co_mutex.specs.declared.slot.Slot.TheVariants.{Out};
 ghost use Rattle.co_mutex.specs.Places.{Unlocking, ToPop, Walking, Nobody, OnDuty, side_of};
 ghost use Rattle.co_mutex.specs.Passes.{IsOf, known, carried};
-ghost use Rattle.co_mutex.specs.Waking.{Granted, Offered, Walked};
+ghost use Rattle.co_mutex.specs.Waking.{Granted, Offered, WalkedPasses};
 
 use crate::lock::{CoMutex, Pass};
 use crate::popped::Popped;
@@ -51,7 +51,7 @@ impl<P: LockRule> CoMutex<P> {
         requires duty { (left : List ℕ) × ((known pass.old).place ≡ OnDuty (side_of (known pass.old).place) (Walking first left [])) }
         requires list { (carried pass.old ≡ (1, Out) ∷ []) × (list.old.room ≡ 64) × (list.old.waiting ≡ []) }
         ensures pass { IsOf self.now pass.new }
-        ensures walked { Walked (side_of (known pass.old).place) (known pass.old) list.new.waiting pass.new.seat.me }
+        ensures walked { WalkedPasses (side_of (known pass.old).place) (known pass.old) list.new.waiting pass.new.seat.me }
         ensures list { list.new.room ≡ 64 }
     {
         let mut word = first;

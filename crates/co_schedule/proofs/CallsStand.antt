@@ -7,8 +7,8 @@ use Rattle.aio_chain.proofs.Chains.{Each}
 use Rattle.table_seats.specs.Calls.{newest_of}
 use Rattle.table_seats.proofs.Standing.{HasGrown, grown_by_none, grown_by_others, grown_by_one, stands_of}
 use Rattle.co_schedule.specs.Known.{Done, Phase, AtRest, Stage, Known, part_of}
-use Rattle.co_schedule.specs.Standing.{tried, Follows, Walked, Missed, SchedulesAtLast, TakesAll, Begins}
-use Rattle.co_schedule.specs.Calls.{are_within, HasScheduled, HasTaken, HasBegun}
+use Rattle.co_schedule.specs.Standing.{tried, WalksOn, Walked, Missed, SchedulesAtLast, TakesAll, BeginsFirst}
+use Rattle.co_schedule.specs.Calls.{are_within, HasScheduled, HasTaken, HasBegunFirst}
 use Rattle.co_schedule.proofs.Histories.{queue_below}
 
 -- tries change but what was done
@@ -62,7 +62,7 @@ walked_rest v w (c ∷ cos) is =
     let now : w ≡ record mid { did = w.did; stage = w.stage } = follows_rest c is.1 mid w is.3 in
     now ∙ ap (λ (k : Known). record k { did = w.did; stage = w.stage }) same
   where
-    follows_rest : (c found : ℕ) (a b : Known) → Follows c found a b → b ≡ record a { did = b.did; stage = b.stage }
+    follows_rest : (c found : ℕ) (a b : Known) → WalksOn c found a b → b ≡ record a { did = b.did; stage = b.stage }
     follows_rest c found a b f = f.rest ∙ ap (λ (k : Known). record a { did = k.did; stage = k.stage }) (sym f.rest)
 
 pub taken : (v w : Known) → 0 < v.count → TakesAll v w → HasTaken v w
@@ -87,7 +87,7 @@ taken_within v w is =
 
 -- The first one.
 
-pub begun : (c : ℕ) (given : Bool) (more : List ℕ) (v w : Known) → v.first ≡ 64 → v.stage.taken ≡ c ∷ more → Begins c given more v w → HasBegun c given v w
+pub begun : (c : ℕ) (given : Bool) (more : List ℕ) (v w : Known) → v.first ≡ 64 → v.stage.taken ≡ c ∷ more → BeginsFirst c given more v w → HasBegunFirst c given v w
 begun c given more v w first taken is =
     let o = is.opened in
     let enters = is.enters in
@@ -97,7 +97,7 @@ begun c given more v w first taken is =
     let one : HasGrown seat_of o.first (Enter c ∷ []) v.seen v.mine w.seen w.mine = grown_by_one seat_of (IsLegal o.coroutines) [] v.seen v.mine (Enter c) (part_of o) (part_of w) start enters.makes (sym (firsts ∙ first)) in
     let left : w.stage.taken ≡ more = ap (λ (k : Known). k.stage.taken) enters.rest in
     record {
-      steps = subst (λ l. Begins c given l v w) (sym left) is;
+      steps = subst (λ l. BeginsFirst c given l v w) (sym left) is;
       stands = stands_of seat_of (IsLegal v.coroutines) v.first (Enter c ∷ []) v.seen v.mine w.seen w.mine (subst (λ k. HasGrown seat_of k (Enter c ∷ []) v.seen v.mine w.seen w.mine) firsts one) (subst (λ k. IsLegal k w.seen) sized enters.makes.legal) (ap newest_of enters.makes.seen);
       first = taken ∙ ap (λ (l : List ℕ). c ∷ l) (sym left);
       rest = opened_on o enters.rest ∙ ap (λ (k : Known). record k { seen = w.seen; mine = w.mine; did = w.did; stage = w.stage }) is.opens.rest;
@@ -107,13 +107,13 @@ begun c given more v w first taken is =
     opened_on o e = e ∙ ap (λ (k : Known). record o { seen = k.seen; mine = k.mine; did = k.did; stage = k.stage }) (sym e)
 
 -- the run goes on
-pub begun_over : (c : ℕ) (given : Bool) (v w : Known) → HasBegun c given v w → v.stage.word ≡ 0 → (w.stage.word ≡ 0) × (w.stage.hand ≡ None) × (w.stage.run ≡ w.stage.taken)
+pub begun_over : (c : ℕ) (given : Bool) (v w : Known) → HasBegunFirst c given v w → v.stage.word ≡ 0 → (w.stage.word ≡ 0) × (w.stage.hand ≡ None) × (w.stage.run ≡ w.stage.taken)
 begun_over c given v w is over =
     let b = is.steps in
     let e = b.enters.rest in
     (ap (λ (k : Known). k.stage.word) e ∙ ap (λ (k : Known). k.stage.word) b.opens.rest ∙ over, ap (λ (k : Known). k.stage.hand) e, ap (λ (k : Known). k.stage.run) e ∙ sym (ap (λ (k : Known). k.stage.taken) e))
 
-pub begun_within : (c : ℕ) (given : Bool) (v w : Known) → HasBegun c given v w → are_within v.coroutines v.stage.taken ≡ true → are_within w.coroutines w.stage.taken ≡ true
+pub begun_within : (c : ℕ) (given : Bool) (v w : Known) → HasBegunFirst c given v w → are_within v.coroutines v.stage.taken ≡ true → are_within w.coroutines w.stage.taken ≡ true
 begun_within c given v w is within =
     let sized : w.coroutines ≡ v.coroutines = ap (λ (k : Known). k.coroutines) is.rest in
     subst (λ k. are_within k w.stage.taken ≡ true) (sym sized) (rest_within v.coroutines c w.stage.taken (subst (λ l. are_within v.coroutines l ≡ true) is.first within))

@@ -13,9 +13,9 @@ use Rattle.table_seats.proofs.Seats.{each_set, seats_make, makes_of}
 use Rattle.aio_model.specs.CoroutineHistory.{Entry, Enter, History, seat_of, Free, Scheduled, Pushed, place_of, queue_of, IsLegal}
 use Rattle.co_schedule.specs.Words.{head_at, mark_at, next_at, mark_of, next_in}
 use Rattle.co_schedule.specs.Known.{MarkLoad, MarkClear, is_at_rest, Stage, Known, part_of, numbers_of}
-use Rattle.co_schedule.specs.Rule.{IsOwed, Walks, Knows, Stands}
+use Rattle.co_schedule.specs.Rule.{IsOwed, WalkStands, Knows, Stands}
 use Rattle.co_schedule.specs.Slots.{is_at_hand, HasState, Holds, Kept}
-use Rattle.co_schedule.specs.Standing.{done, Opens, Enters}
+use Rattle.co_schedule.specs.Standing.{done, Opens, IsFirstEntered}
 use Rattle.co_schedule.specs.Plays.{opened, entered}
 use Rattle.aio_model.proofs.Coroutines.{is_free}
 use Rattle.co_schedule.proofs.Histories.{place_here, place_else, place_below, first_is_pushed}
@@ -82,7 +82,7 @@ module _ (n : ℕ) (h : History) (words : List ℕ) (views : List Known) (id : �
               walks = λ own. record { is = refl; rest = []; chain = over; whole = refl; held = tt };
             })
             (λ beside u ne atu. knows_kept n words words' h g stand.taken more u (owed_still u)
-            (λ own old. no_other_home n h words views id beside v u (Walks words' more u.stage) stand at atu ne is_home own));
+            (λ own old. no_other_home n h words views id beside v u (WalkStands words' more u.stage) stand at atu ne is_home own));
       }
     where
       owed_still : (u : Known) (d : ℕ) (given : Bool) → is_at_rest u.phase ≡ false → IsOwed h u.first d given → IsOwed (Enter c ∷ h) u.first d given × (next_in (set words (mark_at c) 0) d ≡ next_in words d)
@@ -169,7 +169,7 @@ module _ {S : Type 0} (given_in : S → Bool) (IsOf : ℕ → S → Type 0) wher
       let sized : v.coroutines ≡ n = was.coroutines_are numbered in
       let gave_then = given_at_hand c v.stage place.1 (get_elem? s.homes c) hand (kept.2.full id v at is_home c low place.0 place.1 place.2) in
       let makes = makes_of seat_of (IsLegal v.coroutines) h entry (part_of v) (part_of w) is numbered refl refl (subst (λ k. IsLegal k (entry ∷ h)) (sym sized) now.legal) in
-      let told : Enters c more v w = record {
+      let told : IsFirstEntered c more v w = record {
         makes = makes;
         scheduler = place.0;
         was = ap (place_of c) (sym (same_older entry h (makes.others ++ v.seen) makes.seen)) ∙ place.2 ∙ ap (λ b. Pushed place.0 b) (sym gave_then);
@@ -184,7 +184,7 @@ module _ {S : Type 0} (given_in : S → Bool) (IsOf : ℕ → S → Type 0) wher
           λ d others in_hand eq.
               let index : c ≡ d = same_first c d more others (sym run ∙ eq) in
               let rests : more ≡ others = same_rest c d more others (sym run ∙ eq) in
-              subst (λ k. Enters k others v w) index (subst (λ l. Enters c l v w) rests told),
+              subst (λ k. IsFirstEntered k others v w) index (subst (λ l. IsFirstEntered c l v w) rests told),
         ),
       )
 

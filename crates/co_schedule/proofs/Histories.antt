@@ -8,18 +8,18 @@ use Rattle.aio_model.proofs.Indices.{times_of-append, drop-head}
 use Rattle.aio_chain.specs.LinkList.{contains, IsEachOnce}
 use Rattle.aio_chain.proofs.Chains.{Each}
 use Rattle.aio_chain.proofs.Contained.{length-le_room}
-use Rattle.aio_model.specs.CoroutineHistory.{Entry, Schedule, Push, Enter, History, Place, Free, Scheduled, Pushed, pushed, place_of, queue_of, IsLegal}
+use Rattle.aio_model.specs.CoroutineHistory.{Entry, Schedule, Push, Enter, History, CoPlace, Free, Scheduled, Pushed, pushed, place_of, queue_of, IsLegal}
 use Rattle.aio_model.proofs.Coroutines.{is_free}
 
 -- Places.
 
-abbrev pub is_pushed : Place → Bool
+abbrev pub is_pushed : CoPlace → Bool
 is_pushed Free = false
 is_pushed (Scheduled s g) = false
 is_pushed (Pushed s g) = true
 
 -- what an entry does to the place of its coroutine
-abbrev pub moved : Entry → Place → Place
+abbrev pub moved : Entry → CoPlace → CoPlace
 moved (Schedule d cause given s) p = Scheduled s given
 moved (Push d s) p = pushed p
 moved (Enter d) p = Free
@@ -49,7 +49,7 @@ place_below n (Schedule d cause given s ∷ P) c legal busy = by (eqb c d) refl 
     by false e k more = more k
 place_below n (Push d s ∷ P) c legal busy = by (eqb c d) busy (place_below n P c legal.1)
   where
-    was : (p : Place) → is_free (pushed p) ≡ false → is_free p ≡ false
+    was : (p : CoPlace) → is_free (pushed p) ≡ false → is_free p ≡ false
     was Free k = k
     was (Scheduled t g) k = refl
     was (Pushed t g) k = refl
@@ -116,7 +116,7 @@ each_by_times P (x ∷ xs) h =
     let once : 1 ≤ times_of x (x ∷ xs) = rw here (omega arith) in
     (h x once, each_by_times P xs (λ i more. h i (omega (arith, more))))
 
-queued : (p : Place) (t : ℕ) → t ≡ bit (is_pushed p) → 1 ≤ t → is_free p ≡ false
+queued : (p : CoPlace) (t : ℕ) → t ≡ bit (is_pushed p) → 1 ≤ t → is_free p ≡ false
 queued Free t e k = absurd (omega arith)
 queued (Scheduled s g) t e k = refl
 queued (Pushed s g) t e k = refl
@@ -139,7 +139,7 @@ first_is_pushed n h c legal first =
     let one : times_of c (queue_of h) ≡ 1 + times_of c (drop 1 (queue_of h)) = counted ∙ ap (λ (k : Bool). bit k + times_of c (drop 1 (queue_of h))) here in
     of (place_of c h) refl (sym (once n h c legal) ∙ one)
   where
-    of : (p : Place) → place_of c h ≡ p → bit (is_pushed p) ≡ 1 + times_of c (drop 1 (queue_of h)) → (s : ℕ) × (given : Bool) × (place_of c h ≡ Pushed s given)
+    of : (p : CoPlace) → place_of c h ≡ p → bit (is_pushed p) ≡ 1 + times_of c (drop 1 (queue_of h)) → (s : ℕ) × (given : Bool) × (place_of c h ≡ Pushed s given)
     of Free e k = absurd (omega arith)
     of (Scheduled s g) e k = absurd (omega arith)
     of (Pushed s g) e k = (s, g, e)

@@ -11,7 +11,7 @@ use Rattle.table_seats.proofs.Entries.{owns_first}
 use Rattle.aio_model.specs.CoroutineHistory.{History, seat_of, Free, Scheduled, Pushed, place_of}
 use Rattle.co_schedule.specs.Words.{next_in}
 use Rattle.co_schedule.specs.Known.{Phase, AtRest, Marked, HeadLoaded, Linked, is_at_rest, Stage, Known, part_of, numbers_of}
-use Rattle.co_schedule.specs.Rule.{IsOwed, Owes, Walks, Knows, Stands}
+use Rattle.co_schedule.specs.Rule.{IsOwed, Owes, WalkStands, Knows, Stands}
 use Rattle.co_schedule.specs.Slots.{is_at_hand, IsVacant, HasState, Holds, HoldsAll, SlotsStand}
 
 -- Lists.
@@ -38,7 +38,7 @@ owes_kept words other h g n (HeadLoaded c given found) k owes = (k c given refl 
 owes_kept words other h g n (Linked c given found) k owes =
     ((k c given refl owes.0).0, (k c given refl owes.0).1 ∙ owes.1)
 
-pub walks_kept : (words other taken : List ℕ) (stage : Stage) → Each (λ c. next_in other c ≡ next_in words c) taken → Walks words taken stage → Walks other taken stage
+pub walks_kept : (words other taken : List ℕ) (stage : Stage) → Each (λ c. next_in other c ≡ next_in words c) taken → WalkStands words taken stage → WalkStands other taken stage
 walks_kept words other taken stage same walks =
     let parts = subst (Each (λ c. next_in other c ≡ next_in words c)) walks.whole same in
     record {
@@ -50,7 +50,7 @@ walks_kept words other taken stage same walks =
     }
 
 -- what another view says stays, where what it owes stays and what was taken stays
-pub knows_kept : (n : ℕ) (words other : List ℕ) (h g : History) (taken now : List ℕ) (u : Known) → ((c : ℕ) (given : Bool) → is_at_rest u.phase ≡ false → IsOwed h u.first c given → IsOwed g u.first c given × (next_in other c ≡ next_in words c)) → (owns (numbers_of u) home ≡ true → Walks words taken u.stage → Walks other now u.stage) → Knows n h words taken u → Knows n g other now u
+pub knows_kept : (n : ℕ) (words other : List ℕ) (h g : History) (taken now : List ℕ) (u : Known) → ((c : ℕ) (given : Bool) → is_at_rest u.phase ≡ false → IsOwed h u.first c given → IsOwed g u.first c given × (next_in other c ≡ next_in words c)) → (owns (numbers_of u) home ≡ true → WalkStands words taken u.stage → WalkStands other now u.stage) → Knows n h words taken u → Knows n g other now u
 knows_kept n words other h g taken now u owed walks k =
     record {
       coroutines_are = k.coroutines_are;

@@ -9,7 +9,7 @@ use Rattle.co_schedule.specs.Words.{head_at, mark_at, word_count}
 use Rattle.co_schedule.specs.Known.{part_of, first_known}
 use Rattle.co_schedule.specs.Rule.{Stands}
 use Rattle.co_schedule.specs.Slots.{Kept}
-use Rattle.co_schedule.specs.Held.{AllOf}
+use Rattle.co_schedule.specs.Held.{AllOfOrigin}
 
 abbrev pub zeros : ℕ → List ℕ
 zeros k = replicate k 0
@@ -43,6 +43,6 @@ opening_stands n =
       knows = each_alone _ v (record { coroutines_are = λ _. refl; active = λ q. absurd cc; owes = tt; walks = λ own. record { is = refl; rest = []; chain = refl; whole = refl; held = tt } });
     }
 
-pub opening_kept : {P O : Type 0} (given_in : Option P → Bool) (IsOf : ℕ → Option P → Type 0) (n : ℕ) (origin : O) → given_in None ≡ false → AllOf (Kept given_in IsOf n) origin (opening (zeros (word_count n)) (replicate n None) (record { known = first_known n; origin = Some origin }))
+pub opening_kept : {P O : Type 0} (given_in : Option P → Bool) (IsOf : ℕ → Option P → Type 0) (n : ℕ) (origin : O) → given_in None ≡ false → AllOfOrigin (Kept given_in IsOf n) origin (opening (zeros (word_count n)) (replicate n None) (record { known = first_known n; origin = Some origin }))
 opening_kept given_in IsOf n origin none_given =
     (([], opening_stands n, record { vacant = λ c low free. (None, at_home None n c low, none_given); full = λ id u at own c low s given is. absurd cc }), each_alone _ _ (λ _. refl))

@@ -11,10 +11,10 @@ use Rattle.aio_chain.proofs.Chains.{Each, each-front, each-back, chain_kept, pus
 use Rattle.table_seats.specs.Seats.{owns, home}
 use Rattle.table_seats.proofs.Seats.{each_set, seats_make, makes_of}
 use Rattle.table_seats.proofs.Entries.{owns_first}
-use Rattle.aio_model.specs.CoroutineHistory.{Push, History, seat_of, Place, Free, Scheduled, Pushed, pushed, place_of, IsLegal}
+use Rattle.aio_model.specs.CoroutineHistory.{Push, History, seat_of, CoPlace, Free, Scheduled, Pushed, pushed, place_of, IsLegal}
 use Rattle.co_schedule.specs.Words.{head_at, mark_at, next_at, mark_of, next_in}
 use Rattle.co_schedule.specs.Known.{HeadCompare, AtRest, Marked, Linked, Stage, Known, part_of, numbers_of}
-use Rattle.co_schedule.specs.Rule.{IsOwed, Owes, IsHeld, Walks, Knows, Stands}
+use Rattle.co_schedule.specs.Rule.{IsOwed, Owes, OutIsFirst, WalkStands, Knows, Stands}
 use Rattle.co_schedule.specs.Slots.{is_at_hand, Holds, Kept}
 use Rattle.co_schedule.specs.Standing.{done, Pushes, Misses}
 use Rattle.co_schedule.specs.Plays.{head_compared}
@@ -33,7 +33,7 @@ after_miss v c given found =
     record v { did = done HeadCompare head_at found ∷ v.did; phase = Marked c given }
 
 -- a push leaves the mark
-same_mark : (p : Place) → mark_of (pushed p) ≡ mark_of p
+same_mark : (p : CoPlace) → mark_of (pushed p) ≡ mark_of p
 same_mark Free = refl
 same_mark (Scheduled s g) = refl
 same_mark (Pushed s g) = refl
@@ -71,13 +71,13 @@ module _ (n : ℕ) (h : History) (words : List ℕ) (views : List Known) (id : �
       }
 
 -- what isn't in the run isn't at hand
-pub not_at_hand : (words taken : List ℕ) (stage : Stage) (c : ℕ) → Walks words taken stage → Each (λ d. c ≢ d) taken → is_at_hand c stage.hand ≡ false
+pub not_at_hand : (words taken : List ℕ) (stage : Stage) (c : ℕ) → WalkStands words taken stage → Each (λ d. c ≢ d) taken → is_at_hand c stage.hand ≡ false
 not_at_hand words taken stage c walks away = by stage.hand walks.held
   where
     in_run : Each (λ d. c ≢ d) stage.run
     in_run = each-back (λ d. c ≢ d) (reverse walks.rest) stage.run (subst (Each (λ d. c ≢ d)) walks.whole away)
 
-    by : (hand : Option ℕ) → IsHeld hand stage.run → is_at_hand c hand ≡ false
+    by : (hand : Option ℕ) → OutIsFirst hand stage.run → is_at_hand c hand ≡ false
     by None held = refl
     by (Some d) held = ne_eqb c d (subst (Each (λ d. c ≢ d)) held.1 in_run).0
 

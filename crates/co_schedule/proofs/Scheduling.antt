@@ -12,7 +12,7 @@ use Rattle.table_seats.proofs.Seats.{each_set, seats_make, makes_of}
 use Rattle.table_seats.specs.Seats.{own_entries}
 use Rattle.table_seats.proofs.Entries.{owns_first, own-append}
 use Rattle.aio_model.specs.declared.causes.Cause.{Cause}
-use Rattle.aio_model.specs.CoroutineHistory.{Schedule, History, seat_of, Place, Free, Scheduled, Pushed, place_of, IsLegal}
+use Rattle.aio_model.specs.CoroutineHistory.{Schedule, History, seat_of, CoPlace, Free, Scheduled, Pushed, place_of, IsLegal}
 use Rattle.co_schedule.specs.Words.{head_at, mark_at, next_at, mark_of, next_in}
 use Rattle.co_schedule.specs.Known.{MarkCompare, AtRest, Marked, Known, part_of, numbers_of}
 use Rattle.co_schedule.specs.Rule.{Knows, Stands}
@@ -31,7 +31,7 @@ after_schedule v h c cause given =
 abbrev pub after_look : Known → ℕ → ℕ → Known
 after_look v word found = record v { did = done MarkCompare word found ∷ v.did }
 
-free_of_mark : (p : Place) → mark_of p ≡ 0 → p ≡ Free
+free_of_mark : (p : CoPlace) → mark_of p ≡ 0 → p ≡ Free
 free_of_mark Free e = refl
 free_of_mark (Scheduled s g) e = absurd (omega arith)
 free_of_mark (Pushed s g) e = absurd (omega arith)

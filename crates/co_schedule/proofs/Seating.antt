@@ -9,7 +9,7 @@ use Rattle.table_seats.proofs.Splitting.{front_owned, back_owned, each_split, se
 use Rattle.table_seats.proofs.Joining.{both_owned, none_owned, each_joined, seats_join}
 use Rattle.aio_model.specs.CoroutineHistory.{seat_of}
 use Rattle.co_schedule.specs.Known.{Known, part_of, numbers_of}
-use Rattle.co_schedule.specs.Rule.{Walks, Knows}
+use Rattle.co_schedule.specs.Rule.{WalkStands, Knows}
 use Rattle.co_schedule.specs.Slots.{Holds, HoldsAll, Kept}
 use Rattle.co_schedule.specs.Seating.{front_known, back_known, joined_known, spent_known}
 
@@ -81,7 +81,7 @@ module _ {S : Type 0} (given_in : S → Bool) (IsOf : ℕ → S → Type 0) wher
       not_its : owns (numbers_of w) home ≡ false → owns (numbers_of (joined_known v w)) home ≡ true → owns (numbers_of v) home ≡ true
       not_its isnt own = ⊎_elim (λ q. q) (λ q. absurd cc) (both_owned (numbers_of v) (numbers_of w) home next own)
 
-      walks_by : (b : Bool) → owns (numbers_of w) home ≡ b → (taken : List ℕ) → owns (numbers_of (joined_known v w)) home ≡ true → (owns (numbers_of v) home ≡ true → Walks s.words taken v.stage) → (owns (numbers_of w) home ≡ true → Walks s.words taken w.stage) → Walks s.words taken (cond b w.stage v.stage)
+      walks_by : (b : Bool) → owns (numbers_of w) home ≡ b → (taken : List ℕ) → owns (numbers_of (joined_known v w)) home ≡ true → (owns (numbers_of v) home ≡ true → WalkStands s.words taken v.stage) → (owns (numbers_of w) home ≡ true → WalkStands s.words taken w.stage) → WalkStands s.words taken (cond b w.stage v.stage)
       walks_by true is taken own mine its = its is
       walks_by false is taken own mine its = mine (not_its is own)
 

@@ -2,13 +2,13 @@
 use Rattle.std.proofs.Common.{◌≡◌, ℕ, zero, suc, ◌+◌, ◌<◌, ◌≤◌, Bool, true, false, cond, eqb, [], ◌∷◌, ◌++◌, length, refl, sym, ap, ◌∙◌, subst, arith, length-append}
 use Rattle.std.proofs.lemmas.Bool.{eqb-true, eqb-false}
 use Rattle.aio_model.specs.FlagsWord.{bit}
-use Rattle.aio_model.specs.CoroutineHistory.{Entry, Schedule, Push, Enter, History, seat_of, Place, Free, Scheduled, Pushed, pushed, place_of, IsLegal}
+use Rattle.aio_model.specs.CoroutineHistory.{Entry, Schedule, Push, Enter, History, seat_of, CoPlace, Free, Scheduled, Pushed, pushed, place_of, IsLegal}
 use Rattle.aio_model.proofs.Coroutines.{is_free}
 use Rattle.table_seats.specs.Seats.{Numbers, owns, own_entries, IsPart}
 use Rattle.table_seats.proofs.Entries.{own-append, own-here, owns_first}
-use Rattle.co_schedule.specs.Calls.{AreFree, HasTaken, HasBegun}
+use Rattle.co_schedule.specs.Calls.{AreFree, HasTaken, HasBegunFirst}
 use Rattle.co_schedule.specs.Known.{Known, numbers_of}
-use Rattle.co_schedule.specs.States.{Counts, counted, states_given, states_taken, given_at}
+use Rattle.co_schedule.specs.States.{CountsOwn, counted, states_given, states_taken, given_at}
 use Rattle.co_schedule.proofs.Histories.{moved, co_of, place_here, place_else, place_below, first_is_pushed}
 
 -- What others do, home aside.
@@ -50,7 +50,7 @@ home_owns v first count =
     subst (λ (k : ℕ). owns (numbers_of v) k ≡ true) first (owns_first (numbers_of v) (omega (arith, count)))
 
 -- the list was taken
-pub counts_taken : (states : ℕ) (v w : Known) → v.first ≡ 64 → v.count ≡ 1 → HasTaken v w → Counts states v → Counts states w
+pub counts_taken : (states : ℕ) (v w : Known) → v.first ≡ 64 → v.count ≡ 1 → HasTaken v w → CountsOwn states v → CountsOwn states w
 counts_taken states v w first count is was =
     let takes = is.steps.takes in
     let seen : w.seen ≡ takes.others ++ v.seen = is.steps.seen ∙ takes.seen in
@@ -63,7 +63,7 @@ counts_taken states v w first count is was =
     (ap length mine ∙ was.0 ∙ sym (ap length own), was.1 ∙ sym (ap counted same))
 
 -- the first of the run was entered
-pub counts_begun : (c : ℕ) (given : Bool) (states next : ℕ) (v w : Known) → v.first ≡ 64 → v.count ≡ 1 → HasBegun c given v w → next ≡ counted (states + bit given) → Counts states v → Counts next w
+pub counts_begun : (c : ℕ) (given : Bool) (states next : ℕ) (v w : Known) → v.first ≡ 64 → v.count ≡ 1 → HasBegunFirst c given v w → next ≡ counted (states + bit given) → CountsOwn states v → CountsOwn next w
 counts_begun c given states next v w first count is counts was =
     let begins = is.steps in
     let makes = begins.enters.makes in
@@ -84,7 +84,7 @@ counts_begun c given states next v w first count is counts was =
     ap (λ (l : History). place_of c (makes.others ++ l)) (sym old) ∙ begins.enters.was ∙ ap (λ (b : Bool). Pushed begins.enters.scheduler b) given_is in
     let same = taken_by_others (numbers_of v) makes.others v.seen owns_home not_own in
     let more : states_taken w.seen ≡ bit given + states_taken v.seen =
-    ap states_taken seen ∙ ap (λ (p : Place). bit (given_at p) + states_taken (makes.others ++ v.seen)) place ∙ ap (λ (n : ℕ). bit given + n) same in
+    ap states_taken seen ∙ ap (λ (p : CoPlace). bit (given_at p) + states_taken (makes.others ++ v.seen)) place ∙ ap (λ (n : ℕ). bit given + n) same in
     let long : length w.mine ≡ suc (length v.mine) = ap length mine in
     let owned : length (own_entries seat_of (numbers_of w) w.seen) ≡ suc (length (own_entries seat_of (numbers_of v) v.seen)) = ap length own in
     (long ∙ ap suc was.0 ∙ sym owned, counts ∙ ap (λ (n : ℕ). counted (n + bit given)) was.1 ∙ counted_more (states_taken v.seen) (bit given) ∙ sym (ap counted more))
@@ -104,7 +104,7 @@ left_else zero e h le = refl
 left_else (suc k) e h le =
     let other = place_else k e h (λ same. omega (arith, le, same)) in
     let rest = left_else k e h (omega (arith, le)) in
-    ap (λ (p : Place). bit (given_at p) + left_in k (e ∷ h)) other ∙ ap (λ (m : ℕ). bit (given_at (place_of k h)) + m) rest
+    ap (λ (p : CoPlace). bit (given_at p) + left_in k (e ∷ h)) other ∙ ap (λ (m : ℕ). bit (given_at (place_of k h)) + m) rest
 
 left_here : (k : ℕ) (e : Entry) (h : History) → co_of e < k → left_in k (e ∷ h) + bit (given_at (place_of (co_of e) h)) ≡ left_in k h + bit (given_at (moved e (place_of (co_of e) h)))
 left_here zero e h lt = absurd (omega (arith, lt))
@@ -115,12 +115,12 @@ left_here (suc k) e h lt = by (eqb k (co_of e)) refl (λ less. left_here k e h l
     by true is more =
         let same : k ≡ co_of e = eqb-true k (co_of e) is in
         let rest = left_else k e h (omega (arith, same)) in
-        let now : bit (given_at (place_of k (e ∷ h))) ≡ bit (given_at (moved e (place_of (co_of e) h))) = ap (λ (c : ℕ). bit (given_at (place_of c (e ∷ h)))) same ∙ ap (λ (p : Place). bit (given_at p)) (place_here e h) in
+        let now : bit (given_at (place_of k (e ∷ h))) ≡ bit (given_at (moved e (place_of (co_of e) h))) = ap (λ (c : ℕ). bit (given_at (place_of c (e ∷ h)))) same ∙ ap (λ (p : CoPlace). bit (given_at p)) (place_here e h) in
         let was : bit (given_at (place_of k h)) ≡ bit (given_at (place_of (co_of e) h)) = ap (λ (c : ℕ). bit (given_at (place_of c h))) same in
         omega (arith, rest, now, was)
     by false is more =
         let apart = eqb-false k (co_of e) is in
-        let other : bit (given_at (place_of k (e ∷ h))) ≡ bit (given_at (place_of k h)) = ap (λ (p : Place). bit (given_at p)) (place_else k e h apart) in
+        let other : bit (given_at (place_of k (e ∷ h))) ≡ bit (given_at (place_of k h)) = ap (λ (p : CoPlace). bit (given_at p)) (place_else k e h apart) in
         let rest = more (omega (arith, lt, apart)) in
         omega (arith, other, rest)
 
@@ -128,7 +128,7 @@ left_nothing : (k : ℕ) → left_in k [] ≡ 0
 left_nothing zero = refl
 left_nothing (suc k) = let older = left_nothing k in omega (arith, older)
 
-given_pushed : (p : Place) → given_at (pushed p) ≡ given_at p
+given_pushed : (p : CoPlace) → given_at (pushed p) ≡ given_at p
 given_pushed Free = refl
 given_pushed (Scheduled s g) = refl
 given_pushed (Pushed s g) = refl
@@ -136,7 +136,7 @@ given_pushed (Pushed s g) = refl
 given_is : (n : ℕ) (h : History) → IsLegal n h → states_given h ≡ states_taken h + left_in n h
 given_is n [] legal = omega (arith, left_nothing n)
 given_is n (Schedule d cause given s ∷ P) legal =
-    let none : bit (given_at (place_of d P)) ≡ 0 = ap (λ (p : Place). bit (given_at p)) legal.0.1 in
+    let none : bit (given_at (place_of d P)) ≡ 0 = ap (λ (p : CoPlace). bit (given_at p)) legal.0.1 in
     let here = left_here n (Schedule d cause given s) P legal.0.0 in
     let older = given_is n P legal.1 in
     omega (arith, here, none, older)
@@ -156,7 +156,7 @@ given_is n (Enter d ∷ P) legal =
 left_free : (k n : ℕ) (h : History) → k ≤ n → AreFree n h → left_in k h ≡ 0
 left_free zero n h le free = refl
 left_free (suc k) n h le free =
-    let none : bit (given_at (place_of k h)) ≡ 0 = ap (λ (p : Place). bit (given_at p)) (free k (omega (arith, le))) in
+    let none : bit (given_at (place_of k h)) ≡ 0 = ap (λ (p : CoPlace). bit (given_at p)) (free k (omega (arith, le))) in
     let rest = left_free k n h (omega (arith, le)) free in
     omega (arith, none, rest)
 

@@ -10,9 +10,9 @@ use Rattle.table_seats.proofs.Seats.{each_set, seats_see}
 use Rattle.aio_model.specs.CoroutineHistory.{History, seat_of, queue_of, IsLegal}
 use Rattle.co_schedule.specs.Words.{head_at, mark_at, next_at, next_in}
 use Rattle.co_schedule.specs.Known.{TakeSwap, NextLoad, Stage, Known, part_of, numbers_of}
-use Rattle.co_schedule.specs.Rule.{IsHeld, Walks, Knows, Stands}
+use Rattle.co_schedule.specs.Rule.{OutIsFirst, WalkStands, Knows, Stands}
 use Rattle.co_schedule.specs.Slots.{Kept}
-use Rattle.co_schedule.specs.Standing.{done, Takes, Follows}
+use Rattle.co_schedule.specs.Standing.{done, Takes, WalksOn}
 use Rattle.co_schedule.specs.Plays.{taken, next_loaded}
 use Rattle.co_schedule.proofs.Histories.{queue_below, queue_few}
 use Rattle.co_schedule.proofs.Reading.{read_here, read_else}
@@ -38,7 +38,7 @@ length-reverse (x ∷ xs) =
     omega (arith, all, sum, rest)
 
 -- with no word to walk on from, what was taken was walked over
-pub walked_all : (words taken : List ℕ) (stage : Stage) → Walks words taken stage → stage.word ≡ 0 → taken ≡ stage.run
+pub walked_all : (words taken : List ℕ) (stage : Stage) → WalkStands words taken stage → stage.word ≡ 0 → taken ≡ stage.run
 walked_all words taken stage walks over =
     let none = none_taken (next_in words) stage.word walks.rest walks.chain over in
     walks.whole ∙ ap (λ (l : List ℕ). reverse l ++ stage.run) none
@@ -84,12 +84,12 @@ module _ (n : ℕ) (h : History) (words : List ℕ) (views : List Known) (id : �
                 rest = stand.stack;
                 chain = chain_kept (next_in words) (next_in words_taken) found_first stand.stack stand.chain (each_all _ stand.stack same_next);
                 whole = all ∙ sym (append-nil (reverse stand.stack));
-                held = subst (λ o. IsHeld o []) (sym hand) tt;
+                held = subst (λ o. OutIsFirst o []) (sym hand) tt;
               };
             })
             (λ beside u ne atu. knows_kept n words words_taken h h stand.taken (queue_of h) u
             (λ d b busy owed. (owed, same_next d))
-            (λ own old. no_other_home n h words views id beside v u (Walks words_taken (queue_of h) u.stage) stand at atu ne is_home own));
+            (λ own old. no_other_home n h words views id beside v u (WalkStands words_taken (queue_of h) u.stage) stand at atu ne is_home own));
       }
 
 -- The walk.
@@ -99,7 +99,7 @@ after_follow v c found =
     record v { did = done NextLoad (next_at c) found ∷ v.did; stage = record v.stage { word = found; run = c ∷ v.stage.run } }
 
 -- one more is walked over
-pub walks_on : (words taken : List ℕ) (stage : Stage) (c : ℕ) → Walks words taken stage → stage.word ≡ c + 1 → stage.hand ≡ None → (rest : List ℕ) × IsChain (next_in words) (next_in words c) rest × (taken ≡ reverse rest ++ c ∷ stage.run)
+pub walks_on : (words taken : List ℕ) (stage : Stage) (c : ℕ) → WalkStands words taken stage → stage.word ≡ c + 1 → stage.hand ≡ None → (rest : List ℕ) × IsChain (next_in words) (next_in words c) rest × (taken ≡ reverse rest ++ c ∷ stage.run)
 walks_on words taken stage c walks word hand =
     let first = first_of_chain (next_in words) c walks.rest (subst (λ k. IsChain (next_in words) k walks.rest) word walks.chain) in
     (first.0, first.2, walks.whole ∙ ap (λ (l : List ℕ). reverse l ++ stage.run) first.1 ∙ ap (λ (l : List ℕ). l ++ stage.run) (reverse-step c first.0) ∙ append_assoc (reverse first.0) (c ∷ []) stage.run)
@@ -149,14 +149,14 @@ module _ {S : Type 0} (given_in : S → Bool) (IsOf : ℕ → S → Type 0) wher
         coroutines_are = was.coroutines_are;
         active = was.active;
         owes = was.owes;
-        walks = λ own. record { is = walks.is; rest = on.0; chain = on.1; whole = on.2; held = subst (λ o. IsHeld o (c ∷ v.stage.run)) (sym hand) tt };
+        walks = λ own. record { is = walks.is; rest = on.0; chain = on.1; whole = on.2; held = subst (λ o. OutIsFirst o (c ∷ v.stage.run)) (sym hand) tt };
       }) in
       let sum : length v.stage.taken ≡ length (reverse on.0) + length (c ∷ v.stage.run) = ap length (walks.is ∙ on.2) ∙ length-append (reverse on.0) (c ∷ v.stage.run) in
       let back = length-reverse on.0 in
-      let told : Follows c found v w = record {
+      let told : WalksOn c found v w = record {
         below = subst (λ k. found ≤ k) (sym sized) (chain_word_below (next_in s.words) found n on.0 on.1 in_rest);
         more = λ full. let there = chain_full (next_in s.words) found on.0 on.1 full in omega arith;
         ends = λ zero_found. walks.is ∙ on.2 ∙ ap (λ (l : List ℕ). reverse l ++ c ∷ v.stage.run) (none_taken (next_in s.words) found on.0 on.1 zero_found);
         rest = refl;
       } in
-      (w, keeps, tt, (h, now, slots_kept given_in IsOf n h s.homes s.views id v w kept.2 at refl refl refl), (refl, λ d eq. let index : c ≡ d = (let both = sym word ∙ eq in omega arith) in subst (λ k. Follows k found v w) index told))
+      (w, keeps, tt, (h, now, slots_kept given_in IsOf n h s.homes s.views id v w kept.2 at refl refl refl), (refl, λ d eq. let index : c ≡ d = (let both = sym word ∙ eq in omega arith) in subst (λ k. WalksOn k found v w) index told))

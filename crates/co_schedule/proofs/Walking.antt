@@ -1,7 +1,7 @@
 -- The walk over what was taken, beside the vector that it fills.
 use Rattle.std.proofs.Common.{◌≡◌, ℕ, ◌+◌, ◌<◌, ◌≤◌, None, List, [], ◌∷◌, length, refl, sym, ap, ◌∙◌, subst, arith}
 use Rattle.co_schedule.specs.Known.{Known}
-use Rattle.co_schedule.specs.Standing.{Takes, Follows, Walked, TakesAll}
+use Rattle.co_schedule.specs.Standing.{Takes, WalksOn, Walked, TakesAll}
 
 -- the walk has come so far from where the list was taken
 pub record IsWalking (start now : Known) (items : List ℕ) (word : ℕ) : Type 0 where
@@ -33,7 +33,7 @@ begins_walking start now found takes =
       ends = λ over. takes.ends over ∙ sym (ap (λ (k : Known). k.stage.run) takes.rest);
     }
 
-pub walking_on : (start now next : Known) (items : List ℕ) (word c found : ℕ) → IsWalking start now items word → c + 1 ≡ word → Follows c found now next → IsWalking start next (c ∷ items) found
+pub walking_on : (start now next : Known) (items : List ℕ) (word c found : ℕ) → IsWalking start now items word → c + 1 ≡ word → WalksOn c found now next → IsWalking start next (c ∷ items) found
 walking_on start now next items word c found h index follows =
     let same : next ≡ record now { did = next.did; stage = record now.stage { word = next.stage.word; run = next.stage.run } } = sides follows in
     let sized : now.coroutines ≡ start.coroutines = ap (λ (k : Known). k.coroutines) h.same ∙ ap (λ (k : Known). k.coroutines) h.takes.rest in
@@ -51,7 +51,7 @@ walking_on start now next items word c found h index follows =
       ends = follows.ends;
     }
   where
-    sides : Follows c found now next → next ≡ record now { did = next.did; stage = record now.stage { word = next.stage.word; run = next.stage.run } }
+    sides : WalksOn c found now next → next ≡ record now { did = next.did; stage = record now.stage { word = next.stage.word; run = next.stage.run } }
     sides f = f.rest ∙ ap (λ (k : Known). record now { did = k.did; stage = record now.stage { word = k.stage.word; run = k.stage.run } }) (sym f.rest)
 
 pub walked_whole : (start now : Known) (items : List ℕ) (word : ℕ) → IsWalking start now items word → word ≡ 0 → TakesAll start now

@@ -20,12 +20,12 @@ abbrev pub cause_in : {C : Type 0} → Option (Parcel C) → Cause
 cause_in None = Begin
 cause_in (Some parcel) = parcel.cause
 
-abbrev pub IsOf : {C O : Type 0} → (ℕ → C → O → Type 0) → O → ℕ → Option (Parcel C) → Type 0
-IsOf is_of origin number None = Unit {0}
-IsOf is_of origin number (Some parcel) =
+abbrev pub IsParcelOf : {C O : Type 0} → (ℕ → C → O → Type 0) → O → ℕ → Option (Parcel C) → Type 0
+IsParcelOf is_of origin number None = Unit {0}
+IsParcelOf is_of origin number (Some parcel) =
     IsStateOf is_of number origin parcel.state
 
 -- the same, where the origin is known
 abbrev pub IsOfSome : {C O : Type 0} → (ℕ → C → O → Type 0) → Option O → ℕ → Option (Parcel C) → Type 0
 IsOfSome is_of None number parcel = Unit {0}
-IsOfSome is_of (Some origin) number parcel = IsOf is_of origin number parcel
+IsOfSome is_of (Some origin) number parcel = IsParcelOf is_of origin number parcel

@@ -8,7 +8,7 @@ use Rattle.table_seats.specs.Seats.{Told, longer_of}
 use Rattle.table_seats.specs.Calls.{IsJoined}
 use Rattle.co_schedule.specs.Words.{mark_at, mark_of}
 use Rattle.co_schedule.specs.Known.{MarkCompare, MarkLoad, Marked, HeadLoaded, Linked, Known}
-use Rattle.co_schedule.specs.Standing.{Schedules, Looks, IsMarkOf, HeadIsLoaded, NextIsStored, Pushes, Misses, Takes, Follows, Opens, Enters}
+use Rattle.co_schedule.specs.Standing.{Schedules, Looks, IsMarkOf, HeadIsLoaded, NextIsStored, Pushes, Misses, Takes, WalksOn, Opens, IsFirstEntered}
 
 module _ {S : Type 0} where
   abbrev pub head_loaded : Step S → Me S Known → ℕ → Me S Known → Type 0
@@ -29,11 +29,11 @@ module _ {S : Type 0} where
 
   abbrev pub next_loaded : Step S → Me S Known → ℕ → Me S Known → Type 0
   next_loaded step before found after =
-      (after.1 ≡ before.1) × ((c : ℕ) → before.0.stage.word ≡ c + 1 → Follows c found before.0 after.0)
+      (after.1 ≡ before.1) × ((c : ℕ) → before.0.stage.word ≡ c + 1 → WalksOn c found before.0 after.0)
 
   abbrev pub entered : Step S → Me S Known → ℕ → Me S Known → Type 0
   entered step before found after =
-      (after.1 ≡ rest before.1) × ((c : ℕ) (more : List ℕ) → before.0.stage.hand ≡ Some c → before.0.stage.run ≡ c ∷ more → Enters c more before.0 after.0)
+      (after.1 ≡ rest before.1) × ((c : ℕ) (more : List ℕ) → before.0.stage.hand ≡ Some c → before.0.stage.run ≡ c ∷ more → IsFirstEntered c more before.0 after.0)
 
   -- what two joined seats had seen
   abbrev pub learned : Step S → Me S Known → ℕ → Me S Known → Type 0

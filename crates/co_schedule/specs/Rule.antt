@@ -19,24 +19,24 @@ Owes words history number (Linked c given found) =
     IsOwed history number c given × (next_in words c ≡ found)
 
 -- the one whose slot is out with home is the first of the run
-abbrev pub IsHeld : Option ℕ → List ℕ → Type 0
-IsHeld None run = Unit {0}
-IsHeld (Some c) run = (more : List ℕ) × (run ≡ c ∷ more)
+abbrev pub OutIsFirst : Option ℕ → List ℕ → Type 0
+OutIsFirst None run = Unit {0}
+OutIsFirst (Some c) run = (more : List ℕ) × (run ≡ c ∷ more)
 
 -- what the home's view says of what was taken: it walked over some of it, newest first, and the word leads through the rest
-pub record Walks (words taken : List ℕ) (stage : Stage) : Type 0 where
+pub record WalkStands (words taken : List ℕ) (stage : Stage) : Type 0 where
   pub is : stage.taken ≡ taken
   pub rest : List ℕ
   pub chain : IsChain (next_in words) stage.word rest
   pub whole : taken ≡ reverse rest ++ stage.run
-  pub held : IsHeld stage.hand stage.run
+  pub held : OutIsFirst stage.hand stage.run
 
 -- all that a view says but for its part of the history
 pub record Knows (n : ℕ) (history : History) (words taken : List ℕ) (known : Known) : Type 0 where
   pub coroutines_are : 0 < known.count → known.coroutines ≡ n
   pub active : is_at_rest known.phase ≡ false → 0 < known.count
   pub owes : Owes words history known.first known.phase
-  pub walks : owns (numbers_of known) home ≡ true → Walks words taken known.stage
+  pub walks : owns (numbers_of known) home ≡ true → WalkStands words taken known.stage
 
 -- What is pushed and not entered was taken, or is in the list, newest first.
 pub record Stands (n : ℕ) (history : History) (words : List ℕ) (views : List Known) : Type 0 where

@@ -65,7 +65,7 @@ pub record Takes (found : ℕ) (before after : Known) : Type 0 where
   pub rest : after ≡ record before { seen = after.seen; did = done TakeSwap head_at found ∷ before.did; stage = record before.stage { taken = after.stage.taken; word = found; run = [] } }
 
 -- the walk came to this one, and loaded what follows it
-pub record Follows (c found : ℕ) (before after : Known) : Type 0 where
+pub record WalksOn (c found : ℕ) (before after : Known) : Type 0 where
   pub below : found ≤ before.coroutines
   pub more : 0 < found → length after.stage.run < length after.stage.taken
   pub ends : found ≡ 0 → after.stage.taken ≡ after.stage.run
@@ -76,7 +76,7 @@ pub record Opens (c found : ℕ) (given : Bool) (before after : Known) : Type 0 
   pub rest : after ≡ record before { did = done MarkLoad (mark_at c) found ∷ before.did; stage = record before.stage { hand = Some c; given = given } }
 
 -- the first one is entered; with it came a state exactly where its schedule gave one
-pub record Enters (c : ℕ) (more : List ℕ) (before after : Known) : Type 0 where
+pub record IsFirstEntered (c : ℕ) (more : List ℕ) (before after : Known) : Type 0 where
   pub makes : Makes (Enter c) before after
   pub scheduler : ℕ
   pub was : place_of c (makes.others ++ before.seen) ≡ Pushed scheduler before.stage.given
@@ -85,11 +85,11 @@ pub record Enters (c : ℕ) (more : List ℕ) (before after : Known) : Type 0 wh
 -- Calls.
 
 -- the first coroutine was entered: its mark was loaded and then cleared
-pub record Begins (c : ℕ) (given : Bool) (more : List ℕ) (before after : Known) : Type 0 where
+pub record BeginsFirst (c : ℕ) (given : Bool) (more : List ℕ) (before after : Known) : Type 0 where
   pub found : ℕ
   pub opened : Known
   pub opens : Opens c found given before opened
-  pub enters : Enters c more opened after
+  pub enters : IsFirstEntered c more opened after
 
 -- one try to push
 abbrev pub tried : ℕ → ℕ → ℕ → List Done
@@ -126,7 +126,7 @@ pub record SchedulesAtLast (c : ℕ) (cause : Cause) (given : Bool) (before afte
 -- the walk came to these, newest first
 abbrev pub Walked : Known → Known → List ℕ → Type 0
 Walked before after [] = after ≡ before
-Walked before after (c ∷ cs) = (mid : Known) × (found : ℕ) × Walked before mid cs × Follows c found mid after
+Walked before after (c ∷ cs) = (mid : Known) × (found : ℕ) × Walked before mid cs × WalksOn c found mid after
 
 -- the list was taken by one swap, and walked over
 pub record TakesAll (before after : Known) : Type 0 where

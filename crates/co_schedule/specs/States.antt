@@ -1,7 +1,7 @@
 -- How many states came with what was scheduled, and how many came out again at home.
 use Rattle.std.specs.Prelude.{◌≡◌, ℕ, ◌+◌, ◌-◌, ◌^◌, Bool, false, min, [], ◌∷◌, length}
 use Rattle.aio_model.specs.FlagsWord.{bit}
-use Rattle.aio_model.specs.CoroutineHistory.{Schedule, Push, Enter, History, seat_of, Place, Free, Scheduled, Pushed, place_of}
+use Rattle.aio_model.specs.CoroutineHistory.{Schedule, Push, Enter, History, seat_of, CoPlace, Free, Scheduled, Pushed, place_of}
 use Rattle.table_seats.specs.Seats.{own_entries}
 use Rattle.co_schedule.specs.Known.{Known, numbers_of}
 
@@ -13,7 +13,7 @@ states_given (Push c seat ∷ older) = states_given older
 states_given (Enter c ∷ older) = states_given older
 
 -- whether a state came with a coroutine that stands there
-abbrev pub given_at : Place → Bool
+abbrev pub given_at : CoPlace → Bool
 given_at Free = false
 given_at (Scheduled seat given) = given
 given_at (Pushed seat given) = given
@@ -30,6 +30,6 @@ abbrev pub counted : ℕ → ℕ
 counted n = min n (2 ^ 64 - 1)
 
 -- what home counts: its own entries are as many as those of its number in what it has seen, and the states that came out are counted
-abbrev pub Counts : ℕ → Known → Type 0
-Counts states known =
+abbrev pub CountsOwn : ℕ → Known → Type 0
+CountsOwn states known =
     (length known.mine ≡ length (own_entries seat_of (numbers_of known) known.seen)) × (states ≡ counted (states_taken known.seen))

@@ -1,6 +1,6 @@
 -- Where the words of the table stand: at places that no size moves.
 use Rattle.std.specs.Prelude.{ℕ, ◌+◌, ◌*◌, List, slice_index}
-use Rattle.aio_model.specs.CoroutineHistory.{Place, Free, Scheduled, Pushed}
+use Rattle.aio_model.specs.CoroutineHistory.{CoPlace, Free, Scheduled, Pushed}
 
 abbrev pub head_at : ℕ
 head_at = 0
@@ -15,7 +15,7 @@ abbrev pub word_count : ℕ → ℕ
 word_count n = 1 + 2 * n
 
 -- a mark is 0, or one more than the number of the seat that scheduled
-abbrev pub mark_of : Place → ℕ
+abbrev pub mark_of : CoPlace → ℕ
 mark_of Free = 0
 mark_of (Scheduled seat given) = seat + 1
 mark_of (Pushed seat given) = seat + 1

@@ -6,7 +6,7 @@ ghost use Rattle.co_schedule.specs.Words.{mark_at, mark_of};
 ghost use Rattle.co_schedule.specs.Known.{MarkLoad};
 ghost use Rattle.co_schedule.specs.Standing.{Looks};
 ghost use Rattle.co_schedule.specs.Seating.{joined_known, told_by};
-ghost use Rattle.co_schedule.specs.Calls.{IsSeatOf, AreFree, Ends, Leaves};
+ghost use Rattle.co_schedule.specs.Calls.{IsSeatOf, AreFree, Ends, IsLeftOver};
 ghost use Rattle.co_schedule.specs.Closing.{ClosesAs};
 ghost use Rattle.co_schedule.specs.States.{counted, states_taken};
 
@@ -77,7 +77,7 @@ impl<C: Origin + Drop> CoTable<C> {
         requires home { IsSeatOf self home }
         requires seat { IsSeatOf self seat }
         requires numbers { (seat.known.first ≡ 0) × (seat.known.count ≡ 64) }
-        ensures { MatchResult result (λ end. Ends self home.known seat.known end) (λ left. Leaves left.0 self home.known seat.known left.1.table left.1.home left.1.seat) }
+        ensures { MatchResult result (λ end. Ends self home.known seat.known end) (λ left. IsLeftOver left.0 self home.known seat.known left.1.table left.1.home left.1.seat) }
     {
         let (mut inner, states) = self.gather(home, seat);
         match self.first_marked(&mut inner) {

@@ -19,11 +19,11 @@ pub struct CoRule<C: Origin> {
 impl<C: Origin> TableRule<Option<Parcel<C>>, View<C::Source>, About<C>> for CoRule<C> {
     ghost use Rattle.std.specs.Prelude.{Some};
     ghost use Rattle.co_schedule.specs.Known.{first_known};
-    ghost use Rattle.co_schedule.specs.Held.{AllOf};
+    ghost use Rattle.co_schedule.specs.Held.{AllOfOrigin};
     ghost use Rattle.co_schedule.specs.Slots.{Kept};
-    ghost use Rattle.co_schedule.specs.Parcels.{given_in, IsOf};
+    ghost use Rattle.co_schedule.specs.Parcels.{given_in, IsParcelOf};
 
-    ghost holds = { λ k s. AllOf (Kept given_in (IsOf C.is_of k.origin.value) k.coroutines) k.origin.value s };
+    ghost holds = { λ k s. AllOfOrigin (Kept given_in (IsParcelOf C.is_of k.origin.value) k.coroutines) k.origin.value s };
 
     ghost first = { λ k. record { known = first_known k.coroutines; origin = Some k.origin.value } };
 }
@@ -33,56 +33,56 @@ pub struct Mark<C: Origin> {
 }
 
 impl<C: Origin> Play<Option<Parcel<C>>, View<C::Source>> for Mark<C> {
-    ghost use Rattle.co_schedule.specs.Held.{Tells};
+    ghost use Rattle.co_schedule.specs.Held.{TellsHeld};
     ghost use Rattle.co_schedule.specs.Plays.{marked};
     ghost use Rattle.co_schedule.specs.Parcels.{cause_in, given_in};
 
-    ghost then = { Tells (marked cause_in given_in) };
+    ghost then = { TellsHeld (marked cause_in given_in) };
 }
 
 pub struct LoadHead;
 
 impl<S, O> Play<S, View<O>> for LoadHead {
-    ghost use Rattle.co_schedule.specs.Held.{Tells};
+    ghost use Rattle.co_schedule.specs.Held.{TellsHeld};
     ghost use Rattle.co_schedule.specs.Plays.{head_loaded};
 
-    ghost then = { Tells head_loaded };
+    ghost then = { TellsHeld head_loaded };
 }
 
 pub struct StoreNext;
 
 impl<S, O> Play<S, View<O>> for StoreNext {
-    ghost use Rattle.co_schedule.specs.Held.{Tells};
+    ghost use Rattle.co_schedule.specs.Held.{TellsHeld};
     ghost use Rattle.co_schedule.specs.Plays.{next_stored};
 
-    ghost then = { Tells next_stored };
+    ghost then = { TellsHeld next_stored };
 }
 
 pub struct CompareHead;
 
 impl<S, O> Play<S, View<O>> for CompareHead {
-    ghost use Rattle.co_schedule.specs.Held.{Tells};
+    ghost use Rattle.co_schedule.specs.Held.{TellsHeld};
     ghost use Rattle.co_schedule.specs.Plays.{head_compared};
 
-    ghost then = { Tells head_compared };
+    ghost then = { TellsHeld head_compared };
 }
 
 pub struct Take;
 
 impl<S, O> Play<S, View<O>> for Take {
-    ghost use Rattle.co_schedule.specs.Held.{Tells};
+    ghost use Rattle.co_schedule.specs.Held.{TellsHeld};
     ghost use Rattle.co_schedule.specs.Plays.{taken};
 
-    ghost then = { Tells taken };
+    ghost then = { TellsHeld taken };
 }
 
 pub struct LoadNext;
 
 impl<S, O> Play<S, View<O>> for LoadNext {
-    ghost use Rattle.co_schedule.specs.Held.{Tells};
+    ghost use Rattle.co_schedule.specs.Held.{TellsHeld};
     ghost use Rattle.co_schedule.specs.Plays.{next_loaded};
 
-    ghost then = { Tells next_loaded };
+    ghost then = { TellsHeld next_loaded };
 }
 
 /// The load of a mark in `begin`, by which the slot comes out.
@@ -91,20 +91,20 @@ pub struct OpenMark<C: Origin> {
 }
 
 impl<C: Origin> Play<Option<Parcel<C>>, View<C::Source>> for OpenMark<C> {
-    ghost use Rattle.co_schedule.specs.Held.{Tells};
+    ghost use Rattle.co_schedule.specs.Held.{TellsHeld};
     ghost use Rattle.co_schedule.specs.Plays.{opened};
     ghost use Rattle.co_schedule.specs.Parcels.{given_in, IsOfSome};
 
-    ghost then = { λ st m n w. Tells (opened given_in (IsOfSome C.is_of m.0.origin)) st m n w };
+    ghost then = { λ st m n w. TellsHeld (opened given_in (IsOfSome C.is_of m.0.origin)) st m n w };
 }
 
 pub struct ClearMark;
 
 impl<S, O> Play<S, View<O>> for ClearMark {
-    ghost use Rattle.co_schedule.specs.Held.{Tells};
+    ghost use Rattle.co_schedule.specs.Held.{TellsHeld};
     ghost use Rattle.co_schedule.specs.Plays.{entered};
 
-    ghost then = { Tells entered };
+    ghost then = { TellsHeld entered };
 }
 
 /// The home's number goes to a seat of its own.
@@ -144,18 +144,18 @@ impl<O> Join<View<O>> for Together {
 pub struct Learn;
 
 impl<S, O> Play<S, View<O>> for Learn {
-    ghost use Rattle.co_schedule.specs.Held.{Tells};
+    ghost use Rattle.co_schedule.specs.Held.{TellsHeld};
     ghost use Rattle.co_schedule.specs.Plays.{learned};
 
-    ghost then = { Tells learned };
+    ghost then = { TellsHeld learned };
 }
 
 /// The load of a mark by who owns all numbers.
 pub struct LookAtMark;
 
 impl<S, O> Play<S, View<O>> for LookAtMark {
-    ghost use Rattle.co_schedule.specs.Held.{Tells};
+    ghost use Rattle.co_schedule.specs.Held.{TellsHeld};
     ghost use Rattle.co_schedule.specs.Plays.{mark_seen};
 
-    ghost then = { Tells mark_seen };
+    ghost then = { TellsHeld mark_seen };
 }

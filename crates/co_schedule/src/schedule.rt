@@ -4,7 +4,7 @@ ghost use Rattle.std.specs.Prelude.{◌≡◌, ◌≢◌, ◌<◌, ◌≤◌, �
 ghost use Rattle.co_schedule.specs.Words.{mark_at};
 ghost use Rattle.co_schedule.specs.Known.{MarkCompare, AtRest, Marked, HeadLoaded, Linked};
 ghost use Rattle.co_schedule.specs.Standing.{IsMarkOf, Looks, PushesOnce, MissesOnce, PushesAtLast};
-ghost use Rattle.co_schedule.specs.Parcels.{given_in, IsOf, IsStateOf, has_some};
+ghost use Rattle.co_schedule.specs.Parcels.{given_in, IsParcelOf, IsStateOf, has_some};
 ghost use Rattle.co_schedule.specs.Calls.{IsSeatOf, HasScheduled};
 
 use crate::parcel::Parcel;
@@ -50,7 +50,7 @@ impl<C: Origin + Drop> CoTable<C> {
         requires numbers { 0 < inner.old.me.0.known.count }
         requires below { co < self.now.coroutines }
         requires phase { inner.old.me.0.known.phase ≡ Marked co given }
-        requires slot { (x : Option (Parcel C)) × (inner.old.me.1 ≡ (co, x) ∷ []) × (given_in x ≡ given) × IsOf C.is_of self.now.origin co x }
+        requires slot { (x : Option (Parcel C)) × (inner.old.me.1 ≡ (co, x) ∷ []) × (given_in x ≡ given) × IsParcelOf C.is_of self.now.origin co x }
         ensures seat { (inner.new.table_id ≡ inner.old.table_id) × (inner.new.id ≡ inner.old.id) × (inner.new.me.0.origin ≡ inner.old.me.0.origin) }
         ensures step { MatchBool result (PushesOnce co inner.old.me.0.known inner.new.me.0.known × (inner.new.me.1 ≡ [])) (MissesOnce co inner.old.me.0.known inner.new.me.0.known × (inner.new.me.1 ≡ inner.old.me.1)) }
     {
@@ -65,7 +65,7 @@ impl<C: Origin + Drop> CoTable<C> {
         requires numbers { 0 < inner.old.me.0.known.count }
         requires below { co < self.now.coroutines }
         requires phase { inner.old.me.0.known.phase ≡ Marked co given }
-        requires slot { (x : Option (Parcel C)) × (inner.old.me.1 ≡ (co, x) ∷ []) × (given_in x ≡ given) × IsOf C.is_of self.now.origin co x }
+        requires slot { (x : Option (Parcel C)) × (inner.old.me.1 ≡ (co, x) ∷ []) × (given_in x ≡ given) × IsParcelOf C.is_of self.now.origin co x }
         ensures seat { (inner.new.table_id ≡ inner.old.table_id) × (inner.new.id ≡ inner.old.id) × (inner.new.me.0.origin ≡ inner.old.me.0.origin) × (inner.new.me.1 ≡ []) }
         ensures pushed { PushesAtLast co inner.old.me.0.known inner.new.me.0.known }
     {

@@ -2,8 +2,8 @@
 ghost use Rattle.std.specs.Prelude.{◌≡◌, ◌≢◌, ◌<◌, ◌≤◌, ◌+◌, ℕ, ◌==◌, MatchBool, [], ◌∷◌, drop, None, Some, true, false, Option};
 ghost use Rattle.co_schedule.specs.Words.{mark_at};
 ghost use Rattle.co_schedule.specs.Known.{MarkCompare, AtRest, Marked, HeadLoaded, Linked};
-ghost use Rattle.co_schedule.specs.Standing.{Schedules, Looks, IsMarkOf, HeadIsLoaded, NextIsStored, Pushes, Misses, Takes, Follows, Opens, Enters};
-ghost use Rattle.co_schedule.specs.Parcels.{cause_in, given_in, IsOf, has_some};
+ghost use Rattle.co_schedule.specs.Standing.{Schedules, Looks, IsMarkOf, HeadIsLoaded, NextIsStored, Pushes, Misses, Takes, WalksOn, Opens, IsFirstEntered};
+ghost use Rattle.co_schedule.specs.Parcels.{cause_in, given_in, IsParcelOf, has_some};
 
 use crate::parcel::Parcel;
 use crate::plays::{
@@ -66,7 +66,7 @@ impl<C: Origin + Drop> CoTable<C> {
         requires table { inner.old.table_id ≡ self.now.table }
         requires numbers { 0 < inner.old.me.0.known.count }
         requires phase { inner.old.me.0.known.phase ≡ Linked co given head }
-        requires slot { (x : Option (Parcel C)) × (inner.old.me.1 ≡ (co, x) ∷ []) × (given_in x ≡ given) × IsOf C.is_of self.now.origin co x }
+        requires slot { (x : Option (Parcel C)) × (inner.old.me.1 ≡ (co, x) ∷ []) × (given_in x ≡ given) × IsParcelOf C.is_of self.now.origin co x }
         ensures seat { (inner.new.table_id ≡ inner.old.table_id) × (inner.new.id ≡ inner.old.id) × (inner.new.me.0.origin ≡ inner.old.me.0.origin) }
         ensures told { MatchBool (result == head) (Pushes co result inner.old.me.0.known inner.new.me.0.known × (inner.new.me.1 ≡ [])) (Misses co given result inner.old.me.0.known inner.new.me.0.known × (inner.new.me.1 ≡ inner.old.me.1)) }
     {
@@ -92,7 +92,7 @@ impl<C: Origin + Drop> CoTable<C> {
         requires below { co < self.now.coroutines }
         requires word { (inner.old.me.0.known.stage.word ≡ co + 1) × (inner.old.me.0.known.stage.hand ≡ None) }
         ensures seat { (inner.new.table_id ≡ inner.old.table_id) × (inner.new.id ≡ inner.old.id) × (inner.new.me.0.origin ≡ inner.old.me.0.origin) × (inner.new.me.1 ≡ inner.old.me.1) }
-        ensures told { Follows co result inner.old.me.0.known inner.new.me.0.known }
+        ensures told { WalksOn co result inner.old.me.0.known inner.new.me.0.known }
     {
         self.table.shared.load::<LoadNext>(inner, next_word(co))
     }
@@ -105,7 +105,7 @@ impl<C: Origin + Drop> CoTable<C> {
         requires run { (inner.old.me.0.known.stage.run ≡ co ∷ drop 1 inner.old.me.0.known.stage.run) × (inner.old.me.0.known.stage.word ≡ 0) × (inner.old.me.0.known.stage.hand ≡ None) }
         requires origin { inner.old.me.0.origin ≡ Some self.now.origin }
         ensures seat { (inner.new.table_id ≡ inner.old.table_id) × (inner.new.id ≡ inner.old.id) × (inner.new.me.0.origin ≡ inner.old.me.0.origin) }
-        ensures told { (x : Option (Parcel C)) × IsOf C.is_of self.now.origin co x × (inner.new.me.1 ≡ (co, x) ∷ inner.old.me.1) × Opens co result (given_in x) inner.old.me.0.known inner.new.me.0.known }
+        ensures told { (x : Option (Parcel C)) × IsParcelOf C.is_of self.now.origin co x × (inner.new.me.1 ≡ (co, x) ∷ inner.old.me.1) × Opens co result (given_in x) inner.old.me.0.known inner.new.me.0.known }
     {
         self.table.shared.load::<OpenMark<C>>(inner, mark_word(co))
     }
@@ -118,7 +118,7 @@ impl<C: Origin + Drop> CoTable<C> {
         requires run { (inner.old.me.0.known.stage.run ≡ co ∷ drop 1 inner.old.me.0.known.stage.run) × (inner.old.me.0.known.stage.word ≡ 0) × (inner.old.me.0.known.stage.hand ≡ Some co) }
         requires slot { inner.old.me.1 ≡ (co, None) ∷ [] }
         ensures seat { (inner.new.table_id ≡ inner.old.table_id) × (inner.new.id ≡ inner.old.id) × (inner.new.me.0.origin ≡ inner.old.me.0.origin) × (inner.new.me.1 ≡ []) }
-        ensures told { Enters co (drop 1 inner.old.me.0.known.stage.run) inner.old.me.0.known inner.new.me.0.known }
+        ensures told { IsFirstEntered co (drop 1 inner.old.me.0.known.stage.run) inner.old.me.0.known inner.new.me.0.known }
     {
         self.table
             .shared

@@ -2,7 +2,7 @@
 //! A walk over the list meets the newest first, so the run is filled from its end.
 ghost use Rattle.std.specs.Prelude.{◌≡◌, ◌<◌, ◌≤◌, ◌+◌, [], ◌∷◌, None, Some, drop, true, MatchOption};
 ghost use Rattle.co_schedule.specs.Parcels.{IsStateOf, has_some};
-ghost use Rattle.co_schedule.specs.Calls.{are_within, IsSeatOf, HasTaken, HasBegun};
+ghost use Rattle.co_schedule.specs.Calls.{are_within, IsSeatOf, HasTaken, HasBegunFirst};
 
 use crate::counting::count_state;
 use crate::homes::CoHome;
@@ -56,7 +56,7 @@ impl<C: Origin + Drop> CoTable<C> {
         requires slots { inner.old.me.1 ≡ [] }
         ensures seat { (inner.new.table_id ≡ inner.old.table_id) × (inner.new.id ≡ inner.old.id) × (inner.new.me.0.origin ≡ inner.old.me.0.origin) × (inner.new.me.1 ≡ []) }
         ensures of { IsStateOf C.is_of co self.now.origin result }
-        ensures begun { HasBegun co (has_some result) inner.old.me.0.known inner.new.me.0.known }
+        ensures begun { HasBegunFirst co (has_some result) inner.old.me.0.known inner.new.me.0.known }
         ensures over { (inner.new.me.0.known.stage.word ≡ 0) × (inner.new.me.0.known.stage.hand ≡ None) × (inner.new.me.0.known.stage.run ≡ inner.new.me.0.known.stage.taken) }
         ensures within { are_within inner.new.me.0.known.coroutines inner.new.me.0.known.stage.taken ≡ true }
     {
@@ -89,7 +89,7 @@ impl<C: Origin + Drop> CoTable<C> {
         requires run { run.old.cos ≡ home.old.known.stage.taken }
         ensures home { IsSeatOf self.now home.new }
         ensures run { run.new ≡ record run.old { cos = home.new.known.stage.taken } }
-        ensures begun { MatchOption result ((home.old.known.stage.taken ≡ []) × (home.new ≡ home.old)) (λ begun. (begun.0 < self.now.coroutines) × HasBegun begun.0 (has_some begun.1) home.old.known home.new.known × IsStateOf C.is_of begun.0 self.now.origin begun.1) }
+        ensures begun { MatchOption result ((home.old.known.stage.taken ≡ []) × (home.new ≡ home.old)) (λ begun. (begun.0 < self.now.coroutines) × HasBegunFirst begun.0 (has_some begun.1) home.old.known home.new.known × IsStateOf C.is_of begun.0 self.now.origin begun.1) }
     {
         let co = run.pop()?;
         let state = self.begin_first(&mut home.inner, co);

@@ -2,7 +2,7 @@
 use Rattle.std.proofs.Common.{◌≡◌, ◌≢◌, ℕ, zero, suc, ◌+◌, ◌*◌, ◌/◌, ◌%◌, ◌<◌, ◌≤◌, Bool, true, false, nat_eq, ◌||◌, refl, ap, arith}
 use Rattle.std.proofs.lemmas.Bool.{eqb-true}
 use Rattle.co_state.specs.declared.tree.Entry.{Entry}
-use Rattle.co_state.specs.Lookup.{Shape, Bare, At, turns_zero, is_in, IsSorted, depth_of, AreBelow}
+use Rattle.co_state.specs.Lookup.{Shape, Bare, At, turns_zero, is_in, IsSorted, depth_of, AreSmall}
 use Rattle.co_state.proofs.Trees.{or_first, or_second, root_is_in, differ_by}
 
 abbrev two_to : ℕ → ℕ
@@ -66,5 +66,5 @@ depth_le (suc n) (At e z o) at sorted reads =
     let below_one = depth_le n o (λ q. at q / 2) sorted.2 (side_reads at n t o false reads (in_one e z o) sorted.0.ones) in
     omega (arith, below_zero, below_one)
 
-pub is_shallow : (t : Shape) → IsSorted (λ q. q) t → AreBelow t → depth_of t ≤ 33
+pub is_shallow : (t : Shape) → IsSorted (λ q. q) t → AreSmall t → depth_of t ≤ 33
 is_shallow t sorted below = depth_le 32 t (λ q. q) sorted (record { below = below; apart = λ p q here there same. same })

@@ -2,7 +2,7 @@
 use Rattle.std.proofs.Common.{◌<◌, ◌≡◌, ◌≢◌, ◌⊎◌, inl, inr, ℕ, ◌+◌, ◌/◌, Bool, true, false, ◌||◌, cond, List, [], ◌∷◌, length, ◌++◌, Option, Some, None, is_none, IsSome, refl, subst, sym, ap, ◌∙◌, arith, ne_eqb, eq-eqb, eqb, length-append}
 use Rattle.std.proofs.lemmas.Bool.{cases_eq, cases_Bool, eqb-true, both_ways}
 use Rattle.co_state.specs.declared.tree.Entry.{Entry}
-use Rattle.co_state.specs.Lookup.{Shape, Bare, At, turns_zero, sought, inserted, root_of, popped, removed, is_in, size_of, AllTurn, AreBelow, IsFork, IsSorted, key_in, ids_in, is_among, AreOnce, AreListed}
+use Rattle.co_state.specs.Lookup.{Shape, Bare, At, turns_zero, sought, inserted, root_of, popped, removed, is_in, size_of, AllTurn, AreSmall, IsFork, IsSorted, key_in, ids_in, is_among, AreOnce, AreListed}
 
 or_parts : (a b : Bool) → (a || b) ≡ false → (a ≡ false) × (b ≡ false)
 or_parts true b e = absurd (cc e)
@@ -146,7 +146,7 @@ insert_own (At e z o) new rest none =
       ]
     ]
 
-pub insert_below : (t : Shape) (new : Entry) (rest : ℕ) → AreBelow t → new.id < 4294967296 → AreBelow (inserted t new rest)
+pub insert_below : (t : Shape) (new : Entry) (rest : ℕ) → AreSmall t → new.id < 4294967296 → AreSmall (inserted t new rest)
 insert_below t new rest below fits q there = elim (inserted_is_in t new rest q there) [
   | inl is ↦ subst (λ n. n < 4294967296) is fits
   | inr was ↦ below q was

@@ -2,7 +2,7 @@
 use Rattle.std.specs.Prelude.{◌≡◌, ℕ}
 use Rattle.std.specs.Ordering.{nat_cmp}
 use Rattle.std.specs.FinMap as map
-use Rattle.co_state.specs.Asked.{Asked}
+use Rattle.co_state.specs.Wants.{Wants}
 use Rattle.co_state.specs.Coroutines.{Coroutines}
 use Rattle.co_state.specs.declared.co.CoStep.{CoStep}
 use Rattle.co_state.specs.declared.co.CoStep.TheVariants as step
@@ -25,7 +25,7 @@ module _ {C : Type 0} where
   left_by (step.Move home) held id co = map.remove held id
 
 -- the coroutine of the number was resumed once, and nothing else changed
-pub record Enters {C O : Type 0} (is_of : ℕ → C → O → Type 0) (resumes : C → O → Asked → CoStep → C → Type 0) (old new : Coroutines C O) (id : ℕ) (co : C) (asked : Asked) (answer : Entered C) : Type 0 where
+pub record ResumesOne {C O : Type 0} (is_of : ℕ → C → O → Type 0) (resumes : C → O → Wants → CoStep → C → Type 0) (old new : Coroutines C O) (id : ℕ) (co : C) (asked : Wants) (answer : Entered C) : Type 0 where
   pub step : CoStep
   pub after : C
   pub of : is_of id after old.origin

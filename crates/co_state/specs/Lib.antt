@@ -1,4 +1,4 @@
-pub mod Asked
+pub mod Wants
 pub mod Coroutines
 pub mod Entering
 pub mod Kept

@@ -63,8 +63,8 @@ depth_of Bare = 0
 depth_of (At entry zero one) = max (depth_of zero) (depth_of one) + 1
 
 -- each number has 32 bits
-abbrev pub AreBelow : Shape → Type 0
-AreBelow tree = (q : ℕ) → is_in q tree ≡ true → q < 4294967296
+abbrev pub AreSmall : Shape → Type 0
+AreSmall tree = (q : ℕ) → is_in q tree ≡ true → q < 4294967296
 
 -- all numbers there have this for their next bit; at gives a number's bits that aren't used up yet
 abbrev pub AllTurn : (ℕ → ℕ) → Bool → Shape → Type 0

@@ -37,7 +37,7 @@ pub enum CoStep {
 /// A coroutine that may be lent an `E` at each resume.
 pub trait Co<E>: Origin {
     ghost use Rattle.std.specs.Prelude.{◌≡◌, ℕ};
-    ghost use Rattle.co_state.specs.Asked.{Asked, nothing_asked};
+    ghost use Rattle.co_state.specs.Wants.{Wants, nothing_asked};
     ghost use Rattle.co_state.specs.declared.co.CoStep.{CoStep};
 
     /// The origin of what is lent.
@@ -45,7 +45,7 @@ pub trait Co<E>: Origin {
 
     /// What one resume may do: the coroutine before, the origin of what is lent, what is asked for, the step, and
     /// the coroutine after.
-    ghost resumes: { Self → Self.Source → Asked → CoStep → Self → Type 0 };
+    ghost resumes: { Self → Self.Source → Wants → CoStep → Self → Type 0 };
 
     fn resume(&mut self, env: &E, cx: &mut Cx) -> CoStep
         requires of { (number : ℕ) × Self.is_of number self.old (source_of env.now) }

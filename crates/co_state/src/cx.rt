@@ -25,9 +25,9 @@ pub struct Cx {
 
 impl Model for Cx {
     ghost use Rattle.std.specs.Prelude.{◌≤◌, take, drop};
-    ghost use Rattle.co_state.specs.Asked.{Asked};
+    ghost use Rattle.co_state.specs.Wants.{Wants};
 
-    ghost Value = { Asked };
+    ghost Value = { Wants };
 
     ghost view = { λ cx. record { wakes = drop cx.given (take cx.made cx.wakes); made = cx.made; quits = cx.quits } };
 
@@ -35,7 +35,7 @@ impl Model for Cx {
 }
 
 impl Cx {
-    ghost use Rattle.co_state.specs.Asked.{nothing_asked};
+    ghost use Rattle.co_state.specs.Wants.{nothing_asked};
 
     /// One for the next resume.
     pub fn fresh() -> Cx

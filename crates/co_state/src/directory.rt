@@ -26,11 +26,11 @@ impl Model for Directory {
 
     ghost coded = { Prim.hlevel (codes, e.the_row.coded) };
 
-    ghost use Rattle.co_state.specs.Lookup.{IsSorted, AreBelow, shape, size_of};
+    ghost use Rattle.co_state.specs.Lookup.{IsSorted, AreSmall, shape, size_of};
 
     ghost view = { λ d. record { tree = d.tree; room = d.count + length d.spares.items } };
 
-    ghost invariant = { λ d. IsSorted (λ q. q) (shape d.tree) × (d.count ≡ size_of (shape d.tree)) × (d.count + length d.spares.items ≤ vec_capacity d.spares) × AreBelow (shape d.tree) };
+    ghost invariant = { λ d. IsSorted (λ q. q) (shape d.tree) × (d.count ≡ size_of (shape d.tree)) × (d.count + length d.spares.items ≤ vec_capacity d.spares) × AreSmall (shape d.tree) };
 }
 
 impl Directory {

@@ -54,8 +54,8 @@ impl<C: Origin> Model for CoStore<C> {
 }
 
 impl<C: Origin> CoStore<C> {
-    ghost use Rattle.co_state.specs.Entering.{Enters};
-    ghost use Rattle.co_state.specs.Asked.{nothing_asked};
+    ghost use Rattle.co_state.specs.Entering.{ResumesOne};
+    ghost use Rattle.co_state.specs.Wants.{nothing_asked};
     ghost use Rattle.co_state.specs.declared.store.Entered.TheVariants.{Absent};
 
     /// An empty store for so many coroutines of an origin that the caller chooses. No later call takes memory.
@@ -104,7 +104,7 @@ impl<C: Origin> CoStore<C> {
         requires fresh { cx.old ≡ nothing_asked }
         ensures { MatchOption (map.get self.old.held id)
             ((result ≡ Absent) × (self.new ≡ self.old) × (cx.new ≡ cx.old))
-            (λ co. Enters C.is_of C.resumes self.old self.new id co cx.new result) }
+            (λ co. ResumesOne C.is_of C.resumes self.old self.new id co cx.new result) }
     {
         let Some(key) = self.directory.key(id) else {
             return Entered::Absent;

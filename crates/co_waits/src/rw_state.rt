@@ -7,7 +7,7 @@ ghost use Rattle.std.specs.Prelude.{◌≡◌, ◌≢◌, ℕ, ◌<◌, IfOk, If
 ghost use Rattle.std.specs.Prelude.{[]};
 ghost use Rattle.aio_model.specs.declared.holds.Hold.TheVariants.{Free, Reads, Writes, WaitsRead, WaitsWrite};
 ghost use Rattle.aio_model.specs.Readers.{Readers, hold_of};
-ghost use Rattle.aio_model.specs.Holds.{Has, Waits, after_wake, answered, AreApart, IsSettled};
+ghost use Rattle.aio_model.specs.Holds.{Has, HasTicket, after_wake, answered, WriterIsAlone, IsSettled};
 ghost use Rattle.aio_model.specs.RwTable.{read_locked, write_locked, unlocked, upgraded, downgraded, wake_one};
 
 use crate::register::Register;
@@ -52,7 +52,7 @@ impl RwState {
 
     pub fn hold(&self, who: u32) -> Hold
         ensures hold { result ≡ hold_of self.now who }
-        ensures alone { AreApart (hold_of self.now) }
+        ensures alone { WriterIsAlone (hold_of self.now) }
         ensures settled { IsSettled self.now }
     {
         self.register.hold(who)
@@ -103,7 +103,7 @@ impl RwState {
         ensures left { self.new ≡ (unlocked who self.old).state }
         ensures own { hold_of self.new who ≡ Free }
         ensures others { (other : ℕ) → other ≢ who → hold_of self.new other ≡ after_wake result other (hold_of self.old other) }
-        ensures granted { IfSome result (λ w. Waits (hold_of self.old w) × Has (hold_of self.new w)) }
+        ensures granted { IfSome result (λ w. HasTicket (hold_of self.old w) × Has (hold_of self.new w)) }
         ensures room { self.new.room ≡ self.old.room }
     {
         self.register.release(who);
@@ -119,7 +119,7 @@ impl RwState {
         ensures left { self.new ≡ (upgraded who self.old).state }
         ensures own { hold_of self.new who ≡ answered result.answer Writes WaitsWrite }
         ensures others { (other : ℕ) → other ≢ who → hold_of self.new other ≡ after_wake result.woken other (hold_of self.old other) }
-        ensures granted { IfSome result.woken (λ w. Waits (hold_of self.old w) × Has (hold_of self.new w)) }
+        ensures granted { IfSome result.woken (λ w. HasTicket (hold_of self.old w) × Has (hold_of self.new w)) }
         ensures room { self.new.room ≡ self.old.room }
     {
         if self.register.is_single() {
@@ -146,7 +146,7 @@ impl RwState {
         ensures left { self.new ≡ (downgraded who self.old).state }
         ensures own { hold_of self.new who ≡ Reads }
         ensures others { (other : ℕ) → other ≢ who → hold_of self.new other ≡ after_wake result other (hold_of self.old other) }
-        ensures granted { IfSome result (λ w. Waits (hold_of self.old w) × Has (hold_of self.new w)) }
+        ensures granted { IfSome result (λ w. HasTicket (hold_of self.old w) × Has (hold_of self.new w)) }
         ensures room { self.new.room ≡ self.old.room }
     {
         self.register.release(who);
@@ -160,7 +160,7 @@ impl RwState {
         ensures woken { result ≡ (wake_one self.old).woken }
         ensures left { self.new ≡ (wake_one self.old).state }
         ensures all { (other : ℕ) → hold_of self.new other ≡ after_wake result other (hold_of self.old other) }
-        ensures granted { IfSome result (λ w. Waits (hold_of self.old w) × Has (hold_of self.new w)) }
+        ensures granted { IfSome result (λ w. HasTicket (hold_of self.old w) × Has (hold_of self.new w)) }
         ensures room { self.new.room ≡ self.old.room }
     {
         self.register.wake_one()

@@ -11,12 +11,12 @@ counted (ForReady ready) counts = record counts { stopped = true }
 counted (ForExpired id) counts = record counts { ticks = one_more counts.ticks }
 
 -- The entry was counted. Nothing was scheduled by it, and no handler added or removed.
-pub record Works (before : Counts) (entered : LoopEntered) (after : Counts) : Type 0 where
+pub record DeviceWorks (before : Counts) (entered : LoopEntered) (after : Counts) : Type 0 where
   pub counts : after ≡ counted entered.what before
   pub made_none : entered.made ≡ []
   pub same_handlers : entered.on_handlers ≡ []
 
 -- it was asked to stop, and its timer has ticked as often as it does
-pub record IsDone (counts : Counts) : Type 0 where
+pub record DeviceIsDone (counts : Counts) : Type 0 where
   pub stopped : counts.stopped ≡ true
   pub ticks : 5 ≤ counts.ticks

@@ -23,6 +23,6 @@ TurnsInARow {R} does pool events (suc more) before after =
     (mid : LoopFar R) × TurnsInARow does pool events more before mid × OneTurn does pool events mid after
 
 -- The loop has turned some times, one after another.
-pub record HasTurned {R : Type 0} (does : R → LoopEntered → R → Type 0) (pool : PoolState) (events : ℕ) (before after : LoopFar R) : Type 0 where
+pub record TurnsSome {R : Type 0} (does : R → LoopEntered → R → Type 0) (pool : PoolState) (events : ℕ) (before after : LoopFar R) : Type 0 where
   pub count : ℕ
   pub turns : TurnsInARow does pool events count before after

@@ -1,7 +1,7 @@
 //! The device, and its callbacks.
 ghost use Rattle.std.specs.Prelude.{◌≡◌, ◌<◌, List, []};
 ghost use Rattle.aio_model.specs.declared.timer_calls.TimerCall.{TimerCall};
-ghost use Rattle.aio_loop.specs.Entering.{Each, is_callees_on_timers, ChangesSide};
+ghost use Rattle.aio_loop.specs.Entering.{EachPasses, is_callees_on_timers, ChangesSide};
 
 use crate::counts::Counts;
 use aio_bh::{Call, Turn};
@@ -31,7 +31,7 @@ pub struct Device<'a> {
 fn rearm(side: &mut Side, timer: TimerId, due: i64, on: bool)
     requires timer { timer.number < side.old.timers.made }
     ensures made { side.new.timers.made ≡ side.old.timers.made }
-    ensures changes { (calls : List TimerCall) × Each is_callees_on_timers calls × ChangesSide [] calls side.old side.new }
+    ensures changes { (calls : List TimerCall) × EachPasses is_callees_on_timers calls × ChangesSide [] calls side.old side.new }
 {
     if on {
         side.timers.arm(timer, due);
@@ -51,11 +51,11 @@ impl<'a> Device<'a> {
 
 impl<'a> LoopRunner<()> for Device<'a> {
     ghost use Rattle.std.specs.Prelude.{◌<◌};
-    ghost use Rattle.device_loop.specs.Devices.{Works};
+    ghost use Rattle.device_loop.specs.Devices.{DeviceWorks};
 
     ghost can_run = { λ device sizes made. device.timer.number < made };
 
-    ghost does = { λ before entered after. Works before.counts entered after.counts };
+    ghost does = { λ before entered after. DeviceWorks before.counts entered after.counts };
 
     /// The doorbell was rung.
     fn bottom(

@@ -3,8 +3,8 @@ ghost use Rattle.std.specs.Prelude.{◌≡◌, ◌<◌, ◌≤◌, true, IsFalse
 ghost use Rattle.aio_bh.specs.OneShots.{ServesHome};
 ghost use Rattle.aio_loop.specs.Homes.{IsHomeFree};
 ghost use Rattle.aio_loop.specs.Walks.{loop_far};
-ghost use Rattle.device_loop.specs.Devices.{Works, IsDone};
-ghost use Rattle.device_loop.specs.Turning.{HasTurned};
+ghost use Rattle.device_loop.specs.Devices.{DeviceWorks, DeviceIsDone};
+ghost use Rattle.device_loop.specs.Turning.{TurnsSome};
 
 use crate::device::{Device, TICKS};
 use aio_loop::AioLoop;
@@ -13,7 +13,7 @@ use std::sync::Wait;
 
 /// Whether the device was asked to stop, and its timer has ticked as often as it does.
 fn is_done(device: &Device<'_>) -> bool
-    ensures { MatchBool result (IsDone device.now.counts) (true ≡ true) }
+    ensures { MatchBool result (DeviceIsDone device.now.counts) (true ≡ true) }
 {
     device.counts.stopped && device.counts.ticks >= TICKS
 }
@@ -34,8 +34,8 @@ fn turn_until_done<R: Wait>(
     ensures lots { ServesHome home_loop.old.table.now.sizes home_loop.old.pool.now home_loop.new.lot_pass }
     ensures home { IsHomeFree home_loop.old.table.now home_loop.new.home.seat }
     ensures walking { IsFalse home_loop.new.side.handlers.walking }
-    ensures turns { HasTurned (λ before entered after. Works before.counts entered after.counts) home_loop.old.pool.now home_loop.old.table.now.sizes.events (loop_far home_loop.old.home.seat.known home_loop.old.side device.old) (loop_far home_loop.new.home.seat.known home_loop.new.side device.new) }
-    ensures done { IsDone device.new.counts }
+    ensures turns { TurnsSome (λ before entered after. DeviceWorks before.counts entered after.counts) home_loop.old.pool.now home_loop.old.table.now.sizes.events (loop_far home_loop.old.home.seat.known home_loop.old.side device.old) (loop_far home_loop.new.home.seat.known home_loop.new.side device.new) }
+    ensures done { DeviceIsDone device.new.counts }
 {
     for _ in rt.forever() {
         if is_done(device) {
@@ -57,8 +57,8 @@ pub fn run_until_done<R: Wait>(
     requires lots { ServesHome home_loop.old.table.now.sizes home_loop.old.pool.now home_loop.old.lot_pass }
     requires home { IsHomeFree home_loop.old.table.now home_loop.old.home.seat }
     requires walking { IsFalse home_loop.old.side.handlers.walking }
-    ensures turns { HasTurned (λ before entered after. Works before.counts entered after.counts) home_loop.old.pool.now home_loop.old.table.now.sizes.events (loop_far home_loop.old.home.seat.known home_loop.old.side device.old) (loop_far home_loop.new.home.seat.known home_loop.new.side device.new) }
-    ensures done { IsDone device.new.counts }
+    ensures turns { TurnsSome (λ before entered after. DeviceWorks before.counts entered after.counts) home_loop.old.pool.now home_loop.old.table.now.sizes.events (loop_far home_loop.old.home.seat.known home_loop.old.side device.old) (loop_far home_loop.new.home.seat.known home_loop.new.side device.new) }
+    ensures done { DeviceIsDone device.new.counts }
 {
     turn_until_done(rt, home_loop, device, clock);
     home_loop.turn(rt, device, clock, false);

@@ -4,7 +4,7 @@ ghost use Rattle.std.specs.Thread.{IsSync};
 ghost use Rattle.aio_bh.specs.Ready.{IsReady};
 ghost use Rattle.aio_bh.specs.OneShots.{ServesHome};
 ghost use Rattle.aio_loop.specs.Homes.{IsHomeFree};
-ghost use Rattle.device_loop.specs.Devices.{IsDone};
+ghost use Rattle.device_loop.specs.Devices.{DeviceIsDone};
 
 use crate::counts::Counts;
 use crate::device::{Device, PERIOD};
@@ -27,7 +27,7 @@ pub struct Report {
     pub served: u64,
     /// The time on its clock.
     pub time: u64,
-    ghost done: { IsDone counts },
+    ghost done: { DeviceIsDone counts },
 }
 
 /// A timer that is armed for its first tick, and a handler of the event by which the device is asked to stop.

@@ -4,7 +4,7 @@ use Rattle.aio_model.specs.declared.flags.Flags.{Flags}
 use Rattle.aio_model.specs.FlagsWord.{bit}
 use Rattle.aio_model.specs.LoopHistory.{Sizes, ToCall, Take, History}
 use Rattle.aio_model.specs.LoopLegal.{IsLegal}
-use Rattle.aio_model.specs.LoopFrame.{Ended, Entered, Runs, are_of_callback}
+use Rattle.aio_model.specs.LoopFrame.{Ended, Entered, DoesEntries, are_of_callback}
 use Rattle.aio_model.specs.LoopCalls.{entry_time, entry_times, dequeue_times, stops, AwaitsCall}
 use Rattle.aio_model.proofs.Rounds.{legal_cut}
 use Rattle.aio_model.proofs.Awaiting.{awaits_still, none_dequeued, dequeue_times-append, some_entry-parts, some_entry-both}
@@ -15,9 +15,9 @@ use Rattle.aio_bh.specs.Enqueuing.{enqueue_entries}
 use Rattle.aio_bh.specs.Polling.{Polls}
 use Rattle.aio_bh.specs.Serving.{WasMade}
 use Rattle.aio_bh.proofs.Served.{served, never_nests, callback_awaits}
-use Rattle.doorbells.specs.Responding.{is_new, one_more, count_of, answers, PassesOn, Counts, AreFit}
+use Rattle.doorbells.specs.Responding.{is_new, one_more, count_of, answers, PassesOn, CountsOne, AreFit}
 use Rattle.doorbells.specs.Rings.{Rings}
-use Rattle.doorbells.specs.Answering.{Counted, Answers, AnswersTwice, AnswersOne}
+use Rattle.doorbells.specs.Answering.{Counted, AnswersDoorbells, AnswersTwice, AnswersOne}
 use Rattle.doorbells.proofs.Rang.{is_new-parts, none_dequeued_by}
 
 time_of : (b x : Bool) → cond b (bit x) 0 ≡ bit (b && x)
@@ -33,7 +33,7 @@ record Tallies (bell : ℕ) (log : List Entered) (before after : List ℕ) : Typ
   none : entry_times bell log ≡ 0 → count_of after bell ≡ count_of before bell
   once : entry_times bell log ≡ 1 → count_of after bell ≡ one_more (count_of before bell)
 
-tally : (bell : ℕ) (e : Entered) (log : List Entered) (before mid after : List ℕ) → bell < length before → Tallies bell log before mid → Counts e mid after → Tallies bell (e ∷ log) before after
+tally : (bell : ℕ) (e : Entered) (log : List Entered) (before mid after : List ℕ) → bell < length before → Tallies bell log before mid → CountsOne e mid after → Tallies bell (e ∷ log) before after
 tally bell e log before mid after below so_far counts = by (answers bell e) refl (counts.each bell (omega (arith, below, so_far.long)))
   where
     by : (b : Bool) → answers bell e ≡ b → count_of after bell ≡ cond (answers bell e) (one_more (count_of mid bell)) (count_of mid bell) → Tallies bell (e ∷ log) before after
@@ -74,18 +74,18 @@ zero_or_one (suc zero) h = inl refl
 zero_or_one (suc (suc n)) h = absurd (omega (arith, h))
 
 module _ {R : Type 0} (does : R → Entered → R → Type 0) (counts : R → List ℕ) (passed from to : R → ℕ)
-    (step : (x y : R) (e : Entered) → does x e y → Counts e (counts x) (counts y) × PassesOn (answers (from x) e) (to x) e.made (passed x) (passed y) × (from y ≡ from x) × (to y ≡ to x) × (e.answer ≡ Ended)) where
-  pub to_same : (log : List Entered) (r s : R) → Runs does r log s → to s ≡ to r
+    (step : (x y : R) (e : Entered) → does x e y → CountsOne e (counts x) (counts y) × PassesOn (answers (from x) e) (to x) e.made (passed x) (passed y) × (from y ≡ from x) × (to y ≡ to x) × (e.answer ≡ Ended)) where
+  pub to_same : (log : List Entered) (r s : R) → DoesEntries does r log s → to s ≡ to r
   to_same [] r s runs = ap to runs
   to_same (e ∷ log) r s runs = (step runs.0 s e runs.2).3 ∙ to_same log r runs.0 runs.1
 
-  tallied : (bell : ℕ) (log : List Entered) (r s : R) → bell < length (counts r) → Runs does r log s → Tallies bell log (counts r) (counts s)
+  tallied : (bell : ℕ) (log : List Entered) (r s : R) → bell < length (counts r) → DoesEntries does r log s → Tallies bell log (counts r) (counts s)
   tallied bell [] r s below runs =
       record { long = ap (λ x. length (counts x)) runs; none = λ _. ap (λ x. count_of (counts x) bell) runs; once = λ h. absurd (omega (arith, h)) }
   tallied bell (e ∷ log) r s below runs =
       tally bell e log (counts r) (counts runs.0) (counts s) below (tallied bell log r runs.0 below runs.1) (step runs.0 s e runs.2).0
 
-  passing : (log : List Entered) (r s : R) → Runs does r log s → passed r < passed s → IsPassed (to r) log
+  passing : (log : List Entered) (r s : R) → DoesEntries does r log s → passed r < passed s → IsPassed (to r) log
   passing [] r s runs more = absurd (omega (arith, more, ap passed runs))
   passing (e ∷ log) r s runs more =
       let mid = runs.0 in
@@ -101,7 +101,7 @@ module _ {R : Type 0} (does : R → Entered → R → Type 0) (counts : R → Li
   counted_of : R → Counted
   counted_of r = record { answered = counts r; passed_on = passed r }
 
-  pub answered : (polled : Polled) (r s : R) (a b : Known) → AreFit a.sizes.handles (counts r) (to r) → Polls does polled r a s b → Answers a.sizes (to r) a.seen b.seen (record { answered = counts r; passed_on = passed r }) (record { answered = counts s; passed_on = passed s })
+  pub answered : (polled : Polled) (r s : R) (a b : Known) → AreFit a.sizes.handles (counts r) (to r) → Polls does polled r a s b → AnswersDoorbells a.sizes (to r) a.seen b.seen (record { answered = counts r; passed_on = passed r }) (record { answered = counts s; passed_on = passed s })
   answered polled r s a b fit polls =
       let serves = served does polled r s a b polls (never_nests does (λ x y e did. (step x y e did).4) polls.end.log r s polls.runs) in
       let P : History = serves.others ++ a.seen in
@@ -129,7 +129,7 @@ module _ {R : Type 0} (does : R → Entered → R → Type 0) (counts : R → Li
       }
 
 -- two polls, one after the other
-pub answered_twice : (sizes : Sizes) (to : ℕ) (a m b : History) (counted_a counted_m counted_b : Counted) → to < sizes.handles → Answers sizes to a m counted_a counted_m → Answers sizes to m b counted_m counted_b → AnswersTwice sizes to a b counted_a counted_b
+pub answered_twice : (sizes : Sizes) (to : ℕ) (a m b : History) (counted_a counted_m counted_b : Counted) → to < sizes.handles → AnswersDoorbells sizes to a m counted_a counted_m → AnswersDoorbells sizes to m b counted_m counted_b → AnswersTwice sizes to a b counted_a counted_b
 answered_twice sizes to a m b counted_a counted_m counted_b handle first second = record {
   seen_between = m;
   counted_between = counted_m;
@@ -140,7 +140,7 @@ answered_twice sizes to a m b counted_a counted_m counted_b handle first second 
 }
 
 -- two rings by the home, and a poll
-pub one_of_two : (table : TableState) (bell : ℕ) (found again : Flags) (a m n : SeatState) (after : History) (to : ℕ) (counted_a counted_b : Counted) → a.known.first ≡ 64 → bell < table.sizes.handles → (first : Rings table bell found a m) → (second : Rings table bell again m n) → Answers table.sizes to n.known.seen after counted_a counted_b → AnswersOne bell (is_new found ≡ true) a.known.seen after counted_a counted_b
+pub one_of_two : (table : TableState) (bell : ℕ) (found again : Flags) (a m n : SeatState) (after : History) (to : ℕ) (counted_a counted_b : Counted) → a.known.first ≡ 64 → bell < table.sizes.handles → (first : Rings table bell found a m) → (second : Rings table bell again m n) → AnswersDoorbells table.sizes to n.known.seen after counted_a counted_b → AnswersOne bell (is_new found ≡ true) a.known.seen after counted_a counted_b
 one_of_two table bell found again a m n after to counted_a counted_b home_is handle first second polls =
     let s = first.stands.stands.stands in
     let t = second.stands.stands.stands in

@@ -16,7 +16,7 @@ use Rattle.aio_core.specs.Splitting.{front_known, back_known}
 use Rattle.aio_core.specs.Joining.{joined_known, told_of, IsJoined}
 use Rattle.aio_bh.specs.Enqueuing.{enqueue_entries}
 use Rattle.doorbells.specs.Rings.{Rings, RingsTwice, AwaitsUnless}
-use Rattle.doorbells.specs.Answering.{Counted, Answers, IsAnsweredIfFound, RingsAndAnswers}
+use Rattle.doorbells.specs.Answering.{Counted, AnswersDoorbells, IsAnsweredIfFound, RingsAndAnswers}
 use Rattle.doorbells.proofs.Rang.{awaits_unless}
 
 -- what a seat made since is all that stands there of its numbers
@@ -63,14 +63,14 @@ rings_twice table low high found_low found_high seat a0 b0 a1 b1 joined low_hand
     }
 
 -- of one of the two, and a poll
-found_once : (table : TableState) (bell : ℕ) (found : Flags) (since seen_before seen : History) (to : ℕ) (home_before home_after : History) (counted counted_after : Counted) → bell < table.sizes.handles → seen ≡ since ++ seen_before → AwaitsUnless bell found since seen → (polls : Answers table.sizes to home_before home_after counted counted_after) → IsAnsweredIfFound bell found since seen (polls.others ++ home_before) polls.later counted counted_after
+found_once : (table : TableState) (bell : ℕ) (found : Flags) (since seen_before seen : History) (to : ℕ) (home_before home_after : History) (counted counted_after : Counted) → bell < table.sizes.handles → seen ≡ since ++ seen_before → AwaitsUnless bell found since seen → (polls : AnswersDoorbells table.sizes to home_before home_after counted counted_after) → IsAnsweredIfFound bell found since seen (polls.others ++ home_before) polls.later counted counted_after
 found_once table bell found since seen_before seen to home_before home_after counted counted_after handle is awaits polls newer new taken none still still_later =
     let calm = some_entry-parts (stops bell) newer since still in
     let none_since : dequeue_times bell since ≡ 0 = omega (arith, none, dequeue_times-append bell newer since) in
     let none_newer : dequeue_times bell newer ≡ 0 = omega (arith, none, dequeue_times-append bell newer since) in
     polls.once bell newer seen handle taken (awaits new calm.1 none_since) none_newer calm.0 still_later
 
-pub rings_and_answers : (table : TableState) (low high : ℕ) (found_low found_high : Flags) (to : ℕ) (before after : SeatState) (home_before home_after : History) (counted counted_after : Counted) → low < table.sizes.handles → high < table.sizes.handles → RingsTwice table low high found_low found_high before after → Answers table.sizes to home_before home_after counted counted_after → RingsAndAnswers table low high found_low found_high to before after home_before home_after counted counted_after
+pub rings_and_answers : (table : TableState) (low high : ℕ) (found_low found_high : Flags) (to : ℕ) (before after : SeatState) (home_before home_after : History) (counted counted_after : Counted) → low < table.sizes.handles → high < table.sizes.handles → RingsTwice table low high found_low found_high before after → AnswersDoorbells table.sizes to home_before home_after counted counted_after → RingsAndAnswers table low high found_low found_high to before after home_before home_after counted counted_after
 rings_and_answers table low high found_low found_high to before after home_before home_after counted counted_after low_handle high_handle rings polls = record {
   rings = rings;
   answers = polls;

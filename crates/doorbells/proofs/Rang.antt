@@ -11,7 +11,7 @@ use Rattle.aio_model.specs.LoopCalls.{dequeue_times, AwaitsCall}
 use Rattle.aio_model.proofs.Awaiting.{none_dequeued}
 use Rattle.aio_core.specs.Known.{Known}
 use Rattle.aio_core.specs.Calls.{TableState, SeatState, IsSeatOf}
-use Rattle.aio_bh.specs.Enqueuing.{Stands, enqueue_entries}
+use Rattle.aio_bh.specs.Enqueuing.{AddsOnly, enqueue_entries}
 use Rattle.aio_bh.proofs.Lent.{enqueue_of_callback}
 use Rattle.aio_bh.proofs.Served.{enqueue_awaits}
 use Rattle.doorbells.specs.Responding.{is_new}
@@ -33,7 +33,7 @@ awaits_unless table bell seat found test since before seen handle is legal made 
     subst (AwaitsCall bell) (sym is)
     (enqueue_awaits table.sizes bell seat found test since before handle (subst (IsLegal table.sizes) is legal) made parts.0 parts.1 still none)
 
-pub rang : (table : TableState) (bell : ℕ) (found : Flags) (a b : SeatState) → bell < table.sizes.handles → IsSeatOf table a → IsSeatOf table b → b.known.phase ≡ AtRest → Stands (enqueue_entries bell ToCall a.known.first found) a.known b.known → Rings table bell found a b
+pub rang : (table : TableState) (bell : ℕ) (found : Flags) (a b : SeatState) → bell < table.sizes.handles → IsSeatOf table a → IsSeatOf table b → b.known.phase ≡ AtRest → AddsOnly (enqueue_entries bell ToCall a.known.first found) a.known b.known → Rings table bell found a b
 rang table bell found a b handle of_a of_b rest stands =
     let s = stands.stands.stands in
     record {

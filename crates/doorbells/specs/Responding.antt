@@ -28,7 +28,7 @@ PassesOn true to made passed passed_after =
     (found : Flags) × (made ≡ enqueue_entries to ToCall 64 found) × (passed_after ≡ (if is_new found then one_more passed else passed))
 
 -- the doorbell that is answered is counted, and no other
-pub record Counts (entered : Entered) (before after : List ℕ) : Type 0 where
+pub record CountsOne (entered : Entered) (before after : List ℕ) : Type 0 where
   pub long : length after ≡ length before
   pub each : (bell : ℕ) → bell < length before → count_of after bell ≡ (if answers bell entered then one_more (count_of before bell) else count_of before bell)
 

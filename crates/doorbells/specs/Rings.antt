@@ -9,7 +9,7 @@ use Rattle.aio_model.specs.LoopSeats.{own_entries}
 use Rattle.aio_model.specs.LoopCalls.{dequeue_times, stops, AwaitsCall}
 use Rattle.aio_core.specs.Known.{numbers_of}
 use Rattle.aio_core.specs.Calls.{TableState, SeatState}
-use Rattle.aio_bh.specs.Enqueuing.{Stands, enqueue_entries}
+use Rattle.aio_bh.specs.Enqueuing.{AddsOnly, enqueue_entries}
 use Rattle.aio_bh.specs.Ready.{ComesBack}
 use Rattle.doorbells.specs.Responding.{is_new}
 
@@ -21,7 +21,7 @@ AwaitsUnless bell found since seen =
 -- a seat rang once: just the entries of that ring were made under its number, and all else that it knows is as before
 pub record Rings (table : TableState) (bell : ℕ) (found : Flags) (before after : SeatState) : Type 0 where
   pub back : ComesBack table before after
-  pub stands : Stands (enqueue_entries bell ToCall before.known.first found) before.known after.known
+  pub stands : AddsOnly (enqueue_entries bell ToCall before.known.first found) before.known after.known
   pub awaits : AwaitsUnless bell found stands.stands.stands.rest after.known.seen
 
 -- Two seats rang at once, each with a half of the numbers, and were joined: in one legal history stands each of the two rings once, and

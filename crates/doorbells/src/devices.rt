@@ -3,7 +3,7 @@ ghost use Rattle.std.specs.Prelude.{◌≡◌, ◌<◌, ◌==◌, ◌&&◌, true
 ghost use Rattle.aio_model.specs.LoopHistory.{History};
 ghost use Rattle.aio_model.specs.LoopLegal.{IsLegal};
 ghost use Rattle.aio_bh.specs.Ready.{IsReady};
-ghost use Rattle.aio_bh.specs.Running.{GivesBack};
+ghost use Rattle.aio_bh.specs.Running.{SeatComesBack};
 ghost use Rattle.doorbells.specs.Responding.{one_more, count_of, PassesOn, AreFit};
 
 use crate::ringing::ring;
@@ -65,7 +65,7 @@ impl<'a, R: Wait> Devices<'a, R> {
         requires home { seat.old.known.first ≡ 64 }
         requires to { self.old.to < table.now.sizes.handles }
         ensures seat { IsReady table.now seat.new }
-        ensures made { (made : History) × GivesBack made seat.old.known seat.new.known × PassesOn true self.old.to made self.old.passed_on self.new.passed_on }
+        ensures made { (made : History) × SeatComesBack made seat.old.known seat.new.known × PassesOn true self.old.to made self.old.passed_on self.new.passed_on }
         ensures same { (self.new.answered.items ≡ self.old.answered.items) × (self.new.from ≡ self.old.from) × (self.new.to ≡ self.old.to) }
     {
         let found = ring(self.rt, table, seat, self.to);
@@ -81,7 +81,7 @@ impl<'a, R: Wait> Devices<'a, R> {
         requires legal { IsLegal table.now.sizes seat.old.known.seen }
         requires to { self.old.to < table.now.sizes.handles }
         ensures seat { IsReady table.now seat.new }
-        ensures made { (made : History) × GivesBack made seat.old.known seat.new.known × PassesOn (self.old.from == bell) self.old.to made self.old.passed_on self.new.passed_on }
+        ensures made { (made : History) × SeatComesBack made seat.old.known seat.new.known × PassesOn (self.old.from == bell) self.old.to made self.old.passed_on self.new.passed_on }
         ensures same { (self.new.answered.items ≡ self.old.answered.items) × (self.new.from ≡ self.old.from) × (self.new.to ≡ self.old.to) }
     {
         if self.from == bell {
@@ -93,11 +93,11 @@ impl<'a, R: Wait> Devices<'a, R> {
 impl<'a, R: Wait> Runner<()> for Devices<'a, R> {
     ghost use Rattle.std.specs.Prelude.{◌≡◌, ◌==◌, ◌&&◌};
     ghost use Rattle.aio_model.specs.LoopFrame.{Ended};
-    ghost use Rattle.doorbells.specs.Responding.{Counts, PassesOn, AreFit, answers};
+    ghost use Rattle.doorbells.specs.Responding.{CountsOne, PassesOn, AreFit, answers};
 
     ghost can_run = { λ devices sizes. AreFit sizes.handles devices.answered.items devices.to };
 
-    ghost does = { λ before entered after. Counts entered before.answered.items after.answered.items × PassesOn (answers before.from entered) before.to entered.made before.passed_on after.passed_on × (after.from ≡ before.from) × (after.to ≡ before.to) × (entered.answer ≡ Ended) };
+    ghost does = { λ before entered after. CountsOne entered before.answered.items after.answered.items × PassesOn (answers before.from entered) before.to entered.made before.passed_on after.passed_on × (after.from ≡ before.from) × (after.to ≡ before.to) × (entered.answer ≡ Ended) };
 
     fn run(&mut self, table: &LoopTable<()>, seat: &mut Seat<()>, call: &mut Call<()>) -> Turn {
         if call.first {

@@ -2,7 +2,7 @@
 ghost use Rattle.std.specs.Prelude.{◌≡◌, ◌<◌, true, ◌⊎◌};
 ghost use Rattle.aio_bh.specs.OneShots.{ServesHome};
 ghost use Rattle.doorbells.specs.Responding.{is_new, AreFit};
-ghost use Rattle.doorbells.specs.Answering.{IsHomeReady, Answers, AnswersTwice, AnswersOne};
+ghost use Rattle.doorbells.specs.Answering.{IsHomeReady, AnswersDoorbells, AnswersTwice, AnswersOne};
 
 use crate::devices::Devices;
 use crate::ringing::ring;
@@ -24,7 +24,7 @@ pub fn answer<R: Wait>(
     ensures lots { ServesHome table.now.sizes lots.new.pool lots.new.home }
     ensures home { IsHomeReady table.now home.new.seat }
     ensures devices { AreFit table.now.sizes.handles devices.new.answered.items devices.new.to × (devices.new.to ≡ devices.old.to) }
-    ensures answers { Answers table.now.sizes devices.old.to home.old.seat.known.seen home.new.seat.known.seen (record { answered = devices.old.answered.items; passed_on = devices.old.passed_on }) (record { answered = devices.new.answered.items; passed_on = devices.new.passed_on }) }
+    ensures answers { AnswersDoorbells table.now.sizes devices.old.to home.old.seat.known.seen home.new.seat.known.seen (record { answered = devices.old.answered.items; passed_on = devices.old.passed_on }) (record { answered = devices.new.answered.items; passed_on = devices.new.passed_on }) }
 {
     let rt = devices.rt;
     table.poll(rt, &lots.pool, &mut lots.home, home, devices)

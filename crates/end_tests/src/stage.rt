@@ -2,7 +2,7 @@
 ghost use Rattle.std.specs.Prelude.{◌≡◌, ◌≤◌, IfOk, length};
 ghost use Rattle.aio_script.specs.Bounds.{IsBounded};
 ghost use Rattle.reply_printing.specs.Standings.{AreInOrder};
-ghost use Rattle.stream_ends.specs.Stops.{IsServed};
+ghost use Rattle.stream_ends.specs.Stops.{IsScriptServed};
 
 use aio_model::{Placed, Script};
 use aio_script::{Page, read_script};
@@ -51,7 +51,7 @@ pub fn serve<D: Device, R: Wait + Abort>(
 ) -> Finished<D>
     requires bounded { IsBounded script.now }
     requires fits { script.now.image ≤ D.extent device }
-    ensures serves { IsServed script.now (D.bytes device) (D.bytes result.device) result.served.items }
+    ensures serves { IsScriptServed script.now (D.bytes device) (D.bytes result.device) result.served.items }
 {
     match serve_in_rounds(rt, alloc, script, device, &OpenGate) {
         Ok(done) => done,

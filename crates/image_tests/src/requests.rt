@@ -2,7 +2,7 @@ ghost use Rattle.std.specs.Prelude.{◌≡◌, ◌<◌, ◌≤◌, ◌^◌, ◌�
 ghost use Rattle.aio_model.specs.Serving.{length_of, end_of};
 ghost use Rattle.img_requests.specs.Journal.{entries_of, entry_next};
 ghost use Rattle.img_requests.specs.Pieces.{HasRoom};
-ghost use Rattle.img_requests.specs.Progress.{IsServed};
+ghost use Rattle.img_requests.specs.Progress.{IsServedThrough};
 ghost use Rattle.img_requests.specs.Presents.{begun_of};
 
 use crate::disk::{Disk, NEVER};
@@ -30,7 +30,7 @@ fn serve_pieces<D: Device>(
     requires within { end_of request.now ≤ image.old.size }
     requires inside { IfSome (D.bytes image.old.device) (λ told. end_of request.now ≤ length told) }
     requires room { HasRoom request.now buf.old }
-    ensures { IsServed D.bytes stream request.now image.old image.new buf.new }
+    ensures { IsServedThrough D.bytes stream request.now image.old image.new buf.new }
 {
     let mut pieces: u32 = 1;
     loop {

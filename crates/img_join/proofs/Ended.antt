@@ -15,10 +15,10 @@ use Rattle.aio_words.specs.Called.{sizes_asked, failures_in}
 use Rattle.aio_words.specs.Faults.{HasRisenBy}
 use Rattle.img_requests.specs.Journal.{reply_of}
 use Rattle.img_requests.specs.Progress.{Replied}
-use Rattle.img_shared.specs.Calls.{IsWhole}
+use Rattle.img_shared.specs.Calls.{IsWholeRun}
 use Rattle.img_shared.specs.Journals.{entries_of, noted, Noted, of_stream, eios_in}
 use Rattle.img_join.specs.Answers.{IsAnswered, placed_of}
-use Rattle.img_join.specs.Ended.{AreApart, AreOurs, HasRetired, IsChargedFor, IsServedWhole, replies_to}
+use Rattle.img_join.specs.Ended.{HaveOwnIds, AreOurs, HasRetired, IsChargedFor, IsServedWhole, replies_to}
 use Rattle.img_join.specs.Placing.{row_at, placed_from, HaveAll}
 use Rattle.img_join.proofs.Accounts.{length_from}
 use Rattle.img_join.proofs.ByEntry.{placed_same, eios_placed}
@@ -88,14 +88,14 @@ module _ {D : Type 0} (bytes : D → Option (List ℕ)) (extent faults size_faul
   abbrev pub served : List Placed
   served = map (placed_of (slice_index ids) reply) (map (noted bytes) image.journal)
 
-  module _ (many : length image.requests ≡ length ids) (whole : IsWhole bytes extent faults size_faults calls image) where
+  module _ (many : length image.requests ≡ length ids) (whole : IsWholeRun bytes extent faults size_faults calls image) where
     all_in : (k : ℕ) → HasRetired bytes lines ids image k (row_at rows k) → length (entries_from 0 k image.journal) ≡ requests_of (slice_index ids k) lines
     all_in k retired =
         let due : entries_of k image.journal ≡ slice_index image.requests k =
         subst (λ (p : Phase). IsDue p (entries_of k image.journal) (slice_index image.requests k)) retired.retired (whole.due k) in
         length_from 0 k image.journal ∙ due ∙ retired.account.many
 
-    pub finished : AreApart ids → AreOurs ids lines
+    pub finished : HaveOwnIds ids → AreOurs ids lines
         → ((k : ℕ) → k < length ids → HasRetired bytes lines ids image k (row_at rows k))
         → IsSerialHistory image.size (asked lines) (bytes image.opening) served
         × (bytes image.device ≡ option_map (bytes_left (asked lines) served) (bytes image.opening))
@@ -126,9 +126,9 @@ less_risen n m before now risen = omega (arith, risen)
 -- the replies that were put together are those
 pub served_whole : {D : Type 0} → (bytes : D → Option (List ℕ)) (extent faults size_faults : D → ℕ) (calls : D → List DeviceCall) (ids : List ℕ) (image : ImageState D)
     (rows : List (List (List ℕ))) (placed : List Placed)
-    → length image.requests ≡ length ids → IsWhole bytes extent faults size_faults calls image
+    → length image.requests ≡ length ids → IsWholeRun bytes extent faults size_faults calls image
     → HaveAll ids image.journal rows → placed ≡ placed_from ids image.journal rows
-    → (lines : List Step) → AreApart ids → AreOurs ids lines
+    → (lines : List Step) → HaveOwnIds ids → AreOurs ids lines
     → ((k : ℕ) → k < length ids → HasRetired bytes lines ids image k (row_at rows k))
     → IsServedWhole bytes faults lines image placed
 served_whole bytes extent faults size_faults calls ids image rows placed many whole have put lines apart ours retired =
@@ -153,7 +153,7 @@ none_failed (p ∷ phases) retired =
 -- what the run came to at the device
 pub charged_for : {D : Type 0} → (bytes : D → Option (List ℕ)) (extent faults size_faults : D → ℕ) (calls : D → List DeviceCall) (ids : List ℕ) (image : ImageState D)
     (rows : List (List (List ℕ))) (placed : List Placed)
-    → length image.requests ≡ length ids → IsWhole bytes extent faults size_faults calls image
+    → length image.requests ≡ length ids → IsWholeRun bytes extent faults size_faults calls image
     → placed ≡ placed_from ids image.journal rows
     → ((k : ℕ) → k < length ids → phase_at image.phases k ≡ Retired)
     → IsChargedFor extent faults size_faults calls image.size image.opening image.device placed

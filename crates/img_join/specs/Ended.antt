@@ -23,8 +23,8 @@ replies_to (placed ∷ entries) [] = []
 replies_to (placed ∷ entries) (found ∷ buffers) = reply_of placed.entry.mark found ∷ replies_to entries buffers
 
 -- no two streams have the same id
-abbrev pub AreApart : List ℕ → Type 0
-AreApart ids = (i j : ℕ) → i < length ids → j < length ids → slice_index ids i ≡ slice_index ids j → i ≡ j
+abbrev pub HaveOwnIds : List ℕ → Type 0
+HaveOwnIds ids = (i j : ℕ) → i < length ids → j < length ids → slice_index ids i ≡ slice_index ids j → i ≡ j
 
 -- each line is of one of the streams
 abbrev pub AreOurs : List ℕ → List Step → Type 0

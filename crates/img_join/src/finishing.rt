@@ -1,6 +1,6 @@
 ghost use Rattle.std.specs.Prelude.{◌≡◌, ◌<◌, ◌≤◌, ℕ, List, [], length, vec_capacity};
 ghost use Rattle.aio_model.specs.declared.scripts.Step.{Step};
-ghost use Rattle.img_join.specs.Ended.{AreApart, AreOurs, HasRetired, IsChargedFor, IsServedWhole};
+ghost use Rattle.img_join.specs.Ended.{HaveOwnIds, AreOurs, HasRetired, IsChargedFor, IsServedWhole};
 ghost use Rattle.img_join.specs.Placing.{placed_from, row_at};
 ghost use Rattle.img_shared.specs.declared.phases.Phase.TheVariants.{Retired};
 ghost use Rattle.img_shared.specs.Journals.{entries_of};
@@ -34,7 +34,7 @@ pub fn finish<D: Device>(
         → IsChargedFor D.extent D.faults D.size_faults D.calls image.size image.opening image.device served.new.items }
 
     // For each script whose lines are these streams' own and whose requests the accounts are of.
-    ensures whole { (lines : List Step) → AreApart ids.now → AreOurs ids.now lines
+    ensures whole { (lines : List Step) → HaveOwnIds ids.now → AreOurs ids.now lines
         → ((k : ℕ) → k < length ids.now → HasRetired D.bytes lines ids.now image k (row_at buffers k))
         → IsServedWhole D.bytes D.faults lines image served.new.items }
 {

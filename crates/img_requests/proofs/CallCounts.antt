@@ -5,7 +5,7 @@ use Rattle.aio_model.specs.declared.requests.Request.TheVariants.{Read, Write, Z
 use Rattle.aio_words.specs.declared.called.DeviceAsk.{DeviceAsk}
 use Rattle.aio_words.specs.declared.called.DeviceCall.{DeviceCall}
 use Rattle.aio_words.specs.Called.{device_call, is_size, sizes_asked, failures_in}
-use Rattle.img_requests.specs.PieceCalls.{CallsOnce, MakesCall}
+use Rattle.img_requests.specs.PieceCalls.{CallsOnce, MakesDeviceCall}
 
 CallsOnce-sizes : (n : ℕ) (asked : DeviceAsk) (failed : Bool) (before now : List DeviceCall)
     → is_size asked ≡ false → CallsOnce n asked failed before now → sizes_asked now ≡ sizes_asked before
@@ -15,12 +15,12 @@ CallsOnce-sizes (suc n) asked failed before now other calls =
     ∙ subst (λ b. cond b (sizes_asked before + 1) (sizes_asked before) ≡ sizes_asked before) (sym other) refl
 
 -- a piece never asks for the size
-pub MakesCall-sizes : (request : Request) (done n : ℕ) (failed : Bool) (before now : List DeviceCall)
-    → MakesCall request done n failed before now → sizes_asked now ≡ sizes_asked before
-MakesCall-sizes (Read at len) done n failed before now calls = CallsOnce-sizes n _ failed before now refl calls
-MakesCall-sizes (Write at written) done n failed before now calls = CallsOnce-sizes n _ failed before now refl calls
-MakesCall-sizes (Zero at len) done n failed before now calls = CallsOnce-sizes n _ failed before now refl calls
-MakesCall-sizes Flush done n failed before now calls = ap sizes_asked calls
+pub MakesDeviceCall-sizes : (request : Request) (done n : ℕ) (failed : Bool) (before now : List DeviceCall)
+    → MakesDeviceCall request done n failed before now → sizes_asked now ≡ sizes_asked before
+MakesDeviceCall-sizes (Read at len) done n failed before now calls = CallsOnce-sizes n _ failed before now refl calls
+MakesDeviceCall-sizes (Write at written) done n failed before now calls = CallsOnce-sizes n _ failed before now refl calls
+MakesDeviceCall-sizes (Zero at len) done n failed before now calls = CallsOnce-sizes n _ failed before now refl calls
+MakesDeviceCall-sizes Flush done n failed before now calls = ap sizes_asked calls
 
 one-failed : (asked : DeviceAsk) (failed : Bool) (before now : List DeviceCall)
     → now ≡ device_call asked failed ∷ before → failures_in now ≡ failures_in before + cond failed 1 0
@@ -42,20 +42,20 @@ CallsOnce-failures zero asked failed before now calls = none-failed failed befor
 CallsOnce-failures (suc n) asked failed before now calls = one-failed asked failed before now (calls.one (omega arith))
 
 -- one call failed where the piece did
-pub MakesCall-failures : (request : Request) (done n : ℕ) (failed : Bool) (before now : List DeviceCall)
-    → MakesCall request done n failed before now → failures_in now ≡ failures_in before + cond failed 1 0
-MakesCall-failures (Read at len) done n failed before now calls = CallsOnce-failures n _ failed before now calls
-MakesCall-failures (Write at written) done n failed before now calls = CallsOnce-failures n _ failed before now calls
-MakesCall-failures (Zero at len) done n failed before now calls = CallsOnce-failures n _ failed before now calls
-MakesCall-failures Flush done n failed before now calls = one-failed _ failed before now calls
+pub MakesDeviceCall-failures : (request : Request) (done n : ℕ) (failed : Bool) (before now : List DeviceCall)
+    → MakesDeviceCall request done n failed before now → failures_in now ≡ failures_in before + cond failed 1 0
+MakesDeviceCall-failures (Read at len) done n failed before now calls = CallsOnce-failures n _ failed before now calls
+MakesDeviceCall-failures (Write at written) done n failed before now calls = CallsOnce-failures n _ failed before now calls
+MakesDeviceCall-failures (Zero at len) done n failed before now calls = CallsOnce-failures n _ failed before now calls
+MakesDeviceCall-failures Flush done n failed before now calls = one-failed _ failed before now calls
 
 -- none failed where the piece didn't
-pub MakesCall-well : (request : Request) (done n : ℕ) (before now : List DeviceCall)
-    → MakesCall request done n false before now → failures_in now ≡ failures_in before
-MakesCall-well request done n before now calls =
-    let counted : failures_in now ≡ failures_in before + 0 = MakesCall-failures request done n false before now calls in
+pub MakesDeviceCall-well : (request : Request) (done n : ℕ) (before now : List DeviceCall)
+    → MakesDeviceCall request done n false before now → failures_in now ≡ failures_in before
+MakesDeviceCall-well request done n before now calls =
+    let counted : failures_in now ≡ failures_in before + 0 = MakesDeviceCall-failures request done n false before now calls in
     omega (arith, counted)
 
-pub MakesCall-fault : (request : Request) (done n : ℕ) (before now : List DeviceCall)
-    → MakesCall request done n true before now → failures_in now ≡ failures_in before + 1
-MakesCall-fault request done n before now calls = MakesCall-failures request done n true before now calls
+pub MakesDeviceCall-fault : (request : Request) (done n : ℕ) (before now : List DeviceCall)
+    → MakesDeviceCall request done n true before now → failures_in now ≡ failures_in before + 1
+MakesDeviceCall-fault request done n before now calls = MakesDeviceCall-failures request done n true before now calls

@@ -10,7 +10,7 @@ use Rattle.img_requests.specs.ImageState.{ImageState, IsEnded, CanLeave, Serves}
 use Rattle.img_requests.specs.Journal.{mark_of, reply_of}
 use Rattle.img_requests.specs.Pieces.{HasRoom, stage_after}
 use Rattle.img_requests.specs.Presents.{present_of, done_of}
-use Rattle.img_requests.specs.Progress.{Progress, Replied, UnderWay, IsServed}
+use Rattle.img_requests.specs.Progress.{Progress, Replied, UnderWay, IsServedThrough}
 use Rattle.img_requests.proofs.Joining.{Progress-begun, Progress-more, Replied-last}
 
 module _ {D : Type 0} (bytes : D → Option (List ℕ)) (stream : ℕ) (request : Request) where
@@ -62,12 +62,12 @@ IsEnded-last Whole last = tt
 IsEnded-last Failed last = tt
 
 -- the last piece
-pub IsServed-last : {D : Type 0} {bytes : D → Option (List ℕ)} {stream : ℕ} {request : Request} {old now new : ImageState D} {before after : List ℕ} {answer : Piece}
+pub IsServedThrough-last : {D : Type 0} {bytes : D → Option (List ℕ)} {stream : ℕ} {request : Request} {old now new : ImageState D} {before after : List ℕ} {answer : Piece}
     → UnderWay bytes stream request old now before
     → Serves bytes stream request answer now new before after
     → (answer ≡ Whole) ⊎ (answer ≡ Failed)
-    → IsServed bytes stream request old new after
-IsServed-last {D} {bytes} {stream} {request} {old} {now} {new} {before} {after} {answer} under piece last =
+    → IsServedThrough bytes stream request old new after
+IsServedThrough-last {D} {bytes} {stream} {request} {old} {now} {new} {before} {after} {answer} under piece last =
     let next = ap (λ image. image.present) piece.image in
     record {
       ended = subst (CanLeave stream) (sym next) (refl, IsEnded-last answer last);

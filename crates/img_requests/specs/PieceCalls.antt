@@ -22,8 +22,8 @@ pub record CallsOnce (n : ℕ) (asked : DeviceAsk) (failed : Bool) (before now :
 
 -- A piece of n bytes, behind those that are done, made one call of its request's kind, at its place and of its length;
 -- it failed where that call failed. For no bytes of a read, a write or zeros it made none.
-abbrev pub MakesCall : Request → ℕ → ℕ → Bool → List DeviceCall → List DeviceCall → Type 0
-MakesCall (Read at len) done n failed before now = CallsOnce n (ask.Read (at + done) n) failed before now
-MakesCall (Write at written) done n failed before now = CallsOnce n (ask.Write (at + done) n) failed before now
-MakesCall (Zero at len) done n failed before now = CallsOnce n (ask.Write (at + done) n) failed before now
-MakesCall Flush done n failed before now = now ≡ device_call ask.Flush failed ∷ before
+abbrev pub MakesDeviceCall : Request → ℕ → ℕ → Bool → List DeviceCall → List DeviceCall → Type 0
+MakesDeviceCall (Read at len) done n failed before now = CallsOnce n (ask.Read (at + done) n) failed before now
+MakesDeviceCall (Write at written) done n failed before now = CallsOnce n (ask.Write (at + done) n) failed before now
+MakesDeviceCall (Zero at len) done n failed before now = CallsOnce n (ask.Write (at + done) n) failed before now
+MakesDeviceCall Flush done n failed before now = now ≡ device_call ask.Flush failed ∷ before

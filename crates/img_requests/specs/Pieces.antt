@@ -72,10 +72,10 @@ OnFailed Whole P = Unit {0}
 OnFailed Failed P = P
 
 -- the answer to n bytes behind those that were done
-abbrev pub Answered : Piece → Request → ℕ → ℕ → Type 0
-Answered More request done n = done + n < length_of request
-Answered Whole request done n = done + n ≡ length_of request
-Answered Failed request done n = IsCutShort request done
+abbrev pub AnsweredPiece : Piece → Request → ℕ → ℕ → Type 0
+AnsweredPiece More request done n = done + n < length_of request
+AnsweredPiece Whole request done n = done + n ≡ length_of request
+AnsweredPiece Failed request done n = IsCutShort request done
 
 -- the answer where the device served the piece or failed, and where so many of the request's bytes are done with it
 abbrev pub answer_to : Bool → ℕ → ℕ → Piece
@@ -96,7 +96,7 @@ done_after Failed done n = done
 -- buffer. Where the device doesn't tell its bytes, what a read finds is left open.
 pub record Pieced (request : Request) (done n : ℕ) (answer : Piece) (told now : Option (List ℕ)) (before after : List ℕ)
     : Type 0 where
-  pub answered : Answered answer request done n
+  pub answered : AnsweredPiece answer request done n
   pub puts : OnServed answer (now ≡ option_map (bytes_with request done n) told)
   pub keeps : OnFailed answer (now ≡ told)
   pub finds : OnServed answer (IfSome told (λ bytes. after ≡ buffer_with request done n bytes before))

@@ -58,7 +58,7 @@ pub record UnderWay {D : Type 0} (bytes : D → Option (List ℕ)) (stream : ℕ
 
 -- All pieces of the stream's request brought the image from `old`, where it was begun, to `now`: it may leave, and the
 -- reply whose mark it then gets fits.
-pub record IsServed {D : Type 0} (bytes : D → Option (List ℕ)) (stream : ℕ) (request : Request)
+pub record IsServedThrough {D : Type 0} (bytes : D → Option (List ℕ)) (stream : ℕ) (request : Request)
     (old now : ImageState D) (buffer : List ℕ)
     : Type 0 where
   pub ended : CanLeave stream now.present

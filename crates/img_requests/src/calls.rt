@@ -1,7 +1,7 @@
 ghost use Rattle.std.specs.Prelude.{◌≡◌, is_err, ◌+◌, ◌<◌, ◌≤◌, ◌^◌, take, drop, length, replicate, option_map, IfSome, OnOk, OnErr};
 ghost use Rattle.aio_model.specs.Serving.{put_at, length_of, end_of};
 ghost use Rattle.aio_words.specs.Faults.{HasRisen};
-ghost use Rattle.img_requests.specs.PieceCalls.{CallsOnce, MakesCall};
+ghost use Rattle.img_requests.specs.PieceCalls.{CallsOnce, MakesDeviceCall};
 ghost use Rattle.img_requests.specs.Pieces.{bytes_with, buffer_with, HasRoom, TouchesOnly, NeedsCall, IsSilent};
 
 use aio_model::Request;
@@ -79,7 +79,7 @@ pub fn serve_piece<D: Device>(
     ensures quiet { IsSilent request.now n → D.faults device.new ≡ D.faults device.old }
     ensures cause { OnErr result (HasRisen (D.faults device.old) (D.faults device.new)) }
     ensures sizes { D.size_faults device.new ≡ D.size_faults device.old }
-    ensures calls { MakesCall request.now done n (is_err result) (D.calls device.old) (D.calls device.new) }
+    ensures calls { MakesDeviceCall request.now done n (is_err result) (D.calls device.old) (D.calls device.new) }
 {
     let from = done as usize;
     let to = from + n as usize;

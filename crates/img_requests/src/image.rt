@@ -34,7 +34,7 @@ impl<D: Device> Image<D> {
     ghost use Rattle.aio_words.specs.Faults.{HasRisen};
     ghost use Rattle.img_requests.specs.ImageState.{Enters, CanLeave, OnBegun, Serves};
     ghost use Rattle.img_requests.specs.Journal.{entries_of, entry_next, mark_of};
-    ghost use Rattle.img_requests.specs.PieceCalls.{MakesCall, is_failed};
+    ghost use Rattle.img_requests.specs.PieceCalls.{MakesDeviceCall, is_failed};
     ghost use Rattle.img_requests.specs.Pieces.{OnFailed, HasRoom, IsSilent, piece_length};
     ghost use Rattle.img_requests.specs.Presents.{done_of, IsBegun};
 
@@ -93,7 +93,7 @@ impl<D: Device> Image<D> {
             → D.faults self.new.device ≡ D.faults self.old.device }
         ensures sizes { D.size_faults self.new.device ≡ D.size_faults self.old.device }
         ensures extent { D.extent self.new.device ≡ D.extent self.old.device }
-        ensures calls { MakesCall request.now (done_of self.old.present) (piece_length (length_of request.now) (done_of self.old.present))
+        ensures calls { MakesDeviceCall request.now (done_of self.old.present) (piece_length (length_of request.now) (done_of self.old.present))
             (is_failed result) (D.calls self.old.device) (D.calls self.new.device) }
     {
         let Some(present) = self.present else {

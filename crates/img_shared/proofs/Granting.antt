@@ -2,7 +2,7 @@
 use Rattle.std.proofs.Common.{◌≡◌, ℕ, ◌⊎◌, inl, inr, Option, refl, sym, ap, subst, ◌∙◌}
 use Rattle.aio_model.specs.declared.holds.Hold.{Hold}
 use Rattle.aio_model.specs.declared.holds.Hold.TheVariants.{Free, Reads, Writes, WaitsRead, WaitsWrite}
-use Rattle.aio_model.specs.Holds.{Has, Waits, OnlyGranted, granted, after_wake}
+use Rattle.aio_model.specs.Holds.{Has, HasTicket, OnlyGranted, granted, after_wake}
 use Rattle.aio_model.proofs.Granted.{only_granted}
 use Rattle.img_requests.specs.declared.present.Present.{Present}
 use Rattle.img_requests.specs.declared.present.RequestKind.{RequestKind}
@@ -23,7 +23,7 @@ waits_lacks Write h = h
 waits_lacks Zero h = h
 waits_lacks Flush h = h
 
-held_not_waits : (kind : RequestKind) → Waits (held_by kind) → ⊥
+held_not_waits : (kind : RequestKind) → HasTicket (held_by kind) → ⊥
 held_not_waits Read h = h
 held_not_waits Write h = h
 held_not_waits Zero h = h
@@ -77,11 +77,11 @@ writes_held (Active p) hold linked writes = linked ∙ writes
 writes_held Retired hold linked writes = absurd writes
 
 -- who has a ticket is queued
-pub ticket_waits : (phase : Phase) (hold : Hold) → Linked phase hold → Waits hold → IsWaiting phase
-ticket_waits Idle hold linked waits = subst Waits linked waits
+pub ticket_waits : (phase : Phase) (hold : Hold) → Linked phase hold → HasTicket hold → IsWaiting phase
+ticket_waits Idle hold linked waits = subst HasTicket linked waits
 ticket_waits (Waiting p) hold linked waits = tt
-ticket_waits (Active p) hold linked waits = held_not_waits p.kind (subst Waits linked waits)
-ticket_waits Retired hold linked waits = subst Waits linked waits
+ticket_waits (Active p) hold linked waits = held_not_waits p.kind (subst HasTicket linked waits)
+ticket_waits Retired hold linked waits = subst HasTicket linked waits
 
 pub reads_or_writes : (kind : RequestKind) → (held_by kind ≡ Reads) ⊎ (held_by kind ≡ Writes)
 reads_or_writes Read = inl refl
@@ -92,7 +92,7 @@ reads_or_writes Zero = inr refl
 pub reads_not_writes : (hold : Hold) → hold ≡ Reads → hold ≡ Writes → ⊥
 reads_not_writes hold r w = cc (sym r ∙ w)
 
-pub has_not_waits : (hold : Hold) → Has hold → Waits hold → ⊥
+pub has_not_waits : (hold : Hold) → Has hold → HasTicket hold → ⊥
 has_not_waits Free has waits = has
 has_not_waits WaitsRead has waits = has
 has_not_waits WaitsWrite has waits = has

@@ -1,6 +1,6 @@
 -- Whoever is named to be woken was queued and has its hold now.
 use Rattle.std.proofs.Common.{◌≡◌, ◌≢◌, ℕ, zero, suc, ◌<◌, set, List, [], ◌∷◌, length, Option, Some, None, IfSome, sym, subst, arith}
-use Rattle.aio_model.specs.Holds.{Has, Waits}
+use Rattle.aio_model.specs.Holds.{Has, HasTicket}
 use Rattle.aio_model.specs.Readers.{hold_of}
 use Rattle.img_shared.specs.declared.phases.Phase.{Phase}
 use Rattle.img_shared.specs.Calls.{IsGranted}
@@ -17,10 +17,10 @@ waiting_known (p ∷ phases) (suc k) waits = let more : k < length phases = wait
 
 module _ {D : Type 0} (bytes : D → Option (List ℕ)) (old : ImageState D) (sound : IsSound bytes old) (s : ℕ) (busy : Has (hold_of old.access s))
     (new : ImageState D) (requests : new.requests ≡ old.requests) (x : Phase) (phases : new.phases ≡ set old.phases s x) where
-  named_one : (next : ℕ) → Waits (hold_of old.access next) × Has (hold_of new.access next) → IsGranted new next
+  named_one : (next : ℕ) → HasTicket (hold_of old.access next) × Has (hold_of new.access next) → IsGranted new next
   named_one next woken =
       let waits : IsWaiting (phase_at old.phases next) = ticket_waits (phase_at old.phases next) (hold_of old.access next) (sound.linked next) woken.0 in
-      let other : next ≢ s = λ same. has_not_waits (hold_of old.access s) busy (subst (λ (k : ℕ). Waits (hold_of old.access k)) same woken.0) in
+      let other : next ≢ s = λ same. has_not_waits (hold_of old.access s) busy (subst (λ (k : ℕ). HasTicket (hold_of old.access k)) same woken.0) in
       let below : next < length old.phases = waiting_known old.phases next waits in
       record {
         known = subst (λ (l : List ℕ). next < length l) (sym requests) (omega (arith, below, sound.streams));
@@ -28,7 +28,7 @@ module _ {D : Type 0} (bytes : D → Option (List ℕ)) (old : ImageState D) (so
         holds = woken.1;
       }
 
-  pub named_all : (woken : Option ℕ) → IfSome woken (λ next. Waits (hold_of old.access next) × Has (hold_of new.access next))
+  pub named_all : (woken : Option ℕ) → IfSome woken (λ next. HasTicket (hold_of old.access next) × Has (hold_of new.access next))
       → IfSome woken (λ next. IsGranted new next)
   named_all None woken = tt
   named_all (Some next) woken = named_one next woken

@@ -7,7 +7,7 @@ use Rattle.img_requests.specs.declared.present.Present.{Present}
 use Rattle.img_requests.specs.Journal.{mark_at}
 use Rattle.img_shared.specs.declared.journal.Entry.{Entry}
 use Rattle.img_shared.specs.declared.phases.Phase.TheVariants.{Idle, Active}
-use Rattle.img_shared.specs.Calls.{IsWhole, Leaves}
+use Rattle.img_shared.specs.Calls.{IsWholeRun, Leaves}
 use Rattle.img_shared.specs.Images.{ImageState}
 use Rattle.img_shared.specs.Journals.{entry_next}
 use Rattle.img_shared.specs.Phases.{phase_at}
@@ -15,7 +15,7 @@ use Rattle.img_shared.specs.Soundness.{IsKept}
 
 pub whole_of : {D : Type 0} → (bytes : D → Option (List ℕ)) (extent faults size_faults : D → ℕ) (calls : D → List DeviceCall) (image : ImageState D)
     → IsKept bytes extent faults size_faults calls image → sum image.requests ≤ 4096 → length image.journal ≤ sum image.requests
-    → IsWhole bytes extent faults size_faults calls image
+    → IsWholeRun bytes extent faults size_faults calls image
 whole_of bytes extent faults size_faults calls image kept few placed = record {
   streams = kept.sound.streams;
   few = few;

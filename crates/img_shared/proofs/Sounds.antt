@@ -13,7 +13,7 @@ use Rattle.img_shared.specs.declared.phases.Phase.TheVariants.{Idle, Waiting, Ac
 use Rattle.img_shared.specs.Images.{ImageState}
 use Rattle.img_shared.specs.Journals.{entries_of, entry_next, noted, Noted, Chain}
 use Rattle.img_shared.specs.Phases.{Linked, Writing, phase_at, held_by}
-use Rattle.img_shared.specs.Soundness.{IsSound, IsInside, IsWithin, IsDue}
+use Rattle.img_shared.specs.Soundness.{IsSound, IsInside, LiesInside, IsDue}
 use Rattle.img_shared.proofs.Counting.{entries_of-other}
 use Rattle.img_shared.proofs.Granting.{linked_kept, linked_taken, same_granted, reads_or_writes, reads_not_writes}
 use Rattle.img_shared.proofs.JournalPush.{chain_push, known_push, ordered_push}
@@ -158,7 +158,7 @@ module _ {D : Type 0} (bytes : D → Option (List ℕ)) where
     -- a piece is served
     pub sound_piece : (present next : Present) (device : D) → phase_at old.phases s ≡ Active present
         → next.kind ≡ present.kind
-        → IsWithin old.size s next
+        → LiesInside old.size s next
         → (held_by present.kind ≡ Reads → bytes device ≡ bytes old.device)
         → IsSound bytes (record old { device = device; phases = set old.phases s (Active next) })
     sound_piece present next device active kind within reads =

@@ -15,7 +15,7 @@ use Rattle.img_requests.specs.Presents.{present_of, kind_of}
 use Rattle.aio_model.specs.declared.holds.Hold.TheVariants.{Reads}
 use Rattle.img_shared.specs.declared.phases.Phase.{Phase}
 use Rattle.img_shared.specs.declared.phases.Phase.TheVariants.{Idle, Waiting, Active, Retired}
-use Rattle.img_shared.specs.Soundness.{IsWithin}
+use Rattle.img_shared.specs.Soundness.{LiesInside}
 use Rattle.img_shared.specs.Phases.{held_by}
 use Rattle.img_shared.proofs.Others.{kept_some}
 
@@ -28,7 +28,7 @@ kept_reading request.Flush done n (Ok u) told now put kept reads = put ∙ kept_
 kept_reading (request.Write at bytes) done n (Ok u) told now put kept reads = cc reads
 kept_reading (request.Zero at len) done n (Ok u) told now put kept reads = cc reads
 
-pub within_begun : (size s : ℕ) (request : Request) (present : Present) → present ≡ present_of s request 0 Begun → present.at + present.length ≤ size → IsWithin size s present
+pub within_begun : (size s : ℕ) (request : Request) (present : Present) → present ≡ present_of s request 0 Begun → present.at + present.length ≤ size → LiesInside size s present
 within_begun size s request present is within = record {
   own = ap (λ (p : Present). p.stream) is;
   within = within;
@@ -48,11 +48,11 @@ same_present p q e = ap (λ (x : Phase). got x p) e
 
 within_so : (size s : ℕ) (present : Present) (n : ℕ) (served last : Bool)
     → ((present.done + n) == present.length) ≡ last
-    → IsWithin size s present → present.stage ≡ Begun → n ≡ min 4096 (present.length - present.done)
-    → IsWithin size s (record present { done = done_after (answer_to served (present.done + n) present.length) present.done n; stage = stage_after (answer_to served (present.done + n) present.length) })
+    → LiesInside size s present → present.stage ≡ Begun → n ≡ min 4096 (present.length - present.done)
+    → LiesInside size s (record present { done = done_after (answer_to served (present.done + n) present.length) present.done n; stage = stage_after (answer_to served (present.done + n) present.length) })
 within_so size s present n false last test within begun is = record { own = within.own; within = within.within; done = within.done; in_step = tt }
 within_so size s present n true true test within begun is =
-    subst (λ (b : Bool). IsWithin size s (record present {
+    subst (λ (b : Bool). LiesInside size s (record present {
       done = done_after (cond b piece.Whole piece.More) present.done n;
       stage = stage_after (cond b piece.Whole piece.More);
     })) (sym test) (record { own = within.own; within = within.within; done = omega (arith, eqb-true (present.done + n) present.length test); in_step = tt })
@@ -61,17 +61,17 @@ within_so size s present n true false test within begun is =
     let differ = eqb-false (present.done + n) present.length test in
     let whole : n ≡ 4096 = omega (arith, is, differ, within.done) in
     let next : (present.done + n) % 4096 ≡ 0 = omega (arith, step, whole) in
-    subst (λ (b : Bool). IsWithin size s (record present {
+    subst (λ (b : Bool). LiesInside size s (record present {
       done = done_after (cond b piece.Whole piece.More) present.done n;
       stage = stage_after (cond b piece.Whole piece.More);
     })) (sym test) (record { own = within.own; within = within.within; done = omega (arith, is, within.done); in_step = next })
 
 pub within_piece : (size s : ℕ) (present next : Present) (n : ℕ) (served : Bool)
-    → IsWithin size s present → present.stage ≡ Begun → n ≡ min 4096 (present.length - present.done)
+    → LiesInside size s present → present.stage ≡ Begun → n ≡ min 4096 (present.length - present.done)
     → next ≡ record present { done = done_after (answer_to served (present.done + n) present.length) present.done n; stage = stage_after (answer_to served (present.done + n) present.length) }
-    → IsWithin size s next
+    → LiesInside size s next
 within_piece size s present next n served within begun is e =
-    subst (IsWithin size s) (sym e) (within_so size s present n served ((present.done + n) == present.length) refl within begun is)
+    subst (LiesInside size s) (sym e) (within_so size s present n served ((present.done + n) == present.length) refl within begun is)
 
 pub is_past : (b : Bool) (n m : ℕ) → (IsTrue b ↔ (n < m)) → b ≡ true → n < m
 is_past b n m iff e = iff.0 e

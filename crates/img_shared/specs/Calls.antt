@@ -3,7 +3,7 @@ use Rattle.std.specs.Prelude.{◌≡◌, ℕ, ◌+◌, ◌<◌, ◌≤◌, set, 
 use Rattle.std.specs.List.{AllByRecursion}
 use Rattle.aio_model.specs.declared.holds.RwAnswer.TheVariants as hold
 use Rattle.aio_model.specs.declared.requests.Request.{Request}
-use Rattle.aio_model.specs.Holds.{Has, AreApart}
+use Rattle.aio_model.specs.Holds.{Has, WriterIsAlone}
 use Rattle.aio_model.specs.Readers.{hold_of}
 use Rattle.aio_model.specs.RwTable.{unlocked}
 use Rattle.aio_model.specs.SerialHistory.{CountsFrom}
@@ -89,14 +89,14 @@ pub record IsGranted {D : Type 0} (image : ImageState D) (stream : ℕ) : Type 0
   pub holds : Has (hold_of image.access stream)
 
 -- What an image that is looked at shows of its whole run.
-pub record IsWhole {D : Type 0} (bytes : D → Option (List ℕ)) (extent faults size_faults : D → ℕ) (calls : D → List DeviceCall) (image : ImageState D) : Type 0 where
+pub record IsWholeRun {D : Type 0} (bytes : D → Option (List ℕ)) (extent faults size_faults : D → ℕ) (calls : D → List DeviceCall) (image : ImageState D) : Type 0 where
   pub streams : length image.phases ≡ length image.requests
   -- at most 4,096 requests are for all streams, and the journal has no more entries
   pub few : sum image.requests ≤ 4096
   pub placed : length image.journal ≤ sum image.requests
   -- begun, whole and failed requests hold what they need, and who writes is alone
   pub linked : (k : ℕ) → Linked (phase_at image.phases k) (hold_of image.access k)
-  pub apart : AreApart (hold_of image.access)
+  pub apart : WriterIsAlone (hold_of image.access)
   -- all requests of a stream that has retired stand in the journal
   pub due : (k : ℕ) → IsDue (phase_at image.phases k) (entries_of k image.journal) (slice_index image.requests k)
   pub known : AllByRecursion (λ (entry : Entry D). entry.stream < length image.requests) image.journal

@@ -3,7 +3,7 @@ use Rattle.std.specs.Prelude.{◌≡◌, ℕ, ◌⊎◌, Bool, true, false, not,
 use Rattle.aio_model.specs.declared.holds.Hold.{Hold}
 use Rattle.aio_model.specs.declared.holds.Hold.TheVariants.{Free, Reads, Writes, WaitsRead, WaitsWrite}
 use Rattle.aio_model.specs.Readers.{ReadersWriter}
-use Rattle.aio_model.specs.RwTable.{Asked, read_locked, write_locked}
+use Rattle.aio_model.specs.RwTable.{HoldAsked, read_locked, write_locked}
 use Rattle.img_requests.specs.declared.present.RequestKind.{RequestKind}
 use Rattle.img_requests.specs.declared.present.RequestKind.TheVariants.{Read, Write, Zero, Flush}
 use Rattle.img_requests.specs.declared.present.Stage.{Stage}
@@ -27,7 +27,7 @@ waits_by Write = WaitsWrite
 waits_by Zero = WaitsWrite
 
 -- what asking for that hold answers, and leaves
-abbrev pub hold_asked : RequestKind → ℕ → ReadersWriter → Asked
+abbrev pub hold_asked : RequestKind → ℕ → ReadersWriter → HoldAsked
 hold_asked Read who state = read_locked who state
 hold_asked Flush who state = read_locked who state
 hold_asked Write who state = write_locked who state

@@ -17,7 +17,7 @@ use Rattle.img_shared.specs.Journals.{entries_of, noted, Chain, indices_noted, e
 use Rattle.img_shared.specs.Phases.{phase_at, Linked, Writing, has_failed}
 
 -- a present request of this stream lies inside the image
-pub record IsWithin (size stream : ℕ) (present : Present) : Type 0 where
+pub record LiesInside (size stream : ℕ) (present : Present) : Type 0 where
   pub own : present.stream ≡ stream
   pub within : present.at + present.length ≤ size
   pub done : present.done ≤ present.length
@@ -25,8 +25,8 @@ pub record IsWithin (size stream : ℕ) (present : Present) : Type 0 where
 
 abbrev pub IsInside : ℕ → ℕ → Phase → Type 0
 IsInside size stream Idle = Unit {0}
-IsInside size stream (Waiting present) = IsWithin size stream present × (present.stage ≡ stage.Begun)
-IsInside size stream (Active present) = IsWithin size stream present
+IsInside size stream (Waiting present) = LiesInside size stream present × (present.stage ≡ stage.Begun)
+IsInside size stream (Active present) = LiesInside size stream present
 IsInside size stream Retired = Unit {0}
 
 -- The journal has no entry of a present request yet, and all entries of a stream that has retired.

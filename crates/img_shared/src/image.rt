@@ -48,9 +48,9 @@ impl<D: Device> Model for Image<D> {
 impl<D: Device> Image<D> {
     ghost use Rattle.aio_words.specs.Faults.{HasRisen};
     ghost use Rattle.img_requests.specs.ImageState.{OnBegun};
-    ghost use Rattle.img_requests.specs.PieceCalls.{MakesCall, is_failed};
+    ghost use Rattle.img_requests.specs.PieceCalls.{MakesDeviceCall, is_failed};
     ghost use Rattle.img_requests.specs.Pieces.{HasRoom, IsSilent, OnFailed, piece_length};
-    ghost use Rattle.img_shared.specs.Calls.{Enters, IsServing, Serves, Leaves, IsGranted, IsWhole};
+    ghost use Rattle.img_shared.specs.Calls.{Enters, IsServing, Serves, Leaves, IsGranted, IsWholeRun};
     ghost use Rattle.img_shared.specs.Journals.{entries_of};
     ghost use Rattle.img_shared.specs.Notes.{SameNotes, note};
     ghost use Rattle.img_shared.specs.Phases.{phase_at, Linked, done_in, CanLeave, IsWaiting, taken_up};
@@ -172,7 +172,7 @@ impl<D: Device> Image<D> {
             → D.faults self.new.device ≡ D.faults self.old.device }
         ensures sizes { D.size_faults self.new.device ≡ D.size_faults self.old.device }
         ensures extent { D.extent self.new.device ≡ D.extent self.old.device }
-        ensures calls { MakesCall request.now (done_in (phase_at self.old.phases stream)) (piece_length (length_of request.now) (done_in (phase_at self.old.phases stream)))
+        ensures calls { MakesDeviceCall request.now (done_in (phase_at self.old.phases stream)) (piece_length (length_of request.now) (done_in (phase_at self.old.phases stream)))
             (is_failed result) (D.calls self.old.device) (D.calls self.new.device) }
         ensures others { SameNotes D.bytes stream self.old self.new }
     {
@@ -240,7 +240,7 @@ impl<D: Device> Image<D> {
     /// The entries of the requests that have their replies, in the order of their places.
     pub fn journal(&self) -> &[Entry<D>]
         ensures entries { result.now ≡ self.now.journal }
-        ensures whole { IsWhole D.bytes D.extent D.faults D.size_faults D.calls self.now }
+        ensures whole { IsWholeRun D.bytes D.extent D.faults D.size_faults D.calls self.now }
     {
         self.ledger.entries()
     }
@@ -248,7 +248,7 @@ impl<D: Device> Image<D> {
     /// The device, and what the image's whole run came to.
     pub fn into_device(self) -> D
         ensures device { result ≡ self.device }
-        ensures whole { IsWhole D.bytes D.extent D.faults D.size_faults D.calls self }
+        ensures whole { IsWholeRun D.bytes D.extent D.faults D.size_faults D.calls self }
     {
         let _ = self.journal();
         let Image {

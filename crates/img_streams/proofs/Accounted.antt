@@ -18,7 +18,7 @@ use Rattle.img_shared.specs.Phases.{phase_at, done_in, CanLeave}
 use Rattle.img_shared.proofs.Sounds.{phase_set}
 use Rattle.img_join.proofs.Accounts.{entries_own, account_begun, account_queued, account_piece, account_refused, account_left, account_retired}
 use Rattle.img_streams.specs.ImageCalls.{come_to}
-use Rattle.img_streams.specs.Steps.{IsEntered, IsServed, HasLeft, HasRetired}
+use Rattle.img_streams.specs.Steps.{IsEntered, IsPieceServed, HasLeft, NoteHasRetired}
 use Rattle.img_streams.proofs.Owns.{Keeps}
 
 pub came_to : {D : Type 0} → (co : CoId) (g x : ImageState D) → Keeps (come_to co g) x → Keeps g x
@@ -80,7 +80,7 @@ module _ {D : Type 0} (bytes : D → Option (List ℕ)) (s : ℕ) (g x : ImageSt
   pub served : (request : Request) (answer : Piece) (before after : List ℕ)
       → IsServing (phase_at g.phases s) s request (done_in (phase_at g.phases s))
       → Serves bytes s request (done_in (phase_at g.phases s)) answer g x before after
-      → IsServed bytes s request answer (note bytes g s) before (note bytes x s) after
+      → IsPieceServed bytes s request answer (note bytes g s) before (note bytes x s) after
   served request answer before after serving serves = record {
     phase = ap (λ (i : ImageState D). phase_at i.phases s) serves.image ∙ phase_set g.phases s _ row;
     entries = ap (λ (i : ImageState D). entries_from 0 s i.journal) serves.image;
@@ -113,7 +113,7 @@ module _ {D : Type 0} (bytes : D → Option (List ℕ)) (s : ℕ) (g x : ImageSt
   }
 
   -- what retiring makes of it
-  retired_so : x ≡ record g { homes = x.homes; phases = set g.phases s Retired } → HasRetired bytes s (note bytes g s) (note bytes x s)
+  retired_so : x ≡ record g { homes = x.homes; phases = set g.phases s Retired } → NoteHasRetired bytes s (note bytes g s) (note bytes x s)
   retired_so is = record {
     phase = ap (λ (i : ImageState D). phase_at i.phases s) is ∙ phase_set g.phases s Retired row;
     entries = ap (λ (i : ImageState D). entries_from 0 s i.journal) is;
@@ -142,14 +142,14 @@ module _ {D : Type 0} (bytes : D → Option (List ℕ)) (s : ℕ) (g x : ImageSt
     pub is_served : (request : Request) (answer : Piece) (before after : List ℕ)
         → IsServing old.phase s request (done_in old.phase)
         → Serves bytes s request (done_in (phase_at g.phases s)) answer g x before after
-        → IsServed bytes s request answer old before new after
+        → IsPieceServed bytes s request answer old before new after
     is_served request answer before after serving serves =
-        along (λ n m. IsServed bytes s request answer n before m after)
+        along (λ n m. IsPieceServed bytes s request answer n before m after)
         (served request answer before after (subst (λ (n : Note D). IsServing n.phase s request (done_in n.phase)) (sym found) serving) serves)
 
     pub has_left : (place : ℕ) → CanLeave old.phase → Leaves s place g x → HasLeft bytes s old new
     has_left place ended leaves =
         along (λ n m. HasLeft bytes s n m) (left_so place (subst (λ (n : Note D). CanLeave n.phase) (sym found) ended) leaves)
 
-    pub has_retired : x ≡ record g { homes = x.homes; phases = set g.phases s Retired } → HasRetired bytes s old new
-    has_retired is = along (λ n m. HasRetired bytes s n m) (retired_so is)
+    pub has_retired : x ≡ record g { homes = x.homes; phases = set g.phases s Retired } → NoteHasRetired bytes s old new
+    has_retired is = along (λ n m. NoteHasRetired bytes s n m) (retired_so is)

@@ -5,7 +5,7 @@ use Rattle.aio_model.specs.declared.scripts.Step.{Step}
 use Rattle.aio_model.specs.declared.scripts.What.{What}
 use Rattle.aio_model.specs.declared.scripts.What.TheVariants.{Ask}
 use Rattle.aio_model.specs.Asked.{requests_of}
-use Rattle.co_state.specs.Asked.{Asked}
+use Rattle.co_state.specs.Wants.{Wants}
 use Rattle.co_state.specs.declared.co.CoStep.TheVariants as step
 use Rattle.co_mutex.specs.declared.lock.CoMutex.{CoMutex}
 use Rattle.img_shared.specs.Images.{ImageState}
@@ -85,7 +85,7 @@ module _ {P D : Type 0} (bytes : D → Option (List ℕ)) (old : Stream P (Image
       goes_to (line_from old.id of.1.lines old.line) at.Retiring old.co.home above_found (line_inside old.id of.1.lines old.line is.inside) (stands.0, end)
 
   -- what it did from there
-  module _ (next : At) (wants : Asked) (new : Stream P (ImageState D) (Note D))
+  module _ (next : At) (wants : Wants) (new : Stream P (ImageState D) (Note D))
       (apart : next ≡ at.Between → ⊥) (alive : next ≡ at.Gone → ⊥) (suits : (deed : Deed) → IsDeedAt next deed → IsDeedAt at.Between deed) where
     again : line_from old.id of.1.lines (line_from old.id of.1.lines old.line) ≡ line_from old.id of.1.lines old.line
     again = line_again old.id of.1.lines old.line is.inside
@@ -133,12 +133,12 @@ module _ {P D : Type 0} (bytes : D → Option (List ℕ)) (old : Stream P (Image
     resumes_from (step.Sleep ns) sleeps = absurd (apart sleeps.0)
     resumes_from (step.Move loop) moves = absurd (apart moves.0)
 
-  pub entering_resumes : (passed : Passed) (wants : Asked) (new : Stream P (ImageState D) (Note D)) (answer : CoStep)
+  pub entering_resumes : (passed : Passed) (wants : Wants) (new : Stream P (ImageState D) (Note D)) (answer : CoStep)
       → Resumes bytes (record old { line = line_from old.id of.1.lines old.line; at = at.Entering passed }) of wants answer new → Resumes bytes old of wants answer new
   entering_resumes passed wants new answer =
       resumes_from (at.Entering passed) wants new (λ e. cc) (λ e. cc) (from_entering passed) answer
 
-  pub retiring_resumes : (wants : Asked) (new : Stream P (ImageState D) (Note D)) (answer : CoStep)
+  pub retiring_resumes : (wants : Wants) (new : Stream P (ImageState D) (Note D)) (answer : CoStep)
       → Resumes bytes (record old { line = line_from old.id of.1.lines old.line; at = at.Retiring }) of wants answer new → Resumes bytes old of wants answer new
   retiring_resumes wants new answer =
       resumes_from at.Retiring wants new (λ e. cc) (λ e. cc) from_retiring answer

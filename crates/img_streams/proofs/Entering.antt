@@ -7,7 +7,7 @@ use Rattle.aio_model.specs.declared.scripts.Step.{Step}
 use Rattle.aio_model.specs.declared.scripts.What.{What}
 use Rattle.aio_model.specs.declared.scripts.What.TheVariants.{Ask}
 use Rattle.aio_model.specs.Asked.{asked, requests_of}
-use Rattle.co_state.specs.Asked.{Asked}
+use Rattle.co_state.specs.Wants.{Wants}
 use Rattle.co_state.specs.declared.cx.CoId.{CoId}
 use Rattle.co_state.specs.declared.co.CoStep.TheVariants as step
 use Rattle.co_mutex.specs.declared.lock.CoMutex.{CoMutex}
@@ -24,13 +24,13 @@ use Rattle.img_streams.specs.declared.gate.Passed.{Passed}
 use Rattle.img_streams.specs.declared.progress.At.{At}
 use Rattle.img_streams.specs.declared.progress.At.TheVariants as at
 use Rattle.img_streams.specs.declared.stream.Stream.{Stream}
-use Rattle.img_streams.specs.Deeds.{Entered, woken_by, at_after, itself, IsDeedAt, Does, listed, asks}
+use Rattle.img_streams.specs.Deeds.{Entered, woken_by, at_after, itself, IsDeedAt, DoesDeed, listed, asks}
 use Rattle.img_streams.specs.Lines.{line_from, StandsAt, Asks}
-use Rattle.img_streams.specs.Own.{own_note, IsOf, WaitsOn, Calls}
+use Rattle.img_streams.specs.Own.{own_note, IsOwnPass, WaitsOn, Calls}
 use Rattle.img_streams.specs.Steps.{IsEntered}
 use Rattle.img_streams.specs.Streams.{IsStreamOf, StandsSo, Resumes, MovesOn, GetsReply}
 use Rattle.img_streams.proofs.Making.{made_call}
-use Rattle.img_streams.proofs.Going.{named_now, room_now, hand_now, stays, replied}
+use Rattle.img_streams.proofs.StreamsGoOn.{named_now, room_now, hand_now, stays, replied}
 
 -- the request that was read is that of the line
 pub line_of : (lines got : List Step) (id at : ℕ) (request : Request) → got ≡ lines → Asks lines id at
@@ -46,7 +46,7 @@ none_woken named = ap (λ (l : List CoId). asks l false) (append-nil (listed nam
 
 module _ {P D : Type 0} (bytes : D → Option (List ℕ)) (old : Stream P (ImageState D) (Note D)) (of : CoMutex P (ImageState D) (Note D) × Script) where
   -- it waits for the lock
-  pub waits_resumes : (new : Stream P (ImageState D) (Note D)) (named : Option CoId) (wants : Asked)
+  pub waits_resumes : (new : Stream P (ImageState D) (Note D)) (named : Option CoId) (wants : Wants)
       → Asks of.1.lines old.id (line_from old.id of.1.lines old.line) ⊎ (line_from old.id of.1.lines old.line ≡ length of.1.lines)
       → WaitsOn bytes of.0 old.co old.queued named old.pass new.pass
       → wants ≡ asks (listed named ++ [] ++ []) false
@@ -70,7 +70,7 @@ module _ {P D : Type 0} (bytes : D → Option (List ℕ)) (old : Stream P (Image
 
     module _ (request : Request) (line : StandsAt of.1.lines old.id old.line (Ask request)) (other : Stream P (ImageState D) (Note D)) (pass : Pass P (ImageState D) (Note D)) where
       -- what it is afterwards
-      pub entered_is : (answer : Enter) → IsOf bytes of.0 pass old.co.co false
+      pub entered_is : (answer : Enter) → IsOwnPass bytes of.0 pass old.co.co false
           → IsEntered bytes old.co.co request (own_note bytes of.0 old.pass) answer (own_note bytes of.0 pass)
           → MovesOn (Entered answer) (record old { pass = pass; queued = false }) other
           → IsStreamOf bytes other of
@@ -88,7 +88,7 @@ module _ {P D : Type 0} (bytes : D → Option (List ℕ)) (old : Stream P (Image
           (subst IsWaiting (sym entered.0) tt, request, line, omega (arith, entered.2, account.sized, is.account.sized)) refl)
       entered_is (Refused place) own entered moves =
           replied bytes old of is other request line
-          (subst (λ (p : Pass P (ImageState D) (Note D)). IsOf bytes of.0 p old.co.co false) (sym (ap (λ (co : Stream P (ImageState D) (Note D)). co.pass) moves.is)) own)
+          (subst (λ (p : Pass P (ImageState D) (Note D)). IsOwnPass bytes of.0 p old.co.co false) (sym (ap (λ (co : Stream P (ImageState D) (Note D)). co.pass) moves.is)) own)
           (subst (λ (p : Pass P (ImageState D) (Note D)). (own_note bytes of.0 p).phase ≡ Idle) (sym (ap (λ (co : Stream P (ImageState D) (Note D)). co.pass) moves.is)) entered.0)
           (subst (λ (p : Pass P (ImageState D) (Note D)). length (own_note bytes of.0 p).entries ≡ length (own_note bytes of.0 old.pass).entries + 1) (sym (ap (λ (co : Stream P (ImageState D) (Note D)). co.pass) moves.is)) entered.1)
           (λ next. subst (λ (p : Pass P (ImageState D) (Note D)). Account bytes (asked of.1.lines) old.id old.co.co of.1.image (requests_of old.id of.1.lines) (own_note bytes of.0 p) (map (λ buffer. buffer.items) old.filled.items ++ old.buffer.items ∷ []) next)
@@ -96,8 +96,8 @@ module _ {P D : Type 0} (bytes : D → Option (List ℕ)) (old : Stream P (Image
           (entered.2 (asked of.1.lines) old.id of.1.image (requests_of old.id of.1.lines) (map (λ buffer. buffer.items) old.filled.items) old.buffer.items next (named_now bytes old of is request line) is.account))
           (subst (λ (p : Pass P (ImageState D) (Note D)). GetsReply (record old { pass = p; queued = false }) other) (sym (ap (λ (co : Stream P (ImageState D) (Note D)). co.pass) moves.is)) moves)
 
-      pub entered_resumes : (answer : Enter) (named : Option CoId) (wants : Asked)
-          → Calls bytes of.0 (λ found left. Does bytes old.co request old.buffer.items old.buffer.items (Entered answer) found left) old.co named old.pass pass
+      pub entered_resumes : (answer : Enter) (named : Option CoId) (wants : Wants)
+          → Calls bytes of.0 (λ found left. DoesDeed bytes old.co request old.buffer.items old.buffer.items (Entered answer) found left) old.co named old.pass pass
           → MovesOn (Entered answer) (record old { pass = pass; queued = false }) other
           → wants ≡ asks (listed named ++ listed (woken_by (Entered answer)) ++ listed (itself old.co (at_after (Entered answer)))) false
           → Resumes bytes old of wants step.Yield other
@@ -112,7 +112,7 @@ module _ {P D : Type 0} (bytes : D → Option (List ℕ)) (old : Stream P (Image
       entered_resumes (Refused place) named wants calls moves wakes =
           made_call bytes old of is request line other (Entered (Refused place))
           (subst (λ (a : At). IsDeedAt a (Entered (Refused place))) (sym here) tt) named wants
-          (subst (λ (p : Pass P (ImageState D) (Note D)). Calls bytes of.0 (λ found left. Does bytes old.co request old.buffer.items other.buffer.items (Entered (Refused place)) found left) old.co named old.pass p)
+          (subst (λ (p : Pass P (ImageState D) (Note D)). Calls bytes of.0 (λ found left. DoesDeed bytes old.co request old.buffer.items other.buffer.items (Entered (Refused place)) found left) old.co named old.pass p)
           (sym (ap (λ (co : Stream P (ImageState D) (Note D)). co.pass) moves.is)) calls)
           (ap (λ (co : Stream P (ImageState D) (Note D)). co.id) moves.is) (ap (λ (co : Stream P (ImageState D) (Note D)). co.co) moves.is)
           (ap (λ (co : Stream P (ImageState D) (Note D)). co.queued) moves.is) (ap (λ (co : Stream P (ImageState D) (Note D)). co.at) moves.is)

@@ -6,7 +6,7 @@ use Rattle.aio_model.specs.Asked.{asked}
 use Rattle.aio_model.specs.SerialHistory.{IsSerialHistory, bytes_left, eios_of}
 use Rattle.aio_words.specs.Faults.{HasRisenBy}
 use Rattle.img_shared.specs.Images.{ImageState}
-use Rattle.img_join.specs.Ended.{AreApart, AreOurs, HasRetired, IsServedWhole}
+use Rattle.img_join.specs.Ended.{HaveOwnIds, AreOurs, HasRetired, IsServedWhole}
 use Rattle.img_join.specs.Placing.{row_at}
 use Rattle.img_streams.specs.Retired.{ShowsRetired}
 
@@ -14,8 +14,8 @@ module _ {D : Type 0} (bytes : D → Option (List ℕ)) (faults : D → ℕ) (li
     (built image : ImageState D) (served : List Placed) where
   -- the replies are a serial history of the script on the built image's opening bytes, the device has the bytes that they leave, and its
   -- count of faults has risen for each reply at which it failed
-  pub serial_history : 0 < length ids → ShowsRetired bytes lines size ids rows built image → AreApart ids → AreOurs ids lines
-      → (AreApart ids → AreOurs ids lines → ((k : ℕ) → k < length ids → HasRetired bytes lines ids image k (row_at rows k)) → IsServedWhole bytes faults lines image served)
+  pub serial_history : 0 < length ids → ShowsRetired bytes lines size ids rows built image → HaveOwnIds ids → AreOurs ids lines
+      → (HaveOwnIds ids → AreOurs ids lines → ((k : ℕ) → k < length ids → HasRetired bytes lines ids image k (row_at rows k)) → IsServedWhole bytes faults lines image served)
       → IsSerialHistory size (asked lines) (bytes built.opening) served
       × (bytes image.device ≡ option_map (bytes_left (asked lines) served) (bytes built.opening))
       × HasRisenBy (eios_of served) (faults built.opening) (faults image.device)

@@ -2,7 +2,7 @@
 use Rattle.std.proofs.Common.{◌≡◌, ℕ, ◌+◌, false, Option, Some, List, [], ◌∷◌, ◌++◌, length, map, sym, ap, subst}
 use Rattle.aio_model.specs.declared.scripts.Script.{Script}
 use Rattle.aio_model.specs.Asked.{asked, requests_of}
-use Rattle.co_state.specs.Asked.{Asked}
+use Rattle.co_state.specs.Wants.{Wants}
 use Rattle.co_state.specs.declared.cx.CoId.{CoId}
 use Rattle.co_state.specs.declared.co.CoStep.TheVariants as step
 use Rattle.co_mutex.specs.declared.lock.CoMutex.{CoMutex}
@@ -14,11 +14,11 @@ use Rattle.img_join.specs.Accounts.{Account}
 use Rattle.img_streams.specs.declared.progress.At.{At}
 use Rattle.img_streams.specs.declared.progress.At.TheVariants as at
 use Rattle.img_streams.specs.declared.stream.Stream.{Stream}
-use Rattle.img_streams.specs.Deeds.{Left, IsDeedAt, Does, listed, asks}
+use Rattle.img_streams.specs.Deeds.{Left, IsDeedAt, DoesDeed, listed, asks}
 use Rattle.img_streams.specs.Lines.{Asks}
-use Rattle.img_streams.specs.Own.{own_note, IsOf, Calls}
+use Rattle.img_streams.specs.Own.{own_note, IsOwnPass, Calls}
 use Rattle.img_streams.specs.Streams.{IsStreamOf, StandsSo, Resumes, CanGetReply, GetsReply}
-use Rattle.img_streams.proofs.Going.{named_now, can_now, replied}
+use Rattle.img_streams.proofs.StreamsGoOn.{named_now, can_now, replied}
 use Rattle.img_shared.specs.Phases.{CanLeave}
 use Rattle.img_streams.specs.Steps.{HasLeft}
 use Rattle.img_streams.proofs.Making.{made_call}
@@ -41,24 +41,24 @@ module _ {P D : Type 0} (bytes : D → Option (List ℕ)) (old : Stream P (Image
     same_pass : other.pass ≡ pass
     same_pass = ap (λ (co : Stream P (ImageState D) (Note D)). co.pass) gets.is
 
-    pub left_is : IsOf bytes of.0 pass old.co.co false → HasLeft bytes old.co.co (own_note bytes of.0 old.pass) (own_note bytes of.0 pass) → IsStreamOf bytes other of
+    pub left_is : IsOwnPass bytes of.0 pass old.co.co false → HasLeft bytes old.co.co (own_note bytes of.0 old.pass) (own_note bytes of.0 pass) → IsStreamOf bytes other of
     left_is own left =
         replied bytes old of is other stands.1.0 stands.1.1
-        (subst (λ (p : Pass P (ImageState D) (Note D)). IsOf bytes of.0 p old.co.co false) (sym same_pass) own)
+        (subst (λ (p : Pass P (ImageState D) (Note D)). IsOwnPass bytes of.0 p old.co.co false) (sym same_pass) own)
         (subst (λ (p : Pass P (ImageState D) (Note D)). (own_note bytes of.0 p).phase ≡ Idle) (sym same_pass) left.phase)
         (subst (λ (p : Pass P (ImageState D) (Note D)). length (own_note bytes of.0 p).entries ≡ length (own_note bytes of.0 old.pass).entries + 1) (sym same_pass) left.entries)
         (λ next. subst (λ (p : Pass P (ImageState D) (Note D)). Account bytes (asked of.1.lines) old.id old.co.co of.1.image (requests_of old.id of.1.lines) (own_note bytes of.0 p) (map (λ buffer. buffer.items) old.filled.items ++ old.buffer.items ∷ []) next)
         (sym same_pass) (left.account stands.1.0 (asked of.1.lines) old.id of.1.image (requests_of old.id of.1.lines) (map (λ buffer. buffer.items) old.filled.items) old.buffer.items next (named_now bytes old of is stands.1.0 stands.1.1) is.account))
         (subst (λ (p : Pass P (ImageState D) (Note D)). GetsReply (record old { pass = p; queued = false }) other) (sym same_pass) gets)
 
-    pub left_resumes : (woken named : Option CoId) (wants : Asked)
-        → Calls bytes of.0 (λ found left. Does bytes old.co stands.1.0 old.buffer.items other.buffer.items (Left woken) found left) old.co named old.pass pass
+    pub left_resumes : (woken named : Option CoId) (wants : Wants)
+        → Calls bytes of.0 (λ found left. DoesDeed bytes old.co stands.1.0 old.buffer.items other.buffer.items (Left woken) found left) old.co named old.pass pass
         → wants ≡ asks (listed named ++ listed woken ++ listed (Some old.co)) false
         → Resumes bytes old of wants step.Yield other
     left_resumes woken named wants calls wakes =
         made_call bytes old of is stands.1.0 stands.1.1 other (Left woken)
         (subst (λ (a : At). IsDeedAt a (Left woken)) (sym here) tt) named wants
-        (subst (λ (p : Pass P (ImageState D) (Note D)). Calls bytes of.0 (λ found left. Does bytes old.co stands.1.0 old.buffer.items other.buffer.items (Left woken) found left) old.co named old.pass p) (sym same_pass) calls)
+        (subst (λ (p : Pass P (ImageState D) (Note D)). Calls bytes of.0 (λ found left. DoesDeed bytes old.co stands.1.0 old.buffer.items other.buffer.items (Left woken) found left) old.co named old.pass p) (sym same_pass) calls)
         (ap (λ (co : Stream P (ImageState D) (Note D)). co.id) gets.is) (ap (λ (co : Stream P (ImageState D) (Note D)). co.co) gets.is)
         (ap (λ (co : Stream P (ImageState D) (Note D)). co.queued) gets.is) (ap (λ (co : Stream P (ImageState D) (Note D)). co.at) gets.is)
         (ap (λ (co : Stream P (ImageState D) (Note D)). co.line) gets.is) wakes

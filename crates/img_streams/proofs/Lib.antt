@@ -5,7 +5,7 @@ pub mod Granted
 pub mod LinesAlong
 pub mod OwnPlaces
 pub mod Linking
-pub mod Going
+pub mod StreamsGoOn
 pub mod Entering
 pub mod Making
 pub mod TakingUp

@@ -10,8 +10,8 @@ use Rattle.img_shared.specs.Images.{ImageState}
 use Rattle.img_shared.specs.Journals.{entries_of}
 use Rattle.img_shared.specs.Notes.{Note, note}
 use Rattle.img_join.proofs.Accounts.{length_from}
-use Rattle.img_streams.specs.Own.{own_note, IsOf, WaitsOn, Calls}
-use Rattle.img_streams.specs.Turns.{GoesOnWaiting, Takes, HoldsOnce}
+use Rattle.img_streams.specs.Own.{own_note, IsOwnPass, WaitsOn, Calls}
+use Rattle.img_streams.specs.Turns.{GoesOnWaiting, ComesToHold, HoldsOnce}
 use Rattle.img_streams.proofs.Turning.{Knows, waiting_knows, waiting_place, takes_own, takes_same, once_left, once_number, once_place}
 
 -- the parts of an image that no call changes
@@ -21,7 +21,7 @@ pub record Keeps {D : Type 0} (g x : ImageState D) : Type 0 where
   pub rows : length x.phases ≡ length g.phases
 
 module _ {P D : Type 0} (bytes : D → Option (List ℕ)) (lock : CoMutex P (ImageState D) (Note D)) (a b : Pass P (ImageState D) (Note D)) (s : ℕ) (queued : Bool)
-    (of : IsOf bytes lock a s queued) where
+    (of : IsOwnPass bytes lock a s queued) where
   -- it waits for the lock
   pub waits_on : (co : CoId) (named : Option CoId) → co.co ≡ s → IsPassOf lock b → GoesOnWaiting queued (word_of co) named (known a) (known b)
       → WaitsOn bytes lock co queued named a b
@@ -45,8 +45,8 @@ module _ {P D : Type 0} (bytes : D → Option (List ℕ)) (lock : CoMutex P (Ima
       }
 
   -- it took the lock, and found this image
-  module _ (p : Pass P (ImageState D) (Note D)) (v g : ImageState D) (is : g ≡ v) (took : Takes (note bytes) (built_of lock) v (known a) (known p)) where
-    takes : Takes (note bytes) (built_of lock) g (known a) (known p)
+  module _ (p : Pass P (ImageState D) (Note D)) (v g : ImageState D) (is : g ≡ v) (took : ComesToHold (note bytes) (built_of lock) v (known a) (known p)) where
+    takes : ComesToHold (note bytes) (built_of lock) g (known a) (known p)
     takes = takes_same (note bytes) (built_of lock) v g (known a) (known p) is took
 
     pub own_found : note bytes g s ≡ own_note bytes lock a

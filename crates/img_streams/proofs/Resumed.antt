@@ -1,7 +1,7 @@
 -- What whoever carries coroutines of streams learns of a resume.
 use Rattle.std.proofs.Common.{◌≡◌, ℕ, inl, inr, Option, List, sym, ap, ◌∙◌, subst}
 use Rattle.aio_model.specs.declared.scripts.Script.{Script}
-use Rattle.co_state.specs.Asked.{Asked}
+use Rattle.co_state.specs.Wants.{Wants}
 use Rattle.co_state.specs.declared.co.CoStep.{CoStep}
 use Rattle.co_state.specs.declared.co.CoStep.TheVariants as step
 use Rattle.co_mutex.specs.declared.lock.CoMutex.{CoMutex}
@@ -10,7 +10,7 @@ use Rattle.img_shared.specs.Notes.{Note}
 use Rattle.img_streams.specs.declared.stream.Stream.{Stream}
 use Rattle.img_streams.specs.Streams.{HasGone, Resumes}
 
-module _ {P D : Type 0} (bytes : D → Option (List ℕ)) (old new : Stream P (ImageState D) (Note D)) (of : CoMutex P (ImageState D) (Note D) × Script) (wants : Asked) where
+module _ {P D : Type 0} (bytes : D → Option (List ℕ)) (old new : Stream P (ImageState D) (Note D)) (of : CoMutex P (ImageState D) (Note D) × Script) (wants : Wants) where
   -- a stream that is done has retired
   pub gone_after : Resumes bytes old of wants step.Done new → HasGone new.at
   gone_after (inl (gone, same, nothing)) = subst HasGone (sym (ap (λ (co : Stream P (ImageState D) (Note D)). co.at) same ∙ gone)) tt

@@ -2,7 +2,7 @@
 use Rattle.std.proofs.Common.{◌≡◌, ℕ, inr, false, Option, List, length, map, take, refl, sym, ap, ◌∙◌, subst, arith}
 use Rattle.aio_model.specs.declared.scripts.Script.{Script}
 use Rattle.aio_model.specs.Asked.{asked, requests_of}
-use Rattle.co_state.specs.Asked.{Asked}
+use Rattle.co_state.specs.Wants.{Wants}
 use Rattle.co_state.specs.declared.cx.CoId.{CoId}
 use Rattle.co_state.specs.declared.co.CoStep.TheVariants as step
 use Rattle.co_mutex.specs.declared.lock.CoMutex.{CoMutex}
@@ -15,11 +15,11 @@ use Rattle.img_streams.specs.declared.progress.At.TheVariants as at
 use Rattle.img_streams.specs.declared.stream.Stream.{Stream}
 use Rattle.img_streams.specs.Deeds.{listed, asks}
 use Rattle.img_streams.specs.Lines.{line_from}
-use Rattle.img_streams.specs.Own.{own_note, IsOf, Calls}
+use Rattle.img_streams.specs.Own.{own_note, IsOwnPass, Calls}
 use Rattle.img_streams.specs.Streams.{IsStreamOf, StandsSo, Resumes}
-use Rattle.img_streams.proofs.Going.{stays}
+use Rattle.img_streams.proofs.StreamsGoOn.{stays}
 use Rattle.img_streams.specs.ImageCalls.{Retires}
-use Rattle.img_streams.specs.Steps.{HasRetired}
+use Rattle.img_streams.specs.Steps.{NoteHasRetired}
 use Rattle.std.proofs.lemmas.List.{take_all}
 use Rattle.std.proofs.Common.{◌==◌}
 use Rattle.img_streams.proofs.LinesAlong.{next_end}
@@ -41,13 +41,13 @@ module _ {P D : Type 0} (bytes : D → Option (List ℕ)) (old : Stream P (Image
   none_now = next_end old.id of.1.lines old.line (omega (arith, stands.1)) ∙ stands.1
 
   module _ (pass : Pass P (ImageState D) (Note D)) where
-    pub retired_is : IsOf bytes of.0 pass old.co.co false → HasRetired bytes old.co.co (own_note bytes of.0 old.pass) (own_note bytes of.0 pass)
+    pub retired_is : IsOwnPass bytes of.0 pass old.co.co false → NoteHasRetired bytes old.co.co (own_note bytes of.0 old.pass) (own_note bytes of.0 pass)
         → IsStreamOf bytes (record old { pass = pass; queued = false; at = at.Gone }) of
     retired_is own retired =
         stays bytes old of is (record old { pass = pass; queued = false; at = at.Gone }) own retired.entries
         (retired.account (asked of.1.lines) old.id of.1.image (requests_of old.id of.1.lines) (map (λ buffer. buffer.items) old.filled.items) old.buffer.items is.account) (retired.phase, refl) refl
 
-    pub retired_resumes : (going : ℕ) (named : Option CoId) (wants : Asked)
+    pub retired_resumes : (going : ℕ) (named : Option CoId) (wants : Wants)
         → Calls bytes of.0 (λ found left. Retires old.co going found left) old.co named old.pass pass
         → wants ≡ asks (listed named) (going == 0)
         → Resumes bytes old of wants step.Done (record old { pass = pass; queued = false; at = at.Gone })

@@ -5,7 +5,7 @@ use Rattle.aio_model.specs.declared.scripts.Script.{Script}
 use Rattle.aio_model.specs.declared.scripts.What.TheVariants.{Ask}
 use Rattle.aio_model.specs.Serving.{length_of}
 use Rattle.aio_model.specs.Asked.{asked, request_named, requests_of}
-use Rattle.co_state.specs.Asked.{Asked}
+use Rattle.co_state.specs.Wants.{Wants}
 use Rattle.co_state.specs.declared.cx.CoId.{CoId}
 use Rattle.co_state.specs.declared.co.CoStep.TheVariants as step
 use Rattle.co_mutex.specs.declared.lock.CoMutex.{CoMutex}
@@ -17,11 +17,11 @@ use Rattle.img_shared.specs.Notes.{Note, Placement}
 use Rattle.img_streams.specs.declared.progress.At.{At}
 use Rattle.img_streams.specs.declared.progress.At.TheVariants as at
 use Rattle.img_streams.specs.declared.stream.Stream.{Stream}
-use Rattle.img_streams.specs.Deeds.{Deed, Served, woken_by, at_after, at_after_piece, itself, IsDeedAt, Does, listed, asks}
+use Rattle.img_streams.specs.Deeds.{Deed, Served, woken_by, at_after, at_after_piece, itself, IsDeedAt, DoesDeed, listed, asks}
 use Rattle.img_streams.specs.Lines.{StandsAt, Asks}
-use Rattle.img_streams.specs.Own.{own_note, IsOf, Calls}
+use Rattle.img_streams.specs.Own.{own_note, IsOwnPass, Calls}
 use Rattle.img_streams.specs.Streams.{IsStreamOf, StandsSo, Resumes, MovesOn}
-use Rattle.img_streams.proofs.Going.{named_now, stays}
+use Rattle.img_streams.proofs.StreamsGoOn.{named_now, stays}
 use Rattle.img_requests.specs.declared.answers.Piece.{Piece}
 use Rattle.img_requests.specs.declared.answers.Piece.TheVariants as piece
 use Rattle.img_requests.specs.declared.present.Present.{Present}
@@ -32,23 +32,23 @@ use Rattle.img_requests.specs.Presents.{present_of}
 use Rattle.img_shared.specs.Calls.{IsServing}
 use Rattle.img_shared.specs.Phases.{done_in, CanLeave}
 use Rattle.img_join.specs.Accounts.{Account, Doing}
-use Rattle.img_streams.specs.Steps.{IsServed}
+use Rattle.img_streams.specs.Steps.{IsPieceServed}
 use Rattle.img_streams.proofs.Making.{made_call}
 
 -- the buffer that was lent is the stream's
 pub served_at : {D : Type 0} → (bytes : D → Option (List ℕ)) (s : ℕ) (request : Request) (answer : Piece) (old new : Note D) (lent before given after : List ℕ)
-    → lent ≡ before → after ≡ given → IsServed bytes s request answer old lent new given → IsServed bytes s request answer old before new after
+    → lent ≡ before → after ≡ given → IsPieceServed bytes s request answer old lent new given → IsPieceServed bytes s request answer old before new after
 served_at bytes s request answer old new lent before given after e f served =
-    subst (λ (l : List ℕ). IsServed bytes s request answer old before new l) (sym f) (subst (λ (l : List ℕ). IsServed bytes s request answer old l new given) e served)
+    subst (λ (l : List ℕ). IsPieceServed bytes s request answer old before new l) (sym f) (subst (λ (l : List ℕ). IsPieceServed bytes s request answer old l new given) e served)
 
 pub calls_at : {P D : Type 0} → (bytes : D → Option (List ℕ)) (lock : CoMutex P (ImageState D) (Note D)) (co : CoId) (request : Request) (deed : Deed) (named : Option CoId)
     (a b : Pass P (ImageState D) (Note D)) (lent before given after : List ℕ)
     → lent ≡ before → after ≡ given
-    → Calls bytes lock (λ found left. Does bytes co request lent given deed found left) co named a b
-    → Calls bytes lock (λ found left. Does bytes co request before after deed found left) co named a b
+    → Calls bytes lock (λ found left. DoesDeed bytes co request lent given deed found left) co named a b
+    → Calls bytes lock (λ found left. DoesDeed bytes co request before after deed found left) co named a b
 calls_at bytes lock co request deed named a b lent before given after e f calls =
-    subst (λ (l : List ℕ). Calls bytes lock (λ found left. Does bytes co request before l deed found left) co named a b) (sym f)
-    (subst (λ (l : List ℕ). Calls bytes lock (λ found left. Does bytes co request l given deed found left) co named a b) e calls)
+    subst (λ (l : List ℕ). Calls bytes lock (λ found left. DoesDeed bytes co request before l deed found left) co named a b) (sym f)
+    (subst (λ (l : List ℕ). Calls bytes lock (λ found left. DoesDeed bytes co request l given deed found left) co named a b) e calls)
 
 -- it goes on after a piece, which was served from a note with the same entries
 module _ {P D : Type 0} (bytes : D → Option (List ℕ)) (old : Stream P (ImageState D) (Note D)) (of : CoMutex P (ImageState D) (Note D) × Script)
@@ -67,9 +67,9 @@ module _ {P D : Type 0} (bytes : D → Option (List ℕ)) (old : Stream P (Image
   stands_served piece.Whole phase = (subst CanLeave (sym phase) tt, (request, line))
   stands_served piece.Failed phase = (subst CanLeave (sym phase) tt, (request, line))
 
-  pub stays_served : (answer : Piece) → IsOf bytes of.0 pass old.co.co false
+  pub stays_served : (answer : Piece) → IsOwnPass bytes of.0 pass old.co.co false
       → Account bytes (asked of.1.lines) old.id old.co.co of.1.image (requests_of old.id of.1.lines) from (map (λ buffer. buffer.items) old.filled.items) old.buffer.items
-      → IsServed bytes old.co.co request answer from old.buffer.items (own_note bytes of.0 pass) mid.buffer.items
+      → IsPieceServed bytes old.co.co request answer from old.buffer.items (own_note bytes of.0 pass) mid.buffer.items
       → IsStreamOf bytes (record old { pass = pass; queued = false; at = at_after_piece answer; buffer = mid.buffer }) of
   stays_served answer own account served =
       let n : length from.entries ≡ length (own_note bytes of.0 old.pass).entries = ap (λ (l : List (Placement D)). length l) same in
@@ -100,16 +100,16 @@ module _ {P D : Type 0} (bytes : D → Option (List ℕ)) (old : Stream P (Image
 
     -- another buffer with the same length
     module _ (other mid : Stream P (ImageState D) (Note D)) (pass : Pass P (ImageState D) (Note D)) where
-      pub served_is : (answer : Piece) → IsOf bytes of.0 pass old.co.co false
-          → IsServed bytes old.co.co request answer (own_note bytes of.0 old.pass) old.buffer.items (own_note bytes of.0 pass) mid.buffer.items
+      pub served_is : (answer : Piece) → IsOwnPass bytes of.0 pass old.co.co false
+          → IsPieceServed bytes old.co.co request answer (own_note bytes of.0 old.pass) old.buffer.items (own_note bytes of.0 pass) mid.buffer.items
           → MovesOn (Served answer) (record old { pass = pass; queued = false; buffer = mid.buffer }) other
           → IsStreamOf bytes other of
       served_is answer own served moves =
           subst (λ (co : Stream P (ImageState D) (Note D)). IsStreamOf bytes co of) (sym moves)
           (stays_served bytes old of is request line (own_note bytes of.0 old.pass) refl mid pass answer own is.account served)
 
-      pub served_resumes : (answer : Piece) (named : Option CoId) (wants : Asked)
-          → Calls bytes of.0 (λ found left. Does bytes old.co request old.buffer.items mid.buffer.items (Served answer) found left) old.co named old.pass pass
+      pub served_resumes : (answer : Piece) (named : Option CoId) (wants : Wants)
+          → Calls bytes of.0 (λ found left. DoesDeed bytes old.co request old.buffer.items mid.buffer.items (Served answer) found left) old.co named old.pass pass
           → MovesOn (Served answer) (record old { pass = pass; queued = false; buffer = mid.buffer }) other
           → wants ≡ asks (listed named ++ listed (woken_by (Served answer)) ++ listed (itself old.co (at_after (Served answer)))) false
           → Resumes bytes old of wants step.Yield other

@@ -5,7 +5,7 @@ use Rattle.aio_model.specs.declared.scripts.Script.{Script}
 use Rattle.aio_model.specs.declared.scripts.What.TheVariants.{Ask}
 use Rattle.aio_model.specs.Asked.{asked, requests_of}
 use Rattle.aio_model.specs.Serving.{end_of}
-use Rattle.co_state.specs.Asked.{Asked}
+use Rattle.co_state.specs.Wants.{Wants}
 use Rattle.co_state.specs.declared.cx.CoId.{CoId}
 use Rattle.co_state.specs.declared.co.CoStep.TheVariants as step
 use Rattle.co_mutex.specs.declared.lock.CoMutex.{CoMutex}
@@ -22,13 +22,13 @@ use Rattle.img_streams.specs.declared.answers.Grant.TheVariants.{NotYet, Granted
 use Rattle.img_streams.specs.declared.progress.At.{At}
 use Rattle.img_streams.specs.declared.progress.At.TheVariants as at
 use Rattle.img_streams.specs.declared.stream.Stream.{Stream}
-use Rattle.img_streams.specs.Deeds.{TookUp, woken_by, at_after, itself, IsDeedAt, Does, listed, asks}
+use Rattle.img_streams.specs.Deeds.{TookUp, woken_by, at_after, itself, IsDeedAt, DoesDeed, listed, asks}
 use Rattle.img_streams.specs.ImageCalls.{IsWaitingFor}
 use Rattle.img_streams.specs.Lines.{StandsAt, Asks}
-use Rattle.img_streams.specs.Own.{own_note, IsOf, Calls}
+use Rattle.img_streams.specs.Own.{own_note, IsOwnPass, Calls}
 use Rattle.img_streams.specs.Steps.{IsTakenUp}
 use Rattle.img_streams.specs.Streams.{IsStreamOf, StandsSo, Resumes, MovesOn}
-use Rattle.img_streams.proofs.Going.{named_now, stays}
+use Rattle.img_streams.proofs.StreamsGoOn.{named_now, stays}
 use Rattle.img_streams.proofs.Making.{made_call}
 use Rattle.img_streams.proofs.Serving.{stays_served}
 
@@ -65,7 +65,7 @@ module _ {P D : Type 0} (bytes : D → Option (List ℕ)) (old : Stream P (Image
 
     -- another buffer with the same length
     module _ (other mid : Stream P (ImageState D) (Note D)) (pass : Pass P (ImageState D) (Note D)) where
-      taken_stays : (answer : Grant) → IsOf bytes of.0 pass old.co.co false
+      taken_stays : (answer : Grant) → IsOwnPass bytes of.0 pass old.co.co false
           → IsTakenUp bytes old.co.co request (own_note bytes of.0 old.pass) old.buffer.items answer (own_note bytes of.0 pass) mid.buffer.items
           → IsStreamOf bytes (record old { pass = pass; queued = false; at = at_after (TookUp answer); buffer = mid.buffer }) of
       taken_stays NotYet own taken =
@@ -80,15 +80,15 @@ module _ {P D : Type 0} (bytes : D → Option (List ℕ)) (old : Stream P (Image
           (named_now bytes old of is request line) is.account)
           taken.2
 
-      pub taken_is : (answer : Grant) → IsOf bytes of.0 pass old.co.co false
+      pub taken_is : (answer : Grant) → IsOwnPass bytes of.0 pass old.co.co false
           → IsTakenUp bytes old.co.co request (own_note bytes of.0 old.pass) old.buffer.items answer (own_note bytes of.0 pass) mid.buffer.items
           → MovesOn (TookUp answer) (record old { pass = pass; queued = false; buffer = mid.buffer }) other
           → IsStreamOf bytes other of
       taken_is answer own taken moves =
           subst (λ (co : Stream P (ImageState D) (Note D)). IsStreamOf bytes co of) (sym moves) (taken_stays answer own taken)
 
-      pub taken_resumes : (answer : Grant) (named : Option CoId) (wants : Asked)
-          → Calls bytes of.0 (λ found left. Does bytes old.co request old.buffer.items mid.buffer.items (TookUp answer) found left) old.co named old.pass pass
+      pub taken_resumes : (answer : Grant) (named : Option CoId) (wants : Wants)
+          → Calls bytes of.0 (λ found left. DoesDeed bytes old.co request old.buffer.items mid.buffer.items (TookUp answer) found left) old.co named old.pass pass
           → MovesOn (TookUp answer) (record old { pass = pass; queued = false; buffer = mid.buffer }) other
           → wants ≡ asks (listed named ++ listed (woken_by (TookUp answer)) ++ listed (itself old.co (at_after (TookUp answer)))) false
           → Resumes bytes old of wants step.Yield other

@@ -6,7 +6,7 @@ use Rattle.co_state.specs.declared.cx.CoId.{CoId}
 use Rattle.co_mutex.specs.Places.{AtRest, Queued}
 use Rattle.co_mutex.specs.Known.{Known}
 use Rattle.co_mutex.specs.Calls.{Comes, Unlocks}
-use Rattle.img_streams.specs.Turns.{KeepsLock, GoesOnWaiting, Takes, HoldsOnce}
+use Rattle.img_streams.specs.Turns.{KeepsLock, GoesOnWaiting, ComesToHold, HoldsOnce}
 
 module _ {T : Type 0} (built : T) where
   -- entries that don't give the lock up leave its value
@@ -51,15 +51,15 @@ module _ {T : Type 0} (built : T) where
   unlocked_place x (Some co) v w gives = gives.1.place_is
 
 module _ {T N : Type 0} (note : T → ℕ → N) (built : T) where
-  pub takes_knows : (found : T) (v w : Known T) → Takes note built found v w → Knows built v w
+  pub takes_knows : (found : T) (v w : Known T) → ComesToHold note built found v w → Knows built v w
   takes_knows found v w takes = from_comes built v w takes.holds.comes takes.keeps
 
   -- it finds its own note as it left it
-  pub takes_own : (found : T) (v w : Known T) → Takes note built found v w → note found v.number ≡ note (value_of built v.mine) v.number
+  pub takes_own : (found : T) (v w : Known T) → ComesToHold note built found v w → note found v.number ≡ note (value_of built v.mine) v.number
   takes_own found v w takes = takes.holds.own ∙ ap (λ (x : T). note x v.number) (takes_knows found v w takes).value
 
   -- who leaves all notes but one as they were may unlock
-  pub may_unlock : (stream : ℕ) (found left : T) (v w : Known T) → Takes note built found v w → v.number ≡ stream
+  pub may_unlock : (stream : ℕ) (found left : T) (v w : Known T) → ComesToHold note built found v w → v.number ≡ stream
       → ((k : ℕ) → k ≢ stream → note left k ≡ note found k)
       → SameNotes note w.number (value_of built w.seen) left
   may_unlock stream found left v w takes number others k other =
@@ -75,5 +75,5 @@ module _ {T N : Type 0} (note : T → ℕ → N) (built : T) where
   pub once_place : (found left : T) (named : Option CoId) (v w : Known T) → HoldsOnce note built found left named v w → w.place ≡ AtRest
   once_place found left named v w once = unlocked_place built left named once.within w once.gives
 
-  pub takes_same : (x y : T) (v w : Known T) → y ≡ x → Takes note built x v w → Takes note built y v w
-  takes_same x y v w e takes = subst (λ (z : T). Takes note built z v w) (sym e) takes
+  pub takes_same : (x y : T) (v w : Known T) → y ≡ x → ComesToHold note built x v w → ComesToHold note built y v w
+  takes_same x y v w e takes = subst (λ (z : T). ComesToHold note built z v w) (sym e) takes

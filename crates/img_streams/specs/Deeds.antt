@@ -1,7 +1,7 @@
 -- What a coroutine of a stream does on the image in one resume, and whom it asks to wake.
 use Rattle.std.specs.Prelude.{ℕ, Bool, Option, Some, None, List, [], ◌∷◌, length}
 use Rattle.aio_model.specs.declared.requests.Request.{Request}
-use Rattle.co_state.specs.Asked.{Asked}
+use Rattle.co_state.specs.Wants.{Wants}
 use Rattle.co_state.specs.declared.cx.CoId.{CoId}
 use Rattle.img_requests.specs.declared.answers.Enter.{Enter}
 use Rattle.img_requests.specs.declared.answers.Enter.TheVariants as enter
@@ -71,18 +71,18 @@ IsDeedAt at.Ended (Left woken) = Unit {0}
 IsDeedAt _ _ = ⊥
 
 -- what it does on the image and in the buffer
-abbrev pub Does : {D : Type 0} → (D → Option (List ℕ)) → CoId → Request → List ℕ → List ℕ → Deed → ImageState D → ImageState D → Type 0
-Does bytes co request before after (Entered answer) found left =
+abbrev pub DoesDeed : {D : Type 0} → (D → Option (List ℕ)) → CoId → Request → List ℕ → List ℕ → Deed → ImageState D → ImageState D → Type 0
+DoesDeed bytes co request before after (Entered answer) found left =
     Enters (come_to co found) co.co request answer left
-Does bytes co request before after (TookUp answer) found left = TakesUp bytes co request before after answer found left
-Does bytes co request before after (Served answer) found left =
+DoesDeed bytes co request before after (TookUp answer) found left = TakesUp bytes co request before after answer found left
+DoesDeed bytes co request before after (Served answer) found left =
     Serves bytes co.co request (done_in (phase_at found.phases co.co)) answer (come_to co found) left before after
-Does bytes co request before after (Left woken) found left = LeavesSo co woken found left
+DoesDeed bytes co request before after (Left woken) found left = LeavesSo co woken found left
 
 abbrev pub listed : Option CoId → List CoId
 listed None = []
 listed (Some co) = co ∷ []
 
 -- it asks to wake these, in order, and perhaps that the home quits
-abbrev pub asks : List CoId → Bool → Asked
+abbrev pub asks : List CoId → Bool → Wants
 asks wakes quits = record { wakes = wakes; made = length wakes; quits = quits }

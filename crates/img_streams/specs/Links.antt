@@ -12,5 +12,5 @@ pub record LeadFrom (lines : List Step) (at : ℕ) (first next : List ℕ) : Typ
       → slice_index next place ≡ line_from (get_or lines place step).stream lines (place + 1)
 
 -- they lead through all of them
-abbrev pub LeadThrough : List Step → LineLinks → Type 0
-LeadThrough lines links = LeadFrom lines 0 links.first links.next.items
+abbrev pub AreLinksOf : List Step → LineLinks → Type 0
+AreLinksOf lines links = LeadFrom lines 0 links.first links.next.items

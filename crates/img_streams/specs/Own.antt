@@ -18,7 +18,7 @@ module _ {P D : Type 0} (bytes : D → Option (List ℕ)) (lock : CoMutex P (Ima
   own_note pass = note bytes (value_of (built_of lock) (known pass).mine) (known pass).number
 
   -- the pass of the stream, between two turns: it is queued, or at rest
-  pub record IsOf (pass : Pass P (ImageState D) (Note D)) (stream : ℕ) (queued : Bool) : Type 0 where
+  pub record IsOwnPass (pass : Pass P (ImageState D) (Note D)) (stream : ℕ) (queued : Bool) : Type 0 where
     pub of : IsPassOf lock pass
     pub place : (known pass).place ≡ place_of queued
     pub number : (known pass).number ≡ stream
@@ -29,13 +29,13 @@ module _ {P D : Type 0} (bytes : D → Option (List ℕ)) (lock : CoMutex P (Ima
 
   -- the pass goes on waiting for the lock, for this coroutine
   pub record WaitsOn (co : CoId) (queued : Bool) (named : Option CoId) (before after : Pass P (ImageState D) (Note D)) : Type 0 where
-    pub of : IsOf after co.co true
+    pub of : IsOwnPass after co.co true
     pub goes : GoesOnWaiting queued (word_of co) named (known before) (known after)
     pub same : own_note after ≡ own_note before
 
   -- the pass held the lock once, and made one such call on the image
   pub record Calls (call : ImageState D → ImageState D → Type 0) (co : CoId) (named : Option CoId) (before after : Pass P (ImageState D) (Note D)) : Type 0 where
-    pub of : IsOf after co.co false
+    pub of : IsOwnPass after co.co false
     pub found : ImageState D
     pub left : ImageState D
     pub once : HoldsOnce (note bytes) (built_of lock) found left named (known before) (known after)

@@ -17,24 +17,24 @@ use Rattle.img_streams.specs.declared.answers.Grant.TheVariants.{NotYet, Granted
 
 module _ {D : Type 0} (bytes : D → Option (List ℕ)) (stream : ℕ) where
   -- the account goes on while the stream's request is this one
-  abbrev pub GoesOn : Request → Note D → List ℕ → Note D → List ℕ → Type 0
-  GoesOn request old before new after =
+  abbrev pub RequestGoesOn : Request → Note D → List ℕ → Note D → List ℕ → Type 0
+  RequestGoesOn request old before new after =
       (asked : List Asked) (id size requests : ℕ) (buffers : List (List ℕ))
       → request_named asked id (length old.entries) ≡ Some request
       → Account bytes asked id stream size requests old buffers before
       → Account bytes asked id stream size requests new buffers after
 
   -- the account gets the request's reply, and the buffer of the next may be any
-  abbrev pub GetsReply : Request → Note D → Note D → Type 0
-  GetsReply request old new =
+  abbrev pub NoteGetsReply : Request → Note D → Note D → Type 0
+  NoteGetsReply request old new =
       (asked : List Asked) (id size requests : ℕ) (buffers : List (List ℕ)) (before next : List ℕ)
       → request_named asked id (length old.entries) ≡ Some request
       → Account bytes asked id stream size requests old buffers before
       → Account bytes asked id stream size requests new (buffers ++ before ∷ []) next
 
   -- the account goes on with this request, whatever its buffer had
-  abbrev pub Begins : Request → Note D → Note D → Type 0
-  Begins request old new =
+  abbrev pub BeginsRequest : Request → Note D → Note D → Type 0
+  BeginsRequest request old new =
       (asked : List Asked) (id size requests : ℕ) (buffers : List (List ℕ)) (buffer : List ℕ)
       → request_named asked id (length old.entries) ≡ Some request
       → HasRoom request buffer
@@ -44,42 +44,42 @@ module _ {D : Type 0} (bytes : D → Option (List ℕ)) (stream : ℕ) where
   -- what `enter` leaves
   abbrev pub IsEntered : Request → Note D → Enter → Note D → Type 0
   IsEntered request old Begun new =
-      (new.phase ≡ Active (begun_of stream request)) × (new.entries ≡ old.entries) × Begins request old new
+      (new.phase ≡ Active (begun_of stream request)) × (new.entries ≡ old.entries) × BeginsRequest request old new
   IsEntered request old Queued new =
       (new.phase ≡ Waiting (begun_of stream request))
       × (new.entries ≡ old.entries)
       × (end_of request ≤ old.size)
-      × Begins request old new
+      × BeginsRequest request old new
   IsEntered request old (Refused place) new =
-      (new.phase ≡ Idle) × (length new.entries ≡ length old.entries + 1) × GetsReply request old new
+      (new.phase ≡ Idle) × (length new.entries ≡ length old.entries + 1) × NoteGetsReply request old new
 
   -- what taking up a hold leaves
   pub record IsHeld (request : Request) (old new : Note D) : Type 0 where
     pub phase : new.phase ≡ Active (begun_of stream request)
     pub entries : new.entries ≡ old.entries
-    pub account : (buffer : List ℕ) → end_of request ≤ old.size → GoesOn request old buffer new buffer
+    pub account : (buffer : List ℕ) → end_of request ≤ old.size → RequestGoesOn request old buffer new buffer
 
   -- what a piece leaves
-  pub record IsServed (request : Request) (answer : Piece) (old : Note D) (before : List ℕ) (new : Note D) (after : List ℕ) : Type 0 where
+  pub record IsPieceServed (request : Request) (answer : Piece) (old : Note D) (before : List ℕ) (new : Note D) (after : List ℕ) : Type 0 where
     pub phase : new.phase ≡ Active (present_of stream request (done_after answer (done_in old.phase) (piece_length (length_of request) (done_in old.phase))) (stage_after answer))
     pub entries : new.entries ≡ old.entries
     pub long : length after ≡ length before
-    pub account : GoesOn request old before new after
+    pub account : RequestGoesOn request old before new after
 
   -- What is left of a stream that waits for its hold. Where it has it, the stream takes it up, and is served a piece.
   abbrev pub IsTakenUp : Request → Note D → List ℕ → Grant → Note D → List ℕ → Type 0
   IsTakenUp request old before NotYet new after = (new ≡ old) × (after ≡ before)
   IsTakenUp request old before (Granted woken first) new after =
-      (held : Note D) × IsHeld request old held × IsServed request first held before new after
+      (held : Note D) × IsHeld request old held × IsPieceServed request first held before new after
 
   -- what `leave` leaves
   pub record HasLeft (old new : Note D) : Type 0 where
     pub phase : new.phase ≡ Idle
     pub entries : length new.entries ≡ length old.entries + 1
-    pub account : (request : Request) → GetsReply request old new
+    pub account : (request : Request) → NoteGetsReply request old new
 
   -- what `retire` leaves
-  pub record HasRetired (old new : Note D) : Type 0 where
+  pub record NoteHasRetired (old new : Note D) : Type 0 where
     pub phase : new.phase ≡ Retired
     pub entries : new.entries ≡ old.entries
     pub account : (asked : List Asked) (id size requests : ℕ) (buffers : List (List ℕ)) (buffer : List ℕ)

@@ -6,7 +6,7 @@ use Rattle.aio_model.specs.declared.scripts.Step.{Step}
 use Rattle.aio_model.specs.declared.scripts.What.TheVariants.{Ask, Delay, Move}
 use Rattle.aio_model.specs.Asked.{asked, requests_of}
 use Rattle.aio_model.specs.Serving.{end_of}
-use Rattle.co_state.specs.Asked.{Asked, nothing_asked}
+use Rattle.co_state.specs.Wants.{Wants, nothing_asked}
 use Rattle.co_state.specs.declared.cx.CoId.{CoId}
 use Rattle.co_state.specs.declared.co.CoStep.{CoStep}
 use Rattle.co_state.specs.declared.co.CoStep.TheVariants as step
@@ -23,10 +23,10 @@ use Rattle.img_join.specs.Accounts.{Account}
 use Rattle.img_streams.specs.declared.progress.At.{At}
 use Rattle.img_streams.specs.declared.progress.At.TheVariants as at
 use Rattle.img_streams.specs.declared.stream.Stream.{Stream}
-use Rattle.img_streams.specs.Deeds.{Deed, woken_by, at_after, lines_past, itself, IsDeedAt, Does, listed, asks}
+use Rattle.img_streams.specs.Deeds.{Deed, woken_by, at_after, lines_past, itself, IsDeedAt, DoesDeed, listed, asks}
 use Rattle.img_streams.specs.ImageCalls.{Retires}
 use Rattle.img_streams.specs.Lines.{line_from, places_of, StandsAt, Asks, AreShort, HaveRoom}
-use Rattle.img_streams.specs.Own.{own_note, IsOf, Calls}
+use Rattle.img_streams.specs.Own.{own_note, IsOwnPass, Calls}
 use Rattle.img_streams.specs.Turns.{GoesOnWaiting}
 
 -- where a stream is, by its own note
@@ -86,7 +86,7 @@ module _ {P D : Type 0} (bytes : D → Option (List ℕ)) where
   -- The coroutine is of this lock and this script.
   pub record IsStreamOf (co : Stream P (ImageState D) (Note D)) (of : CoMutex P (ImageState D) (Note D) × Script) : Type 0 where
     -- its pass is that lock's
-    pub pass : IsOf bytes of.0 co.pass co.co.co co.queued
+    pub pass : IsOwnPass bytes of.0 co.pass co.co.co co.queued
     -- its id is that of its stream line, which has its number
     pub named : slice_index (map (λ stream. stream.id) of.1.streams) co.co.co ≡ co.id
     -- it knows where its lines stand
@@ -119,7 +119,7 @@ module _ {P D : Type 0} (bytes : D → Option (List ℕ)) where
     at_hand = line_from old.id of.1.lines old.line
 
     -- It waits for the lock, for a request or to retire. It wakes whom its call on the lock named.
-    pub record WaitsForLock (wants : Asked) (new : Stream P (ImageState D) (Note D)) : Type 0 where
+    pub record WaitsForLock (wants : Wants) (new : Stream P (ImageState D) (Note D)) : Type 0 where
       pub named : Option CoId
       pub goes : GoesOnWaiting old.queued (word_of old.co) named (known old.pass) (known new.pass)
       pub line : Asks of.1.lines old.id at_hand ⊎ (at_hand ≡ length of.1.lines)
@@ -128,20 +128,20 @@ module _ {P D : Type 0} (bytes : D → Option (List ℕ)) where
 
     -- It took the lock once and did this one deed on the image for the request at hand. It wakes whom its unlock named,
     -- whom the image named, and itself where it doesn't wait for its hold.
-    pub record MakesCall (wants : Asked) (new : Stream P (ImageState D) (Note D)) : Type 0 where
+    pub record MakesCall (wants : Wants) (new : Stream P (ImageState D) (Note D)) : Type 0 where
       pub request : Request
       pub line : StandsAt of.1.lines old.id at_hand (Ask request)
       pub deed : Deed
       pub suits : IsDeedAt old.at deed
       pub named : Option CoId
-      pub calls : Calls bytes of.0 (Does bytes old.co request old.buffer.items new.buffer.items deed) old.co named old.pass new.pass
+      pub calls : Calls bytes of.0 (DoesDeed bytes old.co request old.buffer.items new.buffer.items deed) old.co named old.pass new.pass
       pub queued : new.queued ≡ false
       pub at_is : new.at ≡ at_after deed
       pub line_is : new.line ≡ at_hand + lines_past deed
       pub wakes : wants ≡ asks (listed named ++ listed (woken_by deed) ++ listed (itself old.co (at_after deed))) false
 
     -- It retired: no line is left. It wakes whom its unlock named, and the last of all streams has its home quit.
-    pub record Retiring (wants : Asked) (new : Stream P (ImageState D) (Note D)) : Type 0 where
+    pub record Retiring (wants : Wants) (new : Stream P (ImageState D) (Note D)) : Type 0 where
       pub none_left : at_hand ≡ length of.1.lines
       pub going : ℕ
       pub named : Option CoId
@@ -152,7 +152,7 @@ module _ {P D : Type 0} (bytes : D → Option (List ℕ)) where
       pub wakes : wants ≡ asks (listed named) (going == 0)
 
     -- one resume
-    abbrev pub Resumes : Asked → CoStep → Stream P (ImageState D) (Note D) → Type 0
+    abbrev pub Resumes : Wants → CoStep → Stream P (ImageState D) (Note D) → Type 0
     Resumes wants step.Yield new =
         (new.id ≡ old.id) × (new.co ≡ old.co) × (WaitsForLock wants new ⊎ MakesCall wants new)
     Resumes wants step.Done new =

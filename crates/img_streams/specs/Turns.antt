@@ -5,13 +5,13 @@ use Rattle.co_state.specs.declared.cx.CoId.{CoId}
 use Rattle.co_mutex.specs.declared.answers.Lock.{Lock}
 use Rattle.co_mutex.specs.declared.answers.Lock.TheVariants.{Held, Queued as Waits}
 use Rattle.co_mutex.specs.LockWords.{grant_at}
-use Rattle.co_mutex.specs.Places.{Place, AtRest, Queued}
+use Rattle.co_mutex.specs.Places.{PassPlace, AtRest, Queued}
 use Rattle.co_mutex.specs.Known.{GrantSwap, Known, moves}
 use Rattle.co_mutex.specs.Plays.{done}
 use Rattle.co_mutex.specs.Calls.{HoldsNow, Unlocks, Queues}
 
 -- where a pass is between two turns
-abbrev pub place_of : Bool → Place
+abbrev pub place_of : Bool → PassPlace
 place_of false = AtRest
 place_of true = Queued
 
@@ -32,18 +32,18 @@ module _ {T : Type 0} where
 
 module _ {T N : Type 0} (note : T → ℕ → N) (built : T) where
   -- The pass came to hold the lock, by entries none of which gave it up.
-  pub record Takes (found : T) (before after : Known T) : Type 0 where
+  pub record ComesToHold (found : T) (before after : Known T) : Type 0 where
     pub entries : List (LockEntry T)
     pub keeps : KeepsLock entries
     pub holds : HoldsNow note built entries found before after
 
   module _ {P : Type 0} where
     abbrev pub Reaches : Bool → ℕ → Known T → Lock P T N → Known T → Type 0
-    Reaches queued who before (Held guard) after = Takes guard.value before after
+    Reaches queued who before (Held guard) after = ComesToHold guard.value before after
     Reaches queued who before (Waits named) after = GoesOnWaiting queued who named before after
 
   -- The pass held the lock once: it found the first value and left the second, and its unlock named this coroutine.
   pub record HoldsOnce (found left : T) (named : Option CoId) (before after : Known T) : Type 0 where
     pub within : Known T
-    pub takes : Takes found before within
+    pub takes : ComesToHold found before within
     pub gives : Unlocks left within named after

@@ -1,6 +1,6 @@
 //! Arrays that lead through each stream's lines of a script.
 ghost use Rattle.std.specs.Prelude.{◌≡◌, ◌<◌, IfOk, length, set, slice_index};
-ghost use Rattle.img_streams.specs.Links.{LeadFrom, LeadThrough};
+ghost use Rattle.img_streams.specs.Links.{LeadFrom, AreLinksOf};
 
 use aio_model::{NoMemory, Script, Step};
 use std::alloc::Global;
@@ -31,7 +31,7 @@ impl LineLinks {
     /// Leads through the lines, from the last to the first.
     fn link(&mut self, lines: &[Step])
         requires none { LeadFrom lines.now (length lines.now) self.old.first self.old.next.items }
-        ensures all { LeadThrough lines.now self.new }
+        ensures all { AreLinksOf lines.now self.new }
     {
         let mut at = lines.len();
         while at > 0 {
@@ -46,7 +46,7 @@ impl LineLinks {
     /// The links of a script. They lead through the lines of the streams whose ids are below 64, which is each that a script may
     /// have.
     pub fn build(alloc: Global, script: &Script) -> Result<LineLinks, NoMemory>
-        ensures { IfOk result (LeadThrough script.now.lines) }
+        ensures { IfOk result (AreLinksOf script.now.lines) }
     {
         let lines = script.lines.as_slice();
         let none = lines.len();

@@ -1,7 +1,7 @@
 //! The memory of a stream: the places of its lines, a buffer for each of its requests, and one more.
 ghost use Rattle.std.specs.Prelude.{◌≡◌, ◌<◌, ◌≤◌, ◌^◌, ◌∷◌, ◌++◌, [], IfOk, length, map, vec_capacity};
 ghost use Rattle.img_requests.specs.Pieces.{HasRoom};
-ghost use Rattle.img_streams.specs.Links.{LeadThrough};
+ghost use Rattle.img_streams.specs.Links.{AreLinksOf};
 ghost use Rattle.img_streams.specs.Rooms.{AddsFor, AreGathered, IsRoomFor};
 
 use crate::links::LineLinks;
@@ -57,7 +57,7 @@ fn gather(
     links: &LineLinks,
     id: u32,
 ) -> Result<(Vec<usize>, VecDeque<Vec<u8>>), AllocError>
-    requires links { LeadThrough lines.now links.now }
+    requires links { AreLinksOf lines.now links.now }
     requires known { id < 64 }
     ensures { IfOk result (λ both. AreGathered lines.now id both.0.items (map (λ buffer. buffer.items) both.1.items)) }
 {
@@ -97,7 +97,7 @@ fn filled_for(alloc: Global, buffers: &VecDeque<Vec<u8>>) -> Result<Vec<Vec<u8>>
 }
 
 fn room_for(alloc: Global, lines: &[Step], links: &LineLinks, id: u32) -> Result<Room, AllocError>
-    requires links { LeadThrough lines.now links.now }
+    requires links { AreLinksOf lines.now links.now }
     requires known { id < 64 }
     ensures { IfOk result (λ room. IsRoomFor lines.now id room) }
 {
@@ -121,7 +121,7 @@ impl Room {
         links: &LineLinks,
         id: u32,
     ) -> Result<Room, NoMemory>
-        requires links { LeadThrough script.now.lines links.now }
+        requires links { AreLinksOf script.now.lines links.now }
         requires known { id < 64 }
         ensures { IfOk result (λ room. IsRoomFor script.now.lines id room) }
     {

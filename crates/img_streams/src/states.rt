@@ -1,6 +1,6 @@
 //! What a stream does in one resume, by where it is in its script.
 ghost use Rattle.std.specs.Prelude.{◌≡◌, ◌+◌, ◌<◌, ◌^◌, length, vec_capacity, [], ◌∷◌, ◌++◌};
-ghost use Rattle.co_state.specs.Asked.{nothing_asked};
+ghost use Rattle.co_state.specs.Wants.{nothing_asked};
 ghost use Rattle.img_streams.specs.declared.progress.At.TheVariants.{Between, Waiting, Serving, Ended, Retiring};
 ghost use Rattle.img_streams.specs.Deeds.{Entered, TookUp, Served, Left, itself, woken_by, at_after};
 ghost use Rattle.img_streams.specs.Streams.{IsStreamOf, Resumes, source, IsEntering, CanGetReply, GetsReply, MovesOn};

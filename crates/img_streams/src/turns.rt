@@ -7,8 +7,8 @@ ghost use Rattle.img_shared.specs.declared.phases.Phase.TheVariants.{Idle};
 ghost use Rattle.img_shared.specs.Calls.{Enters, IsServing, Serves};
 ghost use Rattle.img_shared.specs.Phases.{done_in, phase_at, CanLeave};
 ghost use Rattle.img_streams.specs.ImageCalls.{come_to, IsWaitingFor, TakesUp, LeavesSo, Retires};
-ghost use Rattle.img_streams.specs.Own.{own_note, IsOf, Turned, OnDid, OnWaits};
-ghost use Rattle.img_streams.specs.Steps.{IsEntered, IsTakenUp, IsServed, HasLeft, HasRetired};
+ghost use Rattle.img_streams.specs.Own.{own_note, IsOwnPass, Turned, OnDid, OnWaits};
+ghost use Rattle.img_streams.specs.Steps.{IsEntered, IsTakenUp, IsPieceServed, HasLeft, NoteHasRetired};
 
 use crate::answers::{Grant, Visit};
 use crate::gate::Passed;
@@ -33,7 +33,7 @@ pub fn enter<D: Device, R: Wait>(
     request: &Request,
 ) -> Visit<Enter>
     requires passed { passed ≡ record { stream = co.co; index = length (own_note D.bytes lock.now pass.old).entries } }
-    requires of { IsOf D.bytes lock.now pass.old co.co queued }
+    requires of { IsOwnPass D.bytes lock.now pass.old co.co queued }
     requires idle { (own_note D.bytes lock.now pass.old).phase ≡ Idle }
     requires due { length (own_note D.bytes lock.now pass.old).entries < (own_note D.bytes lock.now pass.old).requests }
     requires small { length_of request.now < 2 ^ 32 }
@@ -60,7 +60,7 @@ pub fn take_up<D: Device, R: Wait>(
     request: &Request,
     buffer: &mut [u8],
 ) -> Visit<Grant>
-    requires of { IsOf D.bytes lock.now pass.old co.co queued }
+    requires of { IsOwnPass D.bytes lock.now pass.old co.co queued }
     requires waits { IsWaitingFor (own_note D.bytes lock.now pass.old).phase co.co request.now }
     requires room { HasRoom request.now buffer.old }
     ensures turn { Turned D.bytes lock.now (λ answer found left. TakesUp D.bytes co request.now buffer.old buffer.new answer found left) co queued pass.old result pass.new }
@@ -86,12 +86,12 @@ pub fn serve<D: Device, R: Wait>(
     request: &Request,
     buffer: &mut [u8],
 ) -> Visit<Piece>
-    requires of { IsOf D.bytes lock.now pass.old co.co queued }
+    requires of { IsOwnPass D.bytes lock.now pass.old co.co queued }
     requires serving { IsServing (own_note D.bytes lock.now pass.old).phase co.co request.now (done_in (own_note D.bytes lock.now pass.old).phase) }
     requires room { HasRoom request.now buffer.old }
     ensures turn { Turned D.bytes lock.now (λ answer found left. Serves D.bytes co.co request.now (done_in (phase_at found.phases co.co)) answer (come_to co found) left buffer.old buffer.new) co queued pass.old result pass.new }
     ensures same { OnWaits result (buffer.new ≡ buffer.old) }
-    ensures served { OnDid result (λ answer. IsServed D.bytes co.co request.now answer (own_note D.bytes lock.now pass.old) buffer.old (own_note D.bytes lock.now pass.new) buffer.new) }
+    ensures served { OnDid result (λ answer. IsPieceServed D.bytes co.co request.now answer (own_note D.bytes lock.now pass.old) buffer.old (own_note D.bytes lock.now pass.new) buffer.new) }
 {
     match reach(rt, lock, pass, queued, co) {
         Lock::Queued(named) => Visit::Waits(named),
@@ -110,7 +110,7 @@ pub fn leave<D: Device, R: Wait>(
     queued: bool,
     co: CoId,
 ) -> Visit<Option<CoId>>
-    requires of { IsOf D.bytes lock.now pass.old co.co queued }
+    requires of { IsOwnPass D.bytes lock.now pass.old co.co queued }
     requires ended { CanLeave (own_note D.bytes lock.now pass.old).phase }
     ensures turn { Turned D.bytes lock.now (λ woken found left. LeavesSo co woken found left) co queued pass.old result pass.new }
     ensures left { OnDid result (λ answer. HasLeft D.bytes co.co (own_note D.bytes lock.now pass.old) (own_note D.bytes lock.now pass.new)) }
@@ -132,11 +132,11 @@ pub fn retire<D: Device, R: Wait>(
     queued: bool,
     co: CoId,
 ) -> Visit<u32>
-    requires of { IsOf D.bytes lock.now pass.old co.co queued }
+    requires of { IsOwnPass D.bytes lock.now pass.old co.co queued }
     requires idle { (own_note D.bytes lock.now pass.old).phase ≡ Idle }
     requires all { length (own_note D.bytes lock.now pass.old).entries ≡ (own_note D.bytes lock.now pass.old).requests }
     ensures turn { Turned D.bytes lock.now (λ going found left. Retires co going found left) co queued pass.old result pass.new }
-    ensures retired { OnDid result (λ answer. HasRetired D.bytes co.co (own_note D.bytes lock.now pass.old) (own_note D.bytes lock.now pass.new)) }
+    ensures retired { OnDid result (λ answer. NoteHasRetired D.bytes co.co (own_note D.bytes lock.now pass.old) (own_note D.bytes lock.now pass.new)) }
 {
     match reach(rt, lock, pass, queued, co) {
         Lock::Queued(named) => Visit::Waits(named),

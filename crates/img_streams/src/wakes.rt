@@ -1,6 +1,6 @@
 //! Whom a resume asks to wake.
 ghost use Rattle.std.specs.Prelude.{◌≡◌, ◌+◌, ◌≤◌, ◌==◌, ◌++◌, false, length};
-ghost use Rattle.co_state.specs.Asked.{nothing_asked};
+ghost use Rattle.co_state.specs.Wants.{nothing_asked};
 ghost use Rattle.img_streams.specs.Deeds.{listed, asks};
 
 use co_state::{CoId, Cx};

@@ -12,6 +12,6 @@ abbrev pub IsPlayerOf : CoMutex Number ℕ ℕ → ℕ → ℕ → Player → Ty
 IsPlayerOf m count k player =
     IsPassOf m player.pass × ((known player.pass).number + k + 1 ≡ count)
 
-abbrev pub AreOf : CoMutex Number ℕ ℕ → ℕ → List (Option Player) → Type 0
-AreOf m count players =
+abbrev pub ArePlayersOf : CoMutex Number ℕ ℕ → ℕ → List (Option Player) → Type 0
+ArePlayersOf m count players =
     (k : ℕ) (player : Player) → get_elem? players k ≡ some (Some player) → IsPlayerOf m count k player

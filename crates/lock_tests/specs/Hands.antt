@@ -1,10 +1,10 @@
 -- Where a pass stands that has this in hand.
 use Rattle.std.specs.Prelude.{ℕ}
-use Rattle.co_mutex.specs.Places.{Place, AtRest, Counted, Queued, Holds}
+use Rattle.co_mutex.specs.Places.{PassPlace, AtRest, Counted, Queued, Holds}
 use Rattle.lock_tests.specs.declared.hand.Hand.{Hand}
 use Rattle.lock_tests.specs.declared.hand.Hand.TheVariants.{Rests, Counted as HasWaiting, Queued as IsQueued, Holds as HasGuard}
 
-abbrev pub place_at : Hand → Place
+abbrev pub place_at : Hand → PassPlace
 place_at Rests = AtRest
 place_at (HasWaiting waiting) = Counted
 place_at IsQueued = Queued

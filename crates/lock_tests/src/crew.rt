@@ -3,7 +3,7 @@ ghost use Rattle.std.specs.Prelude.{◌≡◌, ◌<◌, ◌≤◌, ◌+◌, vec_
 ghost use Rattle.co_mutex.specs.Places.{AtRest};
 ghost use Rattle.co_mutex.specs.Passes.{passes_of, known};
 ghost use Rattle.co_mutex.specs.Decks.{IsResting, AreResting};
-ghost use Rattle.lock_tests.specs.Crews.{AreOf};
+ghost use Rattle.lock_tests.specs.Crews.{ArePlayersOf};
 
 use crate::hand::{Answer, Hand, Turn};
 use crate::number::Number;
@@ -30,7 +30,7 @@ pub fn dealt<R: Abort>(
     passes: Vec<Pass<Number>>,
 ) -> Vec<Option<Player>>
     requires each { AreResting lock.now passes.items }
-    ensures each { AreOf lock.now (vec_len passes) result.items }
+    ensures each { ArePlayersOf lock.now (vec_len passes) result.items }
     ensures count { vec_len result ≡ vec_len passes }
 {
     let mut passes = passes;
@@ -64,8 +64,8 @@ pub fn play<R: Wait + Abort>(
     number: usize,
     turn: Turn,
 ) -> Answer
-    requires each { AreOf lock.now (vec_len players.old) players.old.items }
-    ensures each { AreOf lock.now (vec_len players.new) players.new.items }
+    requires each { ArePlayersOf lock.now (vec_len players.old) players.old.items }
+    ensures each { ArePlayersOf lock.now (vec_len players.new) players.new.items }
     ensures count { vec_len players.new ≡ vec_len players.old }
 {
     let place = place_of(rt, players.len(), number);
@@ -100,7 +100,7 @@ pub fn returned<R: Abort>(
     lock: &CoMutex<Number>,
     players: Vec<Option<Player>>,
 ) -> Vec<Pass<Number>>
-    requires each { AreOf lock.now (vec_len players) players.items }
+    requires each { ArePlayersOf lock.now (vec_len players) players.items }
     ensures each { AreResting lock.now result.items }
     ensures count { vec_len result ≡ vec_len players }
 {

@@ -1,6 +1,6 @@
 //! Calls of two passes, and of 64, on one thread.
 ghost use Rattle.std.specs.Prelude.{◌≡◌, ◌<◌, ◌≤◌, vec_len};
-ghost use Rattle.lock_tests.specs.Crews.{AreOf};
+ghost use Rattle.lock_tests.specs.Crews.{ArePlayersOf};
 
 use crate::closing::{built, closed};
 use crate::crew::{dealt, play, returned};
@@ -28,8 +28,8 @@ fn play_all<R: Wait + Abort>(
     players: &mut Vec<Option<Player>>,
     rows: &[Row],
 )
-    requires each { AreOf lock.now (vec_len players.old) players.old.items }
-    ensures each { AreOf lock.now (vec_len players.new) players.new.items }
+    requires each { ArePlayersOf lock.now (vec_len players.old) players.old.items }
+    ensures each { ArePlayersOf lock.now (vec_len players.new) players.new.items }
     ensures count { vec_len players.new ≡ vec_len players.old }
 {
     for row in rows {
@@ -134,8 +134,8 @@ fn who_is_counted_takes_the_hand_off(rt: HostRuntime) {
 
 /// The first pass holds, and all others queue behind it.
 fn all_queue<R: Wait + Abort>(rt: &R, lock: &CoMutex<Number>, players: &mut Vec<Option<Player>>)
-    requires each { AreOf lock.now (vec_len players.old) players.old.items }
-    ensures each { AreOf lock.now (vec_len players.new) players.new.items }
+    requires each { ArePlayersOf lock.now (vec_len players.old) players.old.items }
+    ensures each { ArePlayersOf lock.now (vec_len players.new) players.new.items }
     ensures count { vec_len players.new ≡ vec_len players.old }
 {
     assert_eq!(rt; play(rt, lock, players, 0, Turn::Lock), Answer::Held(5));
@@ -147,8 +147,8 @@ fn all_queue<R: Wait + Abort>(rt: &R, lock: &CoMutex<Number>, players: &mut Vec<
 
 /// Each pass adds 1 and unlocks, which names the next.
 fn all_take<R: Wait + Abort>(rt: &R, lock: &CoMutex<Number>, players: &mut Vec<Option<Player>>)
-    requires each { AreOf lock.now (vec_len players.old) players.old.items }
-    ensures each { AreOf lock.now (vec_len players.new) players.new.items }
+    requires each { ArePlayersOf lock.now (vec_len players.old) players.old.items }
+    ensures each { ArePlayersOf lock.now (vec_len players.new) players.new.items }
     ensures count { vec_len players.new ≡ vec_len players.old }
 {
     for next in 1..64u32 {

@@ -8,7 +8,7 @@ use Rattle.co_schedule.specs.Known.{Known as CoKnown}
 use Rattle.loop_rows.specs.declared.shared.LoopShared.{LoopShared}
 use Rattle.loop_rows.specs.declared.seats.Seats.{Seats}
 use Rattle.loop_rows.specs.declared.opening.Homes.{Homes}
-use Rattle.loop_rows.specs.Rows.{IsAt}
+use Rattle.loop_rows.specs.Rows.{AreSeatsOf}
 use Rattle.loop_rows.specs.Opening.{IsNewLoop, AreHomesOf}
 use Rattle.loop_rows.proofs.Places.{at_push}
 
@@ -23,7 +23,7 @@ three_pushed {X} {Y} {Z} P xs ys zs n x y z lx ly lz was here k a b c h =
     (subst (λ (v : Y). P (slice_index_or xs k a) v (slice_index_or zs k c)) (sym (get_or_append_left ys (y ∷ []) b k (omega (arith, lt, ly)))) (was k a b c lt)))
 
 -- the seats of a new loop have all numbers but the home's
-pub new_seats : {C O : Type 0} {coroutines : ℕ} {origin : O} {shared : LoopShared C O} {homes : Homes C O} {seats : Seats C O} → IsNewLoop coroutines origin shared homes seats → IsAt 0 64 shared seats
+pub new_seats : {C O : Type 0} {coroutines : ℕ} {origin : O} {shared : LoopShared C O} {homes : Homes C O} {seats : Seats C O} → IsNewLoop coroutines origin shared homes seats → AreSeatsOf 0 64 shared seats
 new_seats new = record {
   bottoms = record { of = record { tables = new.bottoms.seat_of; sizes = ap (λ (k : Known). k.sizes) new.bottoms.seat_is ∙ sym new.bottoms.sizes_are }; rest = ap (λ (k : Known). k.phase) new.bottoms.seat_is };
   coroutines = new.coroutines_are.seat_of_it;

@@ -4,10 +4,10 @@ use Rattle.std.proofs.lemmas.List.{get_or_at, get_or_default}
 use Rattle.loop_rows.proofs.Places.{at_set, of_read, as_read}
 use Rattle.loop_rows.specs.declared.shared.LoopShared.{LoopShared}
 use Rattle.loop_rows.specs.declared.seats.Seats.{Seats}
-use Rattle.loop_rows.specs.Rows.{IsAt, EachAt, Unites, DividesEach, UnitesEach}
+use Rattle.loop_rows.specs.Rows.{AreSeatsOf, EachAt, Unites, DividesEach, UnitesEach}
 
 -- the same numbers, written otherwise
-pub renumbered : {C O : Type 0} {shared : LoopShared C O} {seats : Seats C O} {first first' count count' : ℕ} → first ≡ first' → count ≡ count' → IsAt first count shared seats → IsAt first' count' shared seats
+pub renumbered : {C O : Type 0} {shared : LoopShared C O} {seats : Seats C O} {first first' count count' : ℕ} → first ≡ first' → count ≡ count' → AreSeatsOf first count shared seats → AreSeatsOf first' count' shared seats
 renumbered e f at = record {
   bottoms = at.bottoms;
   coroutines = at.coroutines;
@@ -33,10 +33,10 @@ unite_each shared before other after n first count second more was also unites k
 
 -- the last seat of a row that is taken from its end
 pub popped_seat : {C O : Type 0} (shared : List (LoopShared C O)) (orig all rest : List (Seats C O)) (n first count : ℕ) (t : LoopShared C O) (v : Seats C O) → all ≡ rest ++ v ∷ [] → length rest ≡ n → ((d : Seats C O) → slice_index_or all n d ≡ slice_index_or orig n d)
-    → n < length shared → t ≡ slice_index_or shared n t → EachAt (length shared) first count shared orig → IsAt first count t v
+    → n < length shared → t ≡ slice_index_or shared n t → EachAt (length shared) first count shared orig → AreSeatsOf first count t v
 popped_seat shared orig all rest n first count t v e long same lt at each =
     let here : v ≡ slice_index_or orig n v = sym (ap (λ l. slice_index_or l n v) e ∙ get_or_at rest v [] v n long) ∙ same v in
-    as_read (λ (x : LoopShared _ _) (y : Seats _ _). IsAt first count x y) shared orig n t v at here (each n t v lt)
+    as_read (λ (x : LoopShared _ _) (y : Seats _ _). AreSeatsOf first count x y) shared orig n t v at here (each n t v lt)
 
 -- one more was put together
 pub united_more : {C O : Type 0} (shared : List (LoopShared C O)) (olds others news : List (Seats C O)) (low n high : ℕ) (t : LoopShared C O) (b o v : Seats C O) → low ≡ n → high ≡ n + 1 → n < length shared → n < length news → n < length olds → n < length others

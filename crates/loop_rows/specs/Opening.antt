@@ -38,7 +38,7 @@ HomesEach {C} {O} n shared homes =
     (k : ℕ) (t : LoopShared C O) (h : Homes C O) → k < n → AreHomesOf (slice_index_or shared k t) (slice_index_or homes k h)
 
 -- So many new loops. The row may step on each, and the homes are ready for a run.
-pub record AreNew {C O : Type 0} (loops coroutines : ℕ) (origin : O) (opened : Opened C O) : Type 0 where
+pub record AreNewLoops {C O : Type 0} (loops coroutines : ℕ) (origin : O) (opened : Opened C O) : Type 0 where
   pub long : length opened.shared.items ≡ loops
   pub homes_long : length opened.homes.items ≡ loops
   pub each : NewEach loops coroutines origin opened.shared.items opened.homes.items opened.row.seats.items

@@ -12,7 +12,7 @@ use Rattle.loop_rows.specs.declared.seats.Seats.{Seats}
 use Rattle.loop_rows.specs.declared.rows.Row.{Row}
 
 -- the seats are of the loop's tables, at rest, and own these numbers
-pub record IsAt {C O : Type 0} (first count : ℕ) (shared : LoopShared C O) (seats : Seats C O) : Type 0 where
+pub record AreSeatsOf {C O : Type 0} (first count : ℕ) (shared : LoopShared C O) (seats : Seats C O) : Type 0 where
   pub bottoms : IsReady shared.bottoms seats.bottoms
   pub coroutines : IsCoSeatOf shared.coroutines seats.coroutines
   pub first_is : seats.bottoms.known.first ≡ first
@@ -22,8 +22,8 @@ pub record IsAt {C O : Type 0} (first count : ℕ) (shared : LoopShared C O) (se
 
 -- so many numbers stay, and the others go to a new seat
 pub record Divides {C O : Type 0} (half : ℕ) (shared : LoopShared C O) (before after other : Seats C O) : Type 0 where
-  pub stays : IsAt before.bottoms.known.first half shared after
-  pub goes : IsAt (before.bottoms.known.first + half) half shared other
+  pub stays : AreSeatsOf before.bottoms.known.first half shared after
+  pub goes : AreSeatsOf (before.bottoms.known.first + half) half shared other
   pub front : after.bottoms.known ≡ front_known half before.bottoms.known
   pub back : other.bottoms.known ≡ back_known half before.bottoms.known
   pub co_front : after.coroutines.known ≡ front_co half before.coroutines.known
@@ -31,7 +31,7 @@ pub record Divides {C O : Type 0} (half : ℕ) (shared : LoopShared C O) (before
 
 -- the numbers of both are one seat's, and what either has seen is a part of what it has seen
 pub record Unites {C O : Type 0} (shared : LoopShared C O) (before other after : Seats C O) : Type 0 where
-  pub is_at : IsAt before.bottoms.known.first (before.bottoms.known.count + other.bottoms.known.count) shared after
+  pub is_at : AreSeatsOf before.bottoms.known.first (before.bottoms.known.count + other.bottoms.known.count) shared after
   pub both : after.bottoms.known ≡ joined_known before.bottoms.known other.bottoms.known
   pub parts : IsJoined shared.bottoms.sizes (told_of before.bottoms.known other.bottoms.known) after.bottoms.known.seen
   pub co_both : after.coroutines.known ≡ joined_co before.coroutines.known other.coroutines.known
@@ -40,7 +40,7 @@ pub record Unites {C O : Type 0} (shared : LoopShared C O) (before other after :
 -- each place below so many has this
 abbrev pub EachAt : {C O : Type 0} → ℕ → ℕ → ℕ → List (LoopShared C O) → List (Seats C O) → Type 0
 EachAt {C} {O} n first count shared seats =
-    (k : ℕ) (t : LoopShared C O) (s : Seats C O) → k < n → IsAt first count (slice_index_or shared k t) (slice_index_or seats k s)
+    (k : ℕ) (t : LoopShared C O) (s : Seats C O) → k < n → AreSeatsOf first count (slice_index_or shared k t) (slice_index_or seats k s)
 
 -- one seat of each table, each with these numbers
 pub record IsRow {C O : Type 0} (shared : List (LoopShared C O)) (row : Row C O) : Type 0 where

@@ -1,7 +1,7 @@
 //! New loops, and one seat of each of their tables with all numbers but the home's.
 ghost use Rattle.std.specs.Prelude.{◌≡◌, ◌≤◌, IfOk, vec_len};
-ghost use Rattle.loop_rows.specs.Rows.{IsAt};
-ghost use Rattle.loop_rows.specs.Opening.{IsNewLoop, AreHomesOf, AreNew};
+ghost use Rattle.loop_rows.specs.Rows.{AreSeatsOf};
+ghost use Rattle.loop_rows.specs.Opening.{IsNewLoop, AreHomesOf, AreNewLoops};
 
 use crate::rows::Row;
 use crate::seats::Seats;
@@ -55,7 +55,7 @@ fn open_loop<C: Origin + Drop, R: Wait>(
     ghost origin: { C.Source }
     requires { coroutines ≤ 64 }
     ensures made { IfOk result (λ made. IsNewLoop coroutines origin made.shared made.homes made.seats) }
-    ensures seats { IfOk result (λ made. IsAt 0 64 made.shared made.seats) }
+    ensures seats { IfOk result (λ made. AreSeatsOf 0 64 made.shared made.seats) }
     ensures homes { IfOk result (λ made. AreHomesOf made.shared made.homes) }
 {
     let Ok(bottoms) = LoopTable::<()>::build(alloc, HANDLES, LOTS, EVENTS) else {
@@ -105,7 +105,7 @@ pub fn open<C: Origin + Drop, R: Wait>(
 ) -> Result<Opened<C>, NoMemory>
     ghost origin: { C.Source }
     requires { coroutines ≤ 64 }
-    ensures { IfOk result (λ opened. AreNew loops coroutines origin opened) }
+    ensures { IfOk result (λ opened. AreNewLoops loops coroutines origin opened) }
 {
     let (Ok(mut shared), Ok(mut homes), Ok(mut seats)) = (
         Vec::with_capacity(alloc, loops),

@@ -1,6 +1,6 @@
 //! A seat of a loop's two tables.
 ghost use Rattle.std.specs.Prelude.{◌≡◌, ◌<◌, ◌≤◌, ◌+◌, ◌*◌};
-ghost use Rattle.loop_rows.specs.Rows.{IsAt, Divides, Unites};
+ghost use Rattle.loop_rows.specs.Rows.{AreSeatsOf, Divides, Unites};
 
 use crate::shared::LoopShared;
 use aio_core::Seat;
@@ -20,7 +20,7 @@ pub(crate) fn divide<C: Origin + Drop>(
     seats: &mut Seats<C>,
     half: u32,
 ) -> Seats<C>
-    requires seats { IsAt seats.old.bottoms.known.first (2 * half) shared.now seats.old }
+    requires seats { AreSeatsOf seats.old.bottoms.known.first (2 * half) shared.now seats.old }
     requires half { 0 < half }
     ensures { Divides half shared.now seats.old seats.new result }
 {
@@ -39,8 +39,8 @@ pub(crate) fn divide<C: Origin + Drop>(
 
 /// Puts the numbers of the other behind those of this one.
 pub(crate) fn unite<C: Origin + Drop>(shared: &LoopShared<C>, seats: &mut Seats<C>, other: Seats<C>)
-    requires seats { IsAt seats.old.bottoms.known.first seats.old.bottoms.known.count shared.now seats.old }
-    requires other { IsAt (seats.old.bottoms.known.first + seats.old.bottoms.known.count) other.bottoms.known.count shared.now other }
+    requires seats { AreSeatsOf seats.old.bottoms.known.first seats.old.bottoms.known.count shared.now seats.old }
+    requires other { AreSeatsOf (seats.old.bottoms.known.first + seats.old.bottoms.known.count) other.bottoms.known.count shared.now other }
     requires below { other.bottoms.known.first < 64 }
     ensures { Unites shared.now seats.old other seats.new }
 {

@@ -3,7 +3,7 @@ ghost use Rattle.std.specs.Prelude.{◌≡◌, ◌<◌, length};
 ghost use Rattle.aio_model.specs.LoopHistory.{ToCall};
 ghost use Rattle.aio_bh.specs.Enqueuing.{Schedules};
 ghost use Rattle.aio_notify.specs.Setting.{SetsAndNotifies};
-ghost use Rattle.loop_rows.specs.Rows.{IsAt, IsRow, HasNumbers};
+ghost use Rattle.loop_rows.specs.Rows.{AreSeatsOf, IsRow, HasNumbers};
 ghost use Rattle.loop_rows.specs.Stepping.{OthersStay, SchedulesAt, SetsAt, CoroutinesStay};
 
 use crate::rows::Row;
@@ -21,8 +21,8 @@ fn schedule_at<C: Origin + Drop, R: Wait>(
     shared: &LoopShared<C>,
     seats: &mut Seats<C>,
 ) -> Flags
-    requires seats { IsAt seats.old.bottoms.known.first seats.old.bottoms.known.count shared.now seats.old }
-    ensures seats { IsAt seats.old.bottoms.known.first seats.old.bottoms.known.count shared.now seats.new }
+    requires seats { AreSeatsOf seats.old.bottoms.known.first seats.old.bottoms.known.count shared.now seats.old }
+    ensures seats { AreSeatsOf seats.old.bottoms.known.first seats.old.bottoms.known.count shared.now seats.new }
     ensures schedules { Schedules 0 ToCall result seats.old.bottoms.known seats.new.bottoms.known }
     ensures same { seats.new.coroutines ≡ seats.old.coroutines }
 {
@@ -31,8 +31,8 @@ fn schedule_at<C: Origin + Drop, R: Wait>(
 
 /// Sets event 0, and lets the loop's home know.
 fn set_event_at<C: Origin + Drop>(shared: &LoopShared<C>, seats: &mut Seats<C>)
-    requires seats { IsAt seats.old.bottoms.known.first seats.old.bottoms.known.count shared.now seats.old }
-    ensures seats { IsAt seats.old.bottoms.known.first seats.old.bottoms.known.count shared.now seats.new }
+    requires seats { AreSeatsOf seats.old.bottoms.known.first seats.old.bottoms.known.count shared.now seats.old }
+    ensures seats { AreSeatsOf seats.old.bottoms.known.first seats.old.bottoms.known.count shared.now seats.new }
     ensures sets { SetsAndNotifies 0 seats.old.bottoms.known seats.new.bottoms.known }
     ensures same { seats.new.coroutines ≡ seats.old.coroutines }
 {

@@ -1,7 +1,7 @@
 //! Runs of one to sixteen loops.
 ghost use Rattle.std.specs.Prelude.{◌≡◌, ◌≤◌, IfOk, length, vec_len};
 ghost use Rattle.loop_rows.specs.Rows.{IsRow, HasNumbers};
-ghost use Rattle.loop_thread_tests.specs.Walkers.{HaveRoom};
+ghost use Rattle.loop_thread_tests.specs.Walkers.{HaveRoomForWalkers};
 
 use crate::walkers::{Ring, Walker};
 use aio_model::Cause;
@@ -32,7 +32,7 @@ fn clocks(alloc: Global, loops: usize) -> Result<Vec<StepClock>, Fail>
 fn post_all<R: Wait>(rt: &R, shared: &[LoopShared<Walker>], row: &mut Row<Walker>) -> usize
     requires row { IsRow shared.now row.old }
     requires few { length shared.now ≤ 16 }
-    requires room { HaveRoom shared.now }
+    requires room { HaveRoomForWalkers shared.now }
     ensures { IsRow shared.now row.new × HasNumbers row.old.first row.old.count row.new }
 {
     let mut posted: usize = 0;

@@ -9,7 +9,7 @@ use Rattle.loop_threads.specs.declared.parts.Part.{Part}
 use Rattle.loop_rows.specs.LoopStates.{LoopState, IsStation}
 use Rattle.loop_rows.specs.Rows.{IsRow, HasNumbers}
 use Rattle.loop_rows.specs.Opening.{AreHomesOf}
-use Rattle.loop_threads.specs.Parts.{IsPart, loop_of}
+use Rattle.loop_threads.specs.Parts.{IsLoopPart, loop_of}
 use Rattle.loop_threads.specs.Running.{CanBegin}
 use Rattle.loop_rows.proofs.Places.{at_push, longer}
 use Rattle.loop_threads.proofs.Membership.{taken_last}
@@ -35,7 +35,7 @@ part_of number homes hand row =
     record { number = number; home = homes.home; side = hand.side; lot_pass = homes.lot_pass; coroutines = homes.coroutines; row = row; work = hand.work; carried = false }
 
 pub part_begins : {C W O : Type 0} (can_work : W → List (LoopShared C O) → LoopState C O → Type 0) (shared : List (LoopShared C O)) (number : ℕ) (homes : Homes C O) (hand : Hand W) (row : Row C O) → number < length shared → ((t : LoopShared C O) → AreHomesOf (slice_index_or shared number t) homes)
-    → CanBegin can_work shared number homes hand → IsRow shared row → HasNumbers ((64 - 2 * length shared) + 2 * number) 2 row → (part : Part C W O) → part ≡ part_of number homes hand row → IsPart can_work shared part
+    → CanBegin can_work shared number homes hand → IsRow shared row → HasNumbers ((64 - 2 * length shared) + 2 * number) 2 row → (part : Part C W O) → part ≡ part_of number homes hand row → IsLoopPart can_work shared part
 part_begins {C} {W} {O} can_work shared number homes hand row lt are can is has part e =
     let station : IsStation shared (loop_of (part_of number homes hand row)) = record { within = lt; home = λ t. (are t).home; walking = can.walking; lots = λ t. (are t).lots; coroutines = λ t. (are t).coroutines; row = is } in
-    subst (IsPart can_work shared) (sym e) (record { station = station; numbers = has; ready = can.ready (loop_of (part_of number homes hand row)) refl refl refl refl refl station })
+    subst (IsLoopPart can_work shared) (sym e) (record { station = station; numbers = has; ready = can.ready (loop_of (part_of number homes hand row)) refl refl refl refl refl station })

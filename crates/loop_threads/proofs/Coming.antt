@@ -4,11 +4,11 @@ use Rattle.std.proofs.lemmas.List.{get_or_at, get_or_default}
 use Rattle.loop_rows.specs.declared.shared.LoopShared.{LoopShared}
 use Rattle.loop_threads.specs.declared.parts.Part.{Part}
 use Rattle.loop_rows.specs.LoopStates.{LoopState}
-use Rattle.loop_threads.specs.Parts.{IsPart, AllParts, HaveEnded, TakesTurn, TakesTurns, ComesFrom, IsCarried, AllComeFrom, AllComeReversed, AllCarried}
+use Rattle.loop_threads.specs.Parts.{IsLoopPart, AllParts, HaveEnded, TakesTurn, TakesTurns, ComesFrom, IsCarried, AllComeFrom, AllComeReversed, AllCarried}
 use Rattle.loop_rows.proofs.Places.{at_push, longer}
 
 module _ {C W O : Type 0} (can_work : W → List (LoopShared C O) → LoopState C O → Type 0) (does : List (LoopShared C O) → W → LoopState C O → Bool → W → LoopState C O → Type 0) (shared : List (LoopShared C O)) where
-  pub comes_here : (part : Part C W O) → IsPart can_work shared part → ComesFrom can_work does shared part part
+  pub comes_here : (part : Part C W O) → IsLoopPart can_work shared part → ComesFrom can_work does shared part part
   comes_here part is = record { part = is; number_is = refl; turns = []; takes = refl }
 
   pub comes_on : {before mid after : Part C W O} → ComesFrom can_work does shared before mid → TakesTurn can_work does shared mid after → ComesFrom can_work does shared before after

@@ -4,21 +4,21 @@ use Rattle.std.proofs.lemmas.List.{get_or_at, get_or_append_left}
 use Rattle.loop_rows.specs.declared.shared.LoopShared.{LoopShared}
 use Rattle.loop_threads.specs.declared.parts.Part.{Part}
 use Rattle.loop_rows.specs.LoopStates.{LoopState}
-use Rattle.loop_threads.specs.Parts.{IsPart, AllParts, IsCarried, AllCarried}
+use Rattle.loop_threads.specs.Parts.{IsLoopPart, AllParts, IsCarried, AllCarried}
 use Rattle.loop_rows.proofs.Places.{at_push, at_last, at_front, both_pushed, longer}
 
 module _ {C W O : Type 0} (can_work : W → List (LoopShared C O) → LoopState C O → Type 0) (does : List (LoopShared C O) → W → LoopState C O → Bool → W → LoopState C O → Type 0) (shared : List (LoopShared C O)) where
-  pub parts_popped : (all rest : List (Part C W O)) (v : Part C W O) → all ≡ rest ++ v ∷ [] → AllParts can_work shared all → AllParts can_work shared rest × IsPart can_work shared v
+  pub parts_popped : (all rest : List (Part C W O)) (v : Part C W O) → all ≡ rest ++ v ∷ [] → AllParts can_work shared all → AllParts can_work shared rest × IsLoopPart can_work shared v
   parts_popped all rest v e parts =
       let n = longer all rest v e in (
-        (λ k p lt. at_front (λ (j : ℕ) (x : Part C W O). IsPart can_work shared x) all rest v e k p lt (parts k p (omega (arith, lt, n)))),
-        at_last (λ (j : ℕ) (x : Part C W O). IsPart can_work shared x) all rest (length rest) v e refl (parts (length rest) v (omega (arith, n))),
+        (λ k p lt. at_front (λ (j : ℕ) (x : Part C W O). IsLoopPart can_work shared x) all rest v e k p lt (parts k p (omega (arith, lt, n)))),
+        at_last (λ (j : ℕ) (x : Part C W O). IsLoopPart can_work shared x) all rest (length rest) v e refl (parts (length rest) v (omega (arith, n))),
       )
 
-  pub parts_pushed : (all xs : List (Part C W O)) (v : Part C W O) → all ≡ xs ++ v ∷ [] → AllParts can_work shared xs → IsPart can_work shared v → AllParts can_work shared all
+  pub parts_pushed : (all xs : List (Part C W O)) (v : Part C W O) → all ≡ xs ++ v ∷ [] → AllParts can_work shared xs → IsLoopPart can_work shared v → AllParts can_work shared all
   parts_pushed all xs v e parts here k p lt =
-      subst (λ (l : List (Part C W O)). IsPart can_work shared (slice_index_or l k p)) (sym e)
-      (at_push (λ (j : ℕ) (x : Part C W O). IsPart can_work shared x) xs (length xs) v refl here k p (omega (arith, lt, longer all xs v e)) (λ low. parts k p low))
+      subst (λ (l : List (Part C W O)). IsLoopPart can_work shared (slice_index_or l k p)) (sym e)
+      (at_push (λ (j : ℕ) (x : Part C W O). IsLoopPart can_work shared x) xs (length xs) v refl here k p (omega (arith, lt, longer all xs v e)) (λ low. parts k p low))
 
   -- one more of the waiting, which is the last of them, is done
   pub carried_pushed : (waiting rest all done : List (Part C W O)) (v part : Part C W O) → waiting ≡ rest ++ v ∷ [] → all ≡ done ++ part ∷ [] → length done ≡ length rest → AllCarried can_work does shared (length rest) rest done → IsCarried can_work does shared v part → AllCarried can_work does shared (length waiting) waiting all

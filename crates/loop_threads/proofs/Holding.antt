@@ -11,8 +11,8 @@ use Rattle.aio_core.specs.Known.{Known, numbers_of}
 use Rattle.co_schedule.specs.Known.{Known as CoKnown, numbers_of as co_numbers_of}
 use Rattle.loop_rows.specs.declared.shared.LoopShared.{LoopShared}
 use Rattle.loop_rows.specs.declared.seats.Seats.{Seats}
-use Rattle.loop_rows.specs.Rows.{IsAt, Unites}
-use Rattle.loop_threads.specs.Within.{IsWithin, HaveOwn}
+use Rattle.loop_rows.specs.Rows.{AreSeatsOf, Unites}
+use Rattle.loop_threads.specs.Within.{IsSeenWithin, HaveOwn}
 
 owned_among : (first count low high k : ℕ) → low ≤ first → first + count ≤ high → (not (ltb k first)) ≡ true → ltb k (first + count) ≡ true → ((not (ltb k low)) ≡ true) × (ltb k high ≡ true)
 owned_among first count low high k l h from below =
@@ -40,11 +40,11 @@ pub part_of_part : {A : Type 0} (xs ys zs : List A) (r q : List A) → ys ≡ r 
 part_of_part xs ys zs r q e f = f ∙ (ap (λ l. q ++ l) e ∙ sym (append_assoc q r xs))
 
 module _ {C O : Type 0} {shared : LoopShared C O} {before other after : Seats C O} where
-  pub just_joined : Unites shared before other after → IsWithin other after
+  pub just_joined : Unites shared before other after → IsSeenWithin other after
   just_joined unites =
       record { seen = unites.parts.joined; made = unites.parts.made_by_joining; co_seen = unites.co_parts.joined; co_made = unites.co_parts.made_by_joining }
 
-  pub stayed_within : Unites shared before other after → IsWithin before after
+  pub stayed_within : Unites shared before other after → IsSeenWithin before after
   stayed_within unites =
       record { seen = unites.parts.stayed; made = unites.parts.made_by_staying; co_seen = unites.co_parts.stayed; co_made = unites.co_parts.made_by_staying }
 
@@ -55,7 +55,7 @@ module _ {C O : Type 0} {shared : LoopShared C O} {before other after : Seats C 
   }
 
   -- one that was joined before
-  pub within_still : {part : Seats C O} (first count low high : ℕ) (t : LoopShared C O) → IsAt first count t part → IsAt low high shared before → low ≤ first → first + count ≤ low + high → IsWithin part before → HaveOwn before → Unites shared before other after → IsWithin part after
+  pub within_still : {part : Seats C O} (first count low high : ℕ) (t : LoopShared C O) → AreSeatsOf first count t part → AreSeatsOf low high shared before → low ≤ first → first + count ≤ low + high → IsSeenWithin part before → HaveOwn before → Unites shared before other after → IsSeenWithin part after
   within_still {part} first count low high t at is l h within own unites =
       let stayed = unites.parts.stayed in
       let co_stayed = unites.co_parts.stayed in

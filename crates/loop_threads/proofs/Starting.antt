@@ -11,7 +11,7 @@ use Rattle.loop_rows.specs.LoopStates.{LoopState, IsStation}
 use Rattle.loop_rows.specs.Opening.{NewEach}
 use Rattle.loop_rows.proofs.Places.{at_push, some_of}
 use Rattle.co_loop.specs.declared.working.CoWork.{CoWork}
-use Rattle.co_loop.specs.Working.{CanStart, CanWork}
+use Rattle.co_loop.specs.Working.{CrewCanStart, CanWork}
 use Rattle.co_loop.proofs.Stationed.{nobody_works}
 use Rattle.loop_threads.specs.declared.hands.Hand.{Hand}
 use Rattle.loop_threads.specs.Hands.{IsNewHand, AreNewHands}
@@ -22,7 +22,7 @@ empty_run room = record { room = room; cos = [] }
 
 module _ {C K O : Type 0} (coroutines : ℕ) (origin : O) (shared : List (LoopShared C O)) (homes : List (Homes C O)) (seats : List (Seats C O)) where
   can_start : (own : ℕ) (clock : K) (h : Homes C O) (hand : Hand (CoWork C K O)) (loop : LoopState C O) → own < length shared → IsNewHand own coroutines origin clock hand → NewEach (length shared) coroutines origin shared homes seats → loop.number ≡ own → loop.side ≡ hand.side → loop.coroutines ≡ (slice_index_or homes own h).coroutines → IsStation shared loop
-      → CanStart origin shared loop hand.work.crew hand.work.run
+      → CrewCanStart origin shared loop hand.work.crew hand.work.run
   can_start own clock h hand loop lt new each number side co_home station =
       let work = new.work in
       let row = station.row in

@@ -10,12 +10,12 @@ use Rattle.co_schedule.specs.Known.{Known as CoKnown, numbers_of as co_numbers_o
 use Rattle.co_schedule.specs.Calls.{EndState, Ends}
 use Rattle.loop_rows.specs.declared.shared.LoopShared.{LoopShared}
 use Rattle.loop_rows.specs.declared.seats.Seats.{Seats}
-use Rattle.loop_rows.specs.Rows.{IsAt}
-use Rattle.loop_threads.specs.Within.{IsWithin, StandsIn, HaveOwn}
+use Rattle.loop_rows.specs.Rows.{AreSeatsOf}
+use Rattle.loop_threads.specs.Within.{IsSeenWithin, StandsIn, HaveOwn}
 use Rattle.loop_threads.proofs.Holding.{still_made, fewer, part_of_part}
 
-pub ended_keeps : {C O : Type 0} {shared : LoopShared C O} {seats : Seats C O} {home end : Known} {co_home : CoKnown} {co_end : EndState} → EndsQuiet seats.bottoms.known home end → Ends shared.coroutines co_home seats.coroutines.known co_end → IsAt 0 64 shared seats → HaveOwn seats
-    → (part : Seats C O) (first count : ℕ) → IsAt first count shared part → first + count ≤ 64 → IsWithin part seats → StandsIn part end.seen co_end.history
+pub ended_keeps : {C O : Type 0} {shared : LoopShared C O} {seats : Seats C O} {home end : Known} {co_home : CoKnown} {co_end : EndState} → EndsQuiet seats.bottoms.known home end → Ends shared.coroutines co_home seats.coroutines.known co_end → AreSeatsOf 0 64 shared seats → HaveOwn seats
+    → (part : Seats C O) (first count : ℕ) → AreSeatsOf first count shared part → first + count ≤ 64 → IsSeenWithin part seats → StandsIn part end.seen co_end.history
 ended_keeps {C} {O} {shared} {seats} {home} {end} {co_home} {co_end} quiet ended is own part first count at h within =
     let whole = quiet.is_whole.parts in
     let co_whole = ended.whole in

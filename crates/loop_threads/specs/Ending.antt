@@ -12,8 +12,8 @@ use Rattle.loop_threads.specs.declared.members.Member.{Member}
 use Rattle.loop_threads.specs.declared.ending.LoopRun.{LoopRun}
 use Rattle.loop_threads.specs.declared.ending.Rest.{Rest}
 use Rattle.loop_threads.specs.declared.ending.Last.{Last}
-use Rattle.loop_rows.specs.Rows.{IsAt, EachAt}
-use Rattle.loop_threads.specs.Within.{IsWithin, StandsIn, HaveOwn, OwnEach}
+use Rattle.loop_rows.specs.Rows.{AreSeatsOf, EachAt}
+use Rattle.loop_threads.specs.Within.{IsSeenWithin, StandsIn, HaveOwn, OwnEach}
 use Rattle.loop_threads.specs.Members.{IsMemberOf, MembersEach}
 
 -- a commit that watches no event and has no deadline let home sleep
@@ -27,7 +27,7 @@ pub record FallsAsleep (table : TableState) (before after : SeatState) : Type 0 
 -- what stands within the seats stands in both whole histories, whatever numbers below 64 it has
 abbrev pub KeepsMade : {C W O : Type 0} → LoopShared C O → Seats C O → LoopRun C W O → Type 0
 KeepsMade {C} {W} {O} shared seats run =
-    (part : Seats C O) (first count : ℕ) → IsAt first count shared part → first + count ≤ 64 → IsWithin part seats → StandsIn part run.calls.known.seen run.coroutines.history
+    (part : Seats C O) (first count : ℕ) → AreSeatsOf first count shared part → first + count ≤ 64 → IsSeenWithin part seats → StandsIn part run.calls.known.seen run.coroutines.history
 
 -- Home fell asleep, took in all numbers, and found nothing pending and no event set; no coroutine is left in the list. Both histories
 -- are whole: each of the two seats that were joined has seen a part of it, in which just its own entries stand under its numbers.
@@ -60,5 +60,5 @@ pub record IsLast {C W O : Type 0} (before after : Rest C W O) (last : Last C W 
   pub member_is : before.members.items ≡ after.members.items ++ last.member ∷ []
   pub seats_are : before.seats.items ≡ after.seats.items ++ last.seats ∷ []
   pub member : IsMemberOf last.shared last.member
-  pub seats : IsAt 0 64 last.shared last.seats
+  pub seats : AreSeatsOf 0 64 last.shared last.seats
   pub own : HaveOwn last.seats

@@ -23,20 +23,20 @@ HaveEnded {C} {W} {O} parts =
 -- `can_work`: what the work of a part needs before each turn
 module _ {C W O : Type 0} (can_work : W → List (LoopShared C O) → LoopState C O → Type 0) where
   -- The row has two numbers, in the order of the loops; the caller of the run has those before.
-  pub record IsPart (shared : List (LoopShared C O)) (part : Part C W O) : Type 0 where
+  pub record IsLoopPart (shared : List (LoopShared C O)) (part : Part C W O) : Type 0 where
     pub station : IsStation shared (loop_of part)
     pub numbers : HasNumbers ((64 - 2 * length shared) + 2 * part.number) 2 part.row
     pub ready : can_work part.work shared (loop_of part)
 
   abbrev pub AllParts : List (LoopShared C O) → List (Part C W O) → Type 0
   AllParts shared parts =
-      (k : ℕ) (p : Part C W O) → k < length parts → IsPart shared (slice_index_or parts k p)
+      (k : ℕ) (p : Part C W O) → k < length parts → IsLoopPart shared (slice_index_or parts k p)
 
 -- `does`: what a turn does, and whether the run has ended by it
 module _ {C W O : Type 0} (can_work : W → List (LoopShared C O) → LoopState C O → Type 0) (does : List (LoopShared C O) → W → LoopState C O → Bool → W → LoopState C O → Type 0) where
   -- one turn was given to it
   pub record TakesTurn (shared : List (LoopShared C O)) (before after : Part C W O) : Type 0 where
-    pub part : IsPart can_work shared after
+    pub part : IsLoopPart can_work shared after
     pub number_is : after.number ≡ before.number
     pub did : does shared before.work (loop_of before) after.carried after.work (loop_of after)
 
@@ -48,7 +48,7 @@ module _ {C W O : Type 0} (can_work : W → List (LoopShared C O) → LoopState 
 
   -- a part that came from this one by turns alone
   pub record ComesFrom (shared : List (LoopShared C O)) (before after : Part C W O) : Type 0 where
-    pub part : IsPart can_work shared after
+    pub part : IsLoopPart can_work shared after
     pub number_is : after.number ≡ before.number
     pub turns : List (Part C W O)
     pub takes : TakesTurns shared turns before after

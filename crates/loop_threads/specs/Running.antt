@@ -16,7 +16,7 @@ use Rattle.loop_threads.specs.Parts.{AllParts, InReverse, IsCarried}
 use Rattle.loop_threads.specs.Members.{IsOfPart}
 
 -- a part as it begins: the homes and the hand of its loop, whose run hasn't ended
-pub record Begins {C W O : Type 0} (homes : Homes C O) (hand : Hand W) (part : Part C W O) : Type 0 where
+pub record BeginsRun {C W O : Type 0} (homes : Homes C O) (hand : Hand W) (part : Part C W O) : Type 0 where
   pub home_is : part.home ≡ homes.home
   pub lots_are : part.lot_pass ≡ homes.lot_pass
   pub coroutines_are : part.coroutines ≡ homes.coroutines
@@ -27,7 +27,7 @@ pub record Begins {C W O : Type 0} (homes : Homes C O) (hand : Hand W) (part : P
 -- the last of so many begins as the first of the homes and hands, and so on
 abbrev pub BeginEach : {C W O : Type 0} → ℕ → List (Homes C O) → List (Hand W) → List (Part C W O) → Type 0
 BeginEach {C} {W} {O} n homes hands parts =
-    (k j : ℕ) (h : Homes C O) (d : Hand W) (p : Part C W O) → k + j + 1 ≡ n → Begins (slice_index_or homes k h) (slice_index_or hands k d) (slice_index_or parts j p)
+    (k j : ℕ) (h : Homes C O) (d : Hand W) (p : Part C W O) → k + j + 1 ≡ n → BeginsRun (slice_index_or homes k h) (slice_index_or hands k d) (slice_index_or parts j p)
 
 -- the rows of the first so many parts have seen what these seats had, and made what they own of it
 abbrev pub PartsSee : {C W O : Type 0} → ℕ → ℕ → List (Seats C O) → List (Part C W O) → Type 0
@@ -35,7 +35,7 @@ PartsSee {C} {W} {O} n loops whole parts =
     (j : ℕ) (p : Part C W O) → j < n → RowSees loops whole (slice_index_or parts j p).row.seats.items
 
 -- there is room for each of so many, and nothing there
-pub record HasRoom {C W O : Type 0} (n : ℕ) (prepared : Prepared C W O) : Type 0 where
+pub record PartsHaveRoom {C W O : Type 0} (n : ℕ) (prepared : Prepared C W O) : Type 0 where
   pub flags : n ≤ vec_len prepared.handed_back
   pub left : (vec_len prepared.left ≡ 0) × (n ≤ vec_capacity prepared.left)
   pub other : (vec_len prepared.other ≡ 0) × (n ≤ vec_capacity prepared.other)
@@ -61,7 +61,7 @@ module _ {C W O : Type 0} (can_work : W → List (LoopShared C O) → LoopState 
     pub parts : AllParts can_work shared prepared.parts.items
     pub reversed : InReverse prepared.parts.items
     pub mine : IsRow shared prepared.mine × HasNumbers 0 (64 - 2 * length shared) prepared.mine
-    pub room : HasRoom (length shared) prepared
+    pub room : PartsHaveRoom (length shared) prepared
 
 module _ {C W O : Type 0} (can_work : W → List (LoopShared C O) → LoopState C O → Type 0) (does : List (LoopShared C O) → W → LoopState C O → Bool → W → LoopState C O → Type 0) where
   -- The loop was carried from this part to its end. What its thread had seen and made on each table then stands in what the row of all

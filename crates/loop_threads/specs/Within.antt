@@ -11,7 +11,7 @@ use Rattle.loop_threads.specs.declared.parts.Part.{Part}
 
 -- What the first have seen of both histories is a part of what the second have seen, in which just their own entries stand under their
 -- numbers.
-pub record IsWithin {C O : Type 0} (part whole : Seats C O) : Type 0 where
+pub record IsSeenWithin {C O : Type 0} (part whole : Seats C O) : Type 0 where
   pub seen : IsPart part.bottoms.known.seen whole.bottoms.known.seen
   pub made : own_entries seat_of (numbers_of part.bottoms.known) whole.bottoms.known.seen ≡ part.bottoms.known.mine
   pub co_seen : IsPart part.coroutines.known.seen whole.coroutines.known.seen
@@ -20,7 +20,7 @@ pub record IsWithin {C O : Type 0} (part whole : Seats C O) : Type 0 where
 -- of so many loops, each seat of the first row is within that of the second
 abbrev pub RowWithin : {C O : Type 0} → ℕ → List (Seats C O) → List (Seats C O) → Type 0
 RowWithin {C} {O} loops part whole =
-    (t : ℕ) (s w : Seats C O) → t < loops → IsWithin (slice_index_or part t s) (slice_index_or whole t w)
+    (t : ℕ) (s w : Seats C O) → t < loops → IsSeenWithin (slice_index_or part t s) (slice_index_or whole t w)
 
 -- the same for the rows of these parts
 abbrev pub RowsWithin : {C W O : Type 0} → ℕ → ℕ → ℕ → List (Part C W O) → List (Seats C O) → Type 0

@@ -1,8 +1,8 @@
 //! One thread for each loop. A loop for which none can be started is carried by the caller, in rounds of turns that don't block.
 ghost use Rattle.std.specs.Prelude.{◌≡◌, ◌<◌, ◌≤◌, ◌+◌, length, true, vec_len, vec_capacity};
-ghost use Rattle.co_loop.specs.Rows.{AreOf};
+ghost use Rattle.co_loop.specs.Rows.{AreOfOrigin};
 ghost use Rattle.co_loop.specs.Working.{CanWork, Works};
-ghost use Rattle.loop_threads.specs.Parts.{IsPart, ComesFrom, IsCarried, AllParts, AllComeReversed, AllCarried, HaveEnded};
+ghost use Rattle.loop_threads.specs.Parts.{IsLoopPart, ComesFrom, IsCarried, AllParts, AllComeReversed, AllCarried, HaveEnded};
 
 use crate::parts::Part;
 use aio_words::Clock;
@@ -19,8 +19,8 @@ pub(crate) fn carry<C: Co<E> + Drop, E, R: Wait, K: Clock + Drop>(
     shared: &[LoopShared<C>],
     part: Part<C, CoWork<C, K>>,
 ) -> Part<C, CoWork<C, K>>
-    requires lent { AreOf (C.source_of env.now) shared.now }
-    requires part { IsPart (CanWork C.is_of) shared.now part }
+    requires lent { AreOfOrigin (C.source_of env.now) shared.now }
+    requires part { IsLoopPart (CanWork C.is_of) shared.now part }
     ensures { IsCarried (CanWork C.is_of) (Works E R C.is_of C.resumes K.time) shared.now part result }
 {
     let mut part = part;
@@ -41,8 +41,8 @@ fn step<C: Co<E> + Drop, E, R: Wait, K: Clock + Drop>(
     part: Part<C, CoWork<C, K>>,
     again: bool,
 ) -> Part<C, CoWork<C, K>>
-    requires lent { AreOf (C.source_of env.now) shared.now }
-    requires part { IsPart (CanWork C.is_of) shared.now part }
+    requires lent { AreOfOrigin (C.source_of env.now) shared.now }
+    requires part { IsLoopPart (CanWork C.is_of) shared.now part }
     ensures { ComesFrom (CanWork C.is_of) (Works E R C.is_of C.resumes K.time) shared.now part result }
 {
     if part.carried && !again {
@@ -60,7 +60,7 @@ fn step_each<C: Co<E> + Drop, E, R: Wait, K: Clock + Drop>(
     to: &mut Vec<Part<C, CoWork<C, K>>>,
     again: bool,
 )
-    requires lent { AreOf (C.source_of env.now) shared.now }
+    requires lent { AreOfOrigin (C.source_of env.now) shared.now }
     requires parts { AllParts (CanWork C.is_of) shared.now from.old.items }
     requires empty { vec_len to.old ≡ 0 }
     requires room { vec_len from.old ≤ vec_capacity to.old }
@@ -94,7 +94,7 @@ pub(crate) fn carry_left<C: Co<E> + Drop, E, R: Wait, K: Clock + Drop>(
     left: &mut Vec<Part<C, CoWork<C, K>>>,
     other: &mut Vec<Part<C, CoWork<C, K>>>,
 )
-    requires lent { AreOf (C.source_of env.now) shared.now }
+    requires lent { AreOfOrigin (C.source_of env.now) shared.now }
     requires parts { AllParts (CanWork C.is_of) shared.now left.old.items }
     requires empty { vec_len other.old ≡ 0 }
     requires room { vec_len left.old ≤ vec_capacity other.old }
@@ -122,7 +122,7 @@ pub(crate) fn quieten<C: Co<E> + Drop, E, R: Wait, K: Clock + Drop>(
     parts: &mut Vec<Part<C, CoWork<C, K>>>,
     other: &mut Vec<Part<C, CoWork<C, K>>>,
 )
-    requires lent { AreOf (C.source_of env.now) shared.now }
+    requires lent { AreOfOrigin (C.source_of env.now) shared.now }
     requires parts { AllParts (CanWork C.is_of) shared.now parts.old.items }
     requires empty { vec_len other.old ≡ 0 }
     requires room { vec_len parts.old ≤ vec_capacity other.old }

@@ -6,7 +6,7 @@ ghost use Rattle.aio_notify.specs.Settling.{is_committed, EndsQuiet};
 ghost use Rattle.aio_core.specs.Calls.{IsSeatOf};
 ghost use Rattle.aio_loop.specs.Homes.{IsHomeFree};
 ghost use Rattle.co_schedule.specs.Calls.{IsSeatOf as IsCoSeatOf, Ends};
-ghost use Rattle.loop_rows.specs.Rows.{IsAt, IsRow, HasNumbers};
+ghost use Rattle.loop_rows.specs.Rows.{AreSeatsOf, IsRow, HasNumbers};
 ghost use Rattle.loop_threads.specs.Within.{HaveOwn, OwnEach};
 ghost use Rattle.loop_threads.specs.Members.{MembersEach};
 ghost use Rattle.loop_threads.specs.Ending.{IsRest, IsLast, EndsLoop, EndsEach, FallsAsleep};
@@ -94,7 +94,7 @@ pub(crate) fn end_loop<C: Origin + Drop, W: Drop, R: Wait>(
 ) -> LoopRun<C, W>
     requires home { IsHomeFree shared.bottoms member.home.seat }
     requires coroutines { IsCoSeatOf shared.coroutines member.coroutines }
-    requires seats { IsAt 0 64 shared seats }
+    requires seats { AreSeatsOf 0 64 shared seats }
     requires own { HaveOwn seats }
     ensures { EndsLoop shared member seats result }
 {

@@ -1,8 +1,8 @@
 //! A part of a run: one loop with all that its thread owns.
 ghost use Rattle.std.specs.Prelude.{◌≡◌, false};
-ghost use Rattle.co_loop.specs.Rows.{AreOf};
+ghost use Rattle.co_loop.specs.Rows.{AreOfOrigin};
 ghost use Rattle.co_loop.specs.Working.{CanWork, Works};
-ghost use Rattle.loop_threads.specs.Parts.{IsPart, TakesTurn};
+ghost use Rattle.loop_threads.specs.Parts.{IsLoopPart, TakesTurn};
 
 use aio_bh::LotPass;
 use aio_core::Home;
@@ -39,8 +39,8 @@ impl<C: Origin + Drop, K: Clock + Drop> Part<C, CoWork<C, K>> {
     ) -> Part<C, CoWork<C, K>>
     where
         C: Co<E>,
-        requires lent { AreOf (C.source_of env.now) shared.now }
-        requires part { IsPart (CanWork C.is_of) shared.now self }
+        requires lent { AreOfOrigin (C.source_of env.now) shared.now }
+        requires part { IsLoopPart (CanWork C.is_of) shared.now self }
         ensures { TakesTurn (CanWork C.is_of) (Works E R C.is_of C.resumes K.time) shared.now self result }
     {
         let Part {

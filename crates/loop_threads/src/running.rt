@@ -1,6 +1,6 @@
 //! The run.
 ghost use Rattle.std.specs.Prelude.{◌≡◌, ◌<◌, ◌≤◌, length, vec_len, vec_capacity};
-ghost use Rattle.co_loop.specs.Rows.{AreOf};
+ghost use Rattle.co_loop.specs.Rows.{AreOfOrigin};
 ghost use Rattle.co_loop.specs.Working.{CanWork, Works};
 ghost use Rattle.loop_threads.specs.Members.{MembersEach};
 ghost use Rattle.loop_threads.specs.Within.{OwnEach, RowWithin};
@@ -31,7 +31,7 @@ impl<C: Origin + Drop + Send, K: Clock + Drop + Send> Prepared<C, CoWork<C, K>> 
     ) -> Joined<C, CoWork<C, K>>
     where
         C: Co<E>,
-        requires lent { AreOf (C.source_of env.now) shared.now }
+        requires lent { AreOfOrigin (C.source_of env.now) shared.now }
         requires prepared { IsPrepared (CanWork C.is_of) shared.now self }
         ensures row { IsRow shared.now result.row × HasNumbers 0 64 result.row }
         ensures own { OwnEach (length shared.now) result.row.seats.items }

@@ -1,8 +1,8 @@
 //! The start of the threads, and their joining. The caller holds their handles on its stack: no memory is taken.
 ghost use Rattle.std.specs.Prelude.{◌≡◌, ◌<◌, ◌≤◌, ◌+◌, length, vec_len, vec_capacity};
-ghost use Rattle.co_loop.specs.Rows.{AreOf};
+ghost use Rattle.co_loop.specs.Rows.{AreOfOrigin};
 ghost use Rattle.co_loop.specs.Working.{CanWork, Works};
-ghost use Rattle.loop_threads.specs.Parts.{IsPart, ComesFrom, IsCarried, AllParts, AllCarried};
+ghost use Rattle.loop_threads.specs.Parts.{IsLoopPart, ComesFrom, IsCarried, AllParts, AllCarried};
 
 use crate::carrying::{carry, carry_left};
 use crate::parts::Part;
@@ -41,8 +41,8 @@ fn carry_unless<C: Co<E> + Drop, E, R: Wait, K: Clock + Drop>(
     handed_back: &AtomicBool,
     part: Part<C, CoWork<C, K>>,
 ) -> Part<C, CoWork<C, K>>
-    requires lent { AreOf (C.source_of env.now) shared.now }
-    requires part { IsPart (CanWork C.is_of) shared.now part }
+    requires lent { AreOfOrigin (C.source_of env.now) shared.now }
+    requires part { IsLoopPart (CanWork C.is_of) shared.now part }
     ensures { ComesFrom (CanWork C.is_of) (Works E R C.is_of C.resumes K.time) shared.now part result }
 {
     if handed_back.load(Ordering::SeqCst) {
@@ -72,7 +72,7 @@ fn carry_rest<
     other: &mut Vec<Part<C, CoWork<C, K>>>,
     done: &mut Vec<Part<C, CoWork<C, K>>>,
 )
-    requires lent { AreOf (C.source_of env.now) shared.now }
+    requires lent { AreOfOrigin (C.source_of env.now) shared.now }
     requires flags { length shared.now ≤ length handed_back.now }
     requires waiting { AllParts (CanWork C.is_of) shared.now waiting.items }
     requires left { AllParts (CanWork C.is_of) shared.now left.old.items }
@@ -96,7 +96,7 @@ fn carry_rest<
             before,
         },
         move || -> Part<C, CoWork<C, K>>
-            requires { AreOf (C.source_of env.now) shared.now × IsPart (CanWork C.is_of) shared.now part }
+            requires { AreOfOrigin (C.source_of env.now) shared.now × IsLoopPart (CanWork C.is_of) shared.now part }
             ensures { ComesFrom (CanWork C.is_of) (Works E R C.is_of C.resumes K.time) shared.entry.now part result }
         { carry_unless(rt, env, shared, flag, part) },
     );
@@ -154,7 +154,7 @@ pub(crate) fn carry_all<
     other: Vec<Part<C, CoWork<C, K>>>,
     done: Vec<Part<C, CoWork<C, K>>>,
 ) -> Vec<Part<C, CoWork<C, K>>>
-    requires lent { AreOf (C.source_of env.now) shared.now }
+    requires lent { AreOfOrigin (C.source_of env.now) shared.now }
     requires flags { length shared.now ≤ length handed_back.now }
     requires waiting { AllParts (CanWork C.is_of) shared.now waiting.items }
     requires empty { (vec_len left ≡ 0) × (vec_len other ≡ 0) × (vec_len done ≡ 0) }
@@ -165,7 +165,7 @@ pub(crate) fn carry_all<
         thread::scope_env(),
         rt,
         |scope| -> Vec<Part<C, CoWork<C, K>>>
-            requires { AreOf (C.source_of env.now) shared.now × (length shared.now ≤ length handed_back.now) × AllParts (CanWork C.is_of) shared.now waiting.items × (vec_len left ≡ 0) × (vec_len other ≡ 0) × (vec_len done ≡ 0) × (vec_len waiting ≤ vec_capacity left) × (vec_len waiting ≤ vec_capacity other) × (vec_len waiting ≤ vec_capacity done) }
+            requires { AreOfOrigin (C.source_of env.now) shared.now × (length shared.now ≤ length handed_back.now) × AllParts (CanWork C.is_of) shared.now waiting.items × (vec_len left ≡ 0) × (vec_len other ≡ 0) × (vec_len done ≡ 0) × (vec_len waiting ≤ vec_capacity left) × (vec_len waiting ≤ vec_capacity other) × (vec_len waiting ≤ vec_capacity done) }
             ensures { (vec_len result ≡ vec_len waiting) × AllCarried (CanWork C.is_of) (Works E R C.is_of C.resumes K.time) shared.entry.now (vec_len waiting) waiting.items result.items }
         {
             let mut left = left;

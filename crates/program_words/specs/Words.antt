@@ -50,10 +50,10 @@ abbrev pub IsNumber : ℕ → ℕ → ℕ → Type 0
 IsNumber least most n = (least ≤ n) × (n ≤ most)
 
 -- the numbers of a mode are within their bounds
-abbrev pub IsWithin : Mode → Type 0
-IsWithin Image = Unit {0}
-IsWithin Bells = Unit {0}
-IsWithin (Generated n from) = IsNumber 1 4096 n × IsNumber 0 65535 from
+abbrev pub IsModeWithin : Mode → Type 0
+IsModeWithin Image = Unit {0}
+IsModeWithin Bells = Unit {0}
+IsModeWithin (Generated n from) = IsNumber 1 4096 n × IsNumber 0 65535 from
 
 -- the number that so many decimal digits at most stand for, where it lies within these bounds
 abbrev pub number_within : ℕ → ℕ → ℕ → List ℕ → Option ℕ

@@ -1,6 +1,6 @@
 //! What the words ask the program to do.
 ghost use Rattle.std.specs.Prelude.{◌≡◌, map, string_bytes, Option, MatchOption, IfSome, Some, None};
-ghost use Rattle.program_words.specs.Words.{IsNumber, IsWithin, image_key, mode_key, mode_named, mode_said, mode_with, value_said};
+ghost use Rattle.program_words.specs.Words.{IsNumber, IsModeWithin, image_key, mode_key, mode_named, mode_said, mode_with, value_said};
 
 use crate::numbers::{from_said, requests_said};
 use crate::options::{MODE, are_options, image_word, value_said};
@@ -20,7 +20,7 @@ pub enum Mode {
 /// The mode that the words ask for. None exactly where they aren't those that the program takes.
 pub fn mode_said(words: &[String]) -> Option<Mode>
     ensures says { result ≡ mode_said (map string_bytes words.now) }
-    ensures within { IfSome result IsWithin }
+    ensures within { IfSome result IsModeWithin }
 {
     if !are_options(words) {
         return None;
@@ -48,7 +48,7 @@ fn mode_with(words: &[String], mode: Mode, requests: Option<u32>, from: Option<u
     requires requests { IfSome requests (IsNumber 1 4096) }
     requires from { IfSome from (IsNumber 0 65535) }
     ensures says { result ≡ mode_with mode requests from (value_said image_key (map string_bytes words.now)) }
-    ensures within { IfSome result IsWithin }
+    ensures within { IfSome result IsModeWithin }
 {
     match (mode, requests, from) {
         (Mode::Bells, None, None) => match image_word(words) {

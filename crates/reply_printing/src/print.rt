@@ -3,7 +3,7 @@ ghost use Rattle.std.specs.List.{flat_map};
 ghost use Rattle.aio_model.specs.Asked.{asked};
 ghost use Rattle.aio_model.specs.SerialHistory.{asked_name, placed_name, CountsFrom, indices_of, errors_of};
 ghost use Rattle.aio_model.specs.PrintedText.{line_for, line_of, end_line, printed_text};
-ghost use Rattle.aio_script.specs.Printing.{Gathers, Prints};
+ghost use Rattle.aio_script.specs.Printing.{PutsOnPage, Prints};
 ghost use Rattle.reply_printing.specs.Standings.{AreInOrder, HaveStreamsBelow, LeadThroughAll};
 
 use crate::links::Links;
@@ -57,7 +57,7 @@ fn put_replies<K: Sink>(
     requires streams { HaveStreamsBelow 64 lines.now }
     requires order { AreInOrder lines.now served.now }
     requires few { length served.now < 2 ^ 32 }
-    ensures gathers { Gathers (printed_text (asked lines.now) served.now) page.old page.new (K.held sink.old) (K.held sink.new) (K.faults sink.old) (K.faults sink.new) result }
+    ensures gathers { PutsOnPage (printed_text (asked lines.now) served.now) page.old page.new (K.held sink.old) (K.held sink.new) (K.faults sink.old) (K.faults sink.new) result }
     ensures room { length links.new.behind.items ≡ length links.old.behind.items }
 {
     links.link(served);
@@ -76,7 +76,7 @@ fn print_lines<K: Sink>(
     requires room { length served.now ≤ length links.old.behind.items }
     requires streams { HaveStreamsBelow 64 lines.now }
     requires order { AreInOrder lines.now served.now }
-    ensures gathers { Gathers (flat_map (line_for served.now) (asked lines.now)) page.old page.new (K.held sink.old) (K.held sink.new) (K.faults sink.old) (K.faults sink.new) result }
+    ensures gathers { PutsOnPage (flat_map (line_for served.now) (asked lines.now)) page.old page.new (K.held sink.old) (K.held sink.new) (K.faults sink.old) (K.faults sink.new) result }
     ensures room { length links.new.behind.items ≡ length links.old.behind.items }
 {
     for line in lines {
@@ -95,7 +95,7 @@ fn print_one<K: Sink>(
     place: u32,
     request: &Request,
 ) -> Result<(), WriteFault>
-    ensures { Gathers (line_of place placed.now.stream request.now placed.now.reply) page.old page.new (K.held sink.old) (K.held sink.new) (K.faults sink.old) (K.faults sink.new) result }
+    ensures { PutsOnPage (line_of place placed.now.stream request.now placed.now.reply) page.old page.new (K.held sink.old) (K.held sink.new) (K.faults sink.old) (K.faults sink.new) result }
 {
     print_line(sink, page, placed, place, request)
 }
@@ -106,7 +106,7 @@ fn print_last<K: Sink>(
     requests: u32,
     errors: u32,
 ) -> Result<(), WriteFault>
-    ensures { Gathers (end_line requests errors) page.old page.new (K.held sink.old) (K.held sink.new) (K.faults sink.old) (K.faults sink.new) result }
+    ensures { PutsOnPage (end_line requests errors) page.old page.new (K.held sink.old) (K.held sink.new) (K.faults sink.old) (K.faults sink.new) result }
 {
     print_end(sink, page, requests, errors)
 }

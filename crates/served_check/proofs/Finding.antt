@@ -11,13 +11,13 @@ use Rattle.aio_model.specs.declared.scripts.What.TheVariants.{Ask}
 use Rattle.aio_model.specs.Asked.{asked, is_ask, request_named, requests_of}
 use Rattle.served_check.specs.declared.cursors.Cursor.{Cursor}
 use Rattle.served_check.specs.declared.cursors.Cursors.{Cursors}
-use Rattle.served_check.specs.Cursors.{cursor_at, done_at, one_more, is_of, IsNextAt, IsAt, AreAt, AreLinked, IsAsked}
+use Rattle.served_check.specs.Cursors.{cursor_at, done_at, one_more, is_of, IsNextAt, CursorStands, AreAt, AreLinked, IsAsked}
 use Rattle.served_check.proofs.Named.{ask, absent_past, named_at, one_above}
 
 module _ (lines : List Step) (cursors : Cursors) (are_at : AreAt lines cursors) (placed : Placed) (cursor : Cursor)
     (found : cursor ≡ cursor_at cursors placed.stream) (due : placed.index ≡ cursor.done) where
-  at_cursor : IsAt lines placed.stream cursor
-  at_cursor = subst (IsAt lines placed.stream) (sym found) (are_at.at placed.stream)
+  at_cursor : CursorStands lines placed.stream cursor
+  at_cursor = subst (CursorStands lines placed.stream) (sym found) (are_at.at placed.stream)
 
   pub is_due : placed.index ≡ done_at cursors placed.stream
   is_due = due ∙ ap (λ (c : Cursor). c.done) found
@@ -50,7 +50,7 @@ module _ (lines : List Step) (cursors : Cursors) (are_at : AreAt lines cursors) 
         named_next = subst (λ n. request_named (asked lines) placed.stream n ≡ Some request) (at_cursor.above ∙ sym due)
             (named_at lines placed.stream cursor.line request inside asked_here)
 
-        pub at_behind : IsAt lines placed.stream (record { line = slice_index cursors.next.items cursor.line; done = cursor.done + 1 })
+        pub at_behind : CursorStands lines placed.stream (record { line = slice_index cursors.next.items cursor.line; done = cursor.done + 1 })
         at_behind =
             let next : IsNextAt lines placed.stream (cursor.line + 1) (slice_index cursors.next.items cursor.line) =
             are_at.linked.each placed.stream cursor.line (omega arith) inside (at_cursor.asks inside) in
@@ -63,13 +63,13 @@ module _ (lines : List Step) (cursors : Cursors) (are_at : AreAt lines cursors) 
 -- the cursors behind a request that was served
 pub AreAt-set : (lines : List Step) (old new : Cursors) (stream : ℕ) (cursor : Cursor) → new.next ≡ old.next
     → ((other : ℕ) → cursor_at new other ≡ cond (stream == other) cursor (cursor_at old other))
-    → IsAt lines stream cursor → AreAt lines old → AreAt lines new
+    → CursorStands lines stream cursor → AreAt lines old → AreAt lines new
 AreAt-set lines old new stream cursor same is_set behind at = record {
   linked = subst (λ next. AreLinked lines 0 next.items) (sym same) at.linked;
   at = λ other. elim (cases_Bool (stream == other)) [
-    | inl h ↦ subst (IsAt lines other) (sym (is_set other ∙ cond-true (stream == other) cursor (cursor_at old other) h))
-        (subst (λ s. IsAt lines s cursor) (eqb-true stream other h) behind)
-    | inr h ↦ subst (IsAt lines other) (sym (is_set other ∙ cond-false (stream == other) cursor (cursor_at old other) h)) (at.at other)
+    | inl h ↦ subst (CursorStands lines other) (sym (is_set other ∙ cond-true (stream == other) cursor (cursor_at old other) h))
+        (subst (λ s. CursorStands lines s cursor) (eqb-true stream other h) behind)
+    | inr h ↦ subst (CursorStands lines other) (sym (is_set other ∙ cond-false (stream == other) cursor (cursor_at old other) h)) (at.at other)
   ];
 }
 

@@ -1,5 +1,5 @@
 pub mod Finding
-pub mod Going
+pub mod RepliesGoOn
 pub mod Linking
 pub mod Named
 pub mod Serving

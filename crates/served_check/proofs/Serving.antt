@@ -10,17 +10,17 @@ use Rattle.aio_model.specs.SerialHistory.{bytes_left, CountsFrom, indices_of}
 use Rattle.aio_model.proofs.Along.{bytes_left-push}
 use Rattle.served_check.specs.declared.cursors.Cursors.{Cursors}
 use Rattle.served_check.specs.Cursors.{done_at, none_done, AreAt}
-use Rattle.served_check.specs.Judging.{Goes, IsNext, Advances}
-use Rattle.served_check.proofs.Going.{Goes-next, Goes-on, Goes-back}
+use Rattle.served_check.specs.Judging.{RepliesGoOn, IsNext, Advances}
+use Rattle.served_check.proofs.RepliesGoOn.{RepliesGoOn-next, RepliesGoOn-on, RepliesGoOn-back}
 
 module _ (size : ℕ) (lines : List Step) (served : List Placed) (first : List ℕ) where
   pub record SoFar (k : ℕ) (cursors : Cursors) (bytes : List ℕ) : Type 0 where
     pub at : AreAt lines cursors
-    pub on : Goes size (asked lines) none_done first served → Goes size (asked lines) (done_at cursors) bytes (drop k served)
-    pub back : Goes size (asked lines) (done_at cursors) bytes (drop k served) → Goes size (asked lines) none_done first served
+    pub on : RepliesGoOn size (asked lines) none_done first served → RepliesGoOn size (asked lines) (done_at cursors) bytes (drop k served)
+    pub back : RepliesGoOn size (asked lines) (done_at cursors) bytes (drop k served) → RepliesGoOn size (asked lines) none_done first served
     pub left : bytes ≡ bytes_left (asked lines) (take k served) first
 
-  goes_same : (bytes : List ℕ) (done done' : ℕ → ℕ) → ((s : ℕ) → done s ≡ done' s) → Goes size (asked lines) done bytes served → Goes size (asked lines) done' bytes served
+  goes_same : (bytes : List ℕ) (done done' : ℕ → ℕ) → ((s : ℕ) → done s ≡ done' s) → RepliesGoOn size (asked lines) done bytes served → RepliesGoOn size (asked lines) done' bytes served
   goes_same bytes done done' same goes = record {
     fits = goes.fits;
     in_order = λ s. subst (λ n. CountsFrom n (indices_of s served)) (same s) (goes.in_order s);
@@ -46,10 +46,10 @@ module _ (size : ℕ) (lines : List Step) (served : List Placed) (first : List �
         → Advances size (asked lines) placed (done_at cursors) (done_at cursors') bytes bytes' → SoFar (k + 1) cursors' bytes'
     SoFar-next cursors' bytes' at advances = record {
       at = at;
-      on = λ goes. Goes-on size (asked lines) (done_at cursors) bytes placed (drop (k + 1) served) (done_at cursors') bytes' advances
-          (subst (Goes size (asked lines) (done_at cursors) bytes) split (so_far.on goes));
-      back = λ goes. so_far.back (subst (Goes size (asked lines) (done_at cursors) bytes) (sym split)
-          (Goes-back size (asked lines) (done_at cursors) bytes placed (drop (k + 1) served) (done_at cursors') bytes' advances goes));
+      on = λ goes. RepliesGoOn-on size (asked lines) (done_at cursors) bytes placed (drop (k + 1) served) (done_at cursors') bytes' advances
+          (subst (RepliesGoOn size (asked lines) (done_at cursors) bytes) split (so_far.on goes));
+      back = λ goes. so_far.back (subst (RepliesGoOn size (asked lines) (done_at cursors) bytes) (sym split)
+          (RepliesGoOn-back size (asked lines) (done_at cursors) bytes placed (drop (k + 1) served) (done_at cursors') bytes' advances goes));
       left = advances.after
           ∙ ap (bytes_after advances.next.request placed.reply) so_far.left
           ∙ sym (bytes_left-push (asked lines) (take k served) placed advances.next.request first advances.next.named)
@@ -57,9 +57,9 @@ module _ (size : ℕ) (lines : List Step) (served : List Placed) (first : List �
     }
 
     -- the reply isn't one that may come next
-    pub stops : (IsNext size (asked lines) (done_at cursors) bytes placed → ⊥) → IsTrue false ↔ Goes size (asked lines) none_done first served
+    pub stops : (IsNext size (asked lines) (done_at cursors) bytes placed → ⊥) → IsTrue false ↔ RepliesGoOn size (asked lines) none_done first served
     stops other = (
       λ wrong. absurd (false≢true wrong),
-      λ goes. absurd (other (Goes-next size (asked lines) (done_at cursors) bytes placed (drop (k + 1) served)
-          (subst (Goes size (asked lines) (done_at cursors) bytes) split (so_far.on goes)))),
+      λ goes. absurd (other (RepliesGoOn-next size (asked lines) (done_at cursors) bytes placed (drop (k + 1) served)
+          (subst (RepliesGoOn size (asked lines) (done_at cursors) bytes) split (so_far.on goes)))),
     )

@@ -9,8 +9,8 @@ use Rattle.aio_model.specs.Asked.{Asked, request_named}
 use Rattle.aio_model.specs.Serving.{bytes_after}
 use Rattle.aio_model.specs.SerialHistory.{asked_name, placed_name, CountsFrom, FitAlong, indices_of, IsSerialHistory}
 use Rattle.served_check.specs.Cursors.{none_done, one_more}
-use Rattle.served_check.specs.Judging.{Goes}
-use Rattle.served_check.proofs.Going.{counts_on, counts_first}
+use Rattle.served_check.specs.Judging.{RepliesGoOn}
+use Rattle.served_check.proofs.RepliesGoOn.{counts_on, counts_first}
 
 -- ---- lists of names
 
@@ -128,16 +128,16 @@ apart_along done (placed ∷ served) counts =
     (away_past placed.stream placed.index (one_more placed.stream done) served (omega (arith, here, next)) rest, apart_along (one_more placed.stream done) served rest)
 
 module _ (size : ℕ) (asked : List Asked) (bytes : List ℕ) (served : List Placed) where
-  pub Goes-whole : length served ≡ length asked → Goes size asked none_done bytes served → IsSerialHistory size asked (Some bytes) served
-  Goes-whole many goes = record {
+  pub RepliesGoOn-whole : length served ≡ length asked → RepliesGoOn size asked none_done bytes served → IsSerialHistory size asked (Some bytes) served
+  RepliesGoOn-whole many goes = record {
     each_once = all_of (map asked_name asked) served (along_in size asked served (Some bytes) goes.fits) (apart_along none_done served goes.in_order)
         (length-map asked asked_name ∙ sym many);
     in_order = goes.in_order;
     fits = goes.fits;
   }
 
-  pub whole-Goes : IsSerialHistory size asked (Some bytes) served → Goes size asked none_done bytes served
-  whole-Goes history = record { fits = history.fits; in_order = history.in_order }
+  pub whole-RepliesGoOn : IsSerialHistory size asked (Some bytes) served → RepliesGoOn size asked none_done bytes served
+  whole-RepliesGoOn history = record { fits = history.fits; in_order = history.in_order }
 
   pub whole-long : IsSerialHistory size asked (Some bytes) served → length served ≡ length asked
   whole-long history =

@@ -36,7 +36,7 @@ pub record IsNextAt (lines : List Step) (stream start line : ℕ) : Type 0 where
   pub asks : line < length lines → is_of stream (slice_get lines line) ≡ true
 
 -- A stream's cursor is at its next request, or at the lines' end, and above it stand the requests that were served.
-pub record IsAt (lines : List Step) (stream : ℕ) (cursor : Cursor) : Type 0 where
+pub record CursorStands (lines : List Step) (stream : ℕ) (cursor : Cursor) : Type 0 where
   pub inside : cursor.line ≤ length lines
   pub above : requests_of stream (take cursor.line lines) ≡ cursor.done
   pub asks : cursor.line < length lines → is_of stream (slice_get lines cursor.line) ≡ true
@@ -49,7 +49,7 @@ pub record AreLinked (lines : List Step) (start : ℕ) (next : List ℕ) : Type 
 
 pub record AreAt (lines : List Step) (cursors : Cursors) : Type 0 where
   pub linked : AreLinked lines 0 cursors.next.items
-  pub at : (stream : ℕ) → IsAt lines stream (cursor_at cursors stream)
+  pub at : (stream : ℕ) → CursorStands lines stream (cursor_at cursors stream)
 
 -- a line was noted above all others
 pub record Notes (line : ℕ) (step : Step) (old new : Cursors) : Type 0 where

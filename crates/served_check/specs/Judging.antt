@@ -9,7 +9,7 @@ use Rattle.served_check.specs.Cursors.{one_more}
 
 -- The replies go on from here: each stream's indices count from the number of its requests that were served, and each
 -- reply fits on what the ones before it leave.
-pub record Goes (size : ℕ) (asked : List Asked) (done : ℕ → ℕ) (bytes : List ℕ) (served : List Placed) : Type 0 where
+pub record RepliesGoOn (size : ℕ) (asked : List Asked) (done : ℕ → ℕ) (bytes : List ℕ) (served : List Placed) : Type 0 where
   pub fits : FitAlong size asked (Some bytes) served
   pub in_order : (stream : ℕ) → CountsFrom (done stream) (indices_of stream served)
 

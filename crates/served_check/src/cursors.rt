@@ -2,7 +2,7 @@
 ghost use Rattle.std.specs.Prelude.{◌≡◌, ◌+◌, ◌<◌, ◌==◌, ◌&&◌, ℕ, false, length, set, Some, IfOk, MatchOption, if◌then◌else◌};
 ghost use Rattle.aio_model.specs.Asked.{asked, is_ask, request_named};
 ghost use Rattle.aio_model.specs.declared.scripts.What.TheVariants.{Ask};
-ghost use Rattle.served_check.specs.Cursors.{cursor_at, done_at, AreAt, IsAsked, IsAt, Notes};
+ghost use Rattle.served_check.specs.Cursors.{cursor_at, done_at, AreAt, IsAsked, CursorStands, Notes};
 
 use aio_model::{NoMemory, Placed, Request, Step, What};
 use std::alloc::Global;
@@ -108,7 +108,7 @@ impl Cursors {
         ensures { MatchOption result (IsAsked (asked lines.now) (done_at self.now) placed.now → ⊥)
             (λ found. (placed.now.index ≡ done_at self.now placed.now.stream)
             × (request_named (asked lines.now) placed.now.stream placed.now.index ≡ Some found.request.now)
-            × IsAt lines.now placed.now.stream found.behind
+            × CursorStands lines.now placed.now.stream found.behind
             × (found.behind.done ≡ placed.now.index + 1)) }
     {
         let cursor = self.at(placed.stream);

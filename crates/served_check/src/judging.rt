@@ -3,7 +3,7 @@ ghost use Rattle.std.specs.Prelude.{◌≡◌, ◌↔◌, ◌≤◌, IsTrue, Som
 ghost use Rattle.aio_model.specs.Asked.{asked, is_ask};
 ghost use Rattle.aio_model.specs.SerialHistory.{bytes_left, IsSerialHistory};
 ghost use Rattle.served_check.specs.Cursors.{done_at, none_done, AreAt};
-ghost use Rattle.served_check.specs.Judging.{Advances, Goes, IsNext};
+ghost use Rattle.served_check.specs.Judging.{Advances, RepliesGoOn, IsNext};
 
 use crate::cursors::Cursors;
 use crate::fitting::fits;
@@ -46,7 +46,7 @@ fn serve_all(
     bytes: &mut [u8],
 ) -> Result<bool, NoMemory>
     requires inside { size ≤ length bytes.old }
-    ensures goes { IfOk result (λ lawful. IsTrue lawful ↔ Goes size (asked lines.now) none_done bytes.old served.now) }
+    ensures goes { IfOk result (λ lawful. IsTrue lawful ↔ RepliesGoOn size (asked lines.now) none_done bytes.old served.now) }
     ensures left { IfOk result (λ lawful. IsTrue lawful → bytes.new ≡ bytes_left (asked lines.now) served.now bytes.old) }
 {
     let mut cursors = Cursors::begin(alloc, lines)?;

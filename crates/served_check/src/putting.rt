@@ -1,6 +1,6 @@
 //! What a served request does to the bytes.
 ghost use Rattle.std.specs.Prelude.{◌≡◌, ◌+◌, ◌≤◌, length, replicate};
-ghost use Rattle.aio_model.specs.Serving.{bytes_after, put_at, Answers};
+ghost use Rattle.aio_model.specs.Serving.{bytes_after, put_at, MayAnswer};
 ghost use Rattle.aio_model.specs.declared.requests.Request.TheVariants.{Write, Zero};
 
 use aio_model::{Bytes, Reply, Request};
@@ -8,7 +8,7 @@ use aio_model::{Bytes, Reply, Request};
 /// Does to the bytes what the request does that got this reply.
 pub(crate) fn apply(size: u64, bytes: &mut [u8], request: &Request, reply: &Reply)
     requires inside { size ≤ length bytes.old }
-    requires answers { Answers size request.now reply.now }
+    requires answers { MayAnswer size request.now reply.now }
     ensures { bytes.new ≡ bytes_after request.now reply.now bytes.old }
 {
     match request {
@@ -21,7 +21,7 @@ pub(crate) fn apply(size: u64, bytes: &mut [u8], request: &Request, reply: &Repl
 
 fn write(size: u64, bytes: &mut [u8], at: u64, piece: &Bytes, reply: &Reply)
     requires inside { size ≤ length bytes.old }
-    requires answers { Answers size (Write at piece.now) reply.now }
+    requires answers { MayAnswer size (Write at piece.now) reply.now }
     ensures { bytes.new ≡ bytes_after (Write at piece.now) reply.now bytes.old }
 {
     let piece = piece.as_slice();
@@ -37,7 +37,7 @@ fn write(size: u64, bytes: &mut [u8], at: u64, piece: &Bytes, reply: &Reply)
 
 fn zero(size: u64, bytes: &mut [u8], at: u64, len: u32, reply: &Reply)
     requires inside { size ≤ length bytes.old }
-    requires answers { Answers size (Zero at len) reply.now }
+    requires answers { MayAnswer size (Zero at len) reply.now }
     ensures { bytes.new ≡ bytes_after (Zero at len) reply.now bytes.old }
 {
     match reply {

@@ -12,7 +12,7 @@ use Rattle.shared_tests.specs.declared.player.Player.{Player}
 use Rattle.shared_tests.specs.declared.turn.Turn.{Turn}
 use Rattle.shared_tests.specs.declared.turn.Turn.TheVariants.{Rest}
 use Rattle.aio_model.specs.declared.requests.Request.{Request}
-use Rattle.shared_tests.specs.Sits.{Sits, Turned}
+use Rattle.shared_tests.specs.Sits.{Sits, TurnedTo}
 use Rattle.shared_tests.specs.Tables.{SitsAt, AllSit, AreFresh}
 
 module _ {D : Type 0} (bytes : D → Option (List ℕ)) (s : ℕ) (old new : ImageState D) (same : SameNotes bytes s old new) where
@@ -25,7 +25,7 @@ module _ {D : Type 0} (bytes : D → Option (List ℕ)) (s : ℕ) (old new : Ima
         known = omega (arith, sits.known, ap (λ (n : Note D). n.streams) e);
         rows = omega (arith, sits.rows, ap (λ (n : Note D). n.rows) e);
         due = omega (arith, sits.due, entries, ap (λ (n : Note D). n.requests) e);
-        turned = subst (λ (p : Phase). Turned turn k request left p) (sym (ap (λ (n : Note D). n.phase) e)) sits.turned;
+        turned = subst (λ (p : Phase). TurnedTo turn k request left p) (sym (ap (λ (n : Note D). n.phase) e)) sits.turned;
       }
 
   sits_else : (i : ℕ) (player : Player) → i ≢ s → SitsAt i player old → SitsAt i player new
@@ -62,8 +62,8 @@ resits s left turn request next image (inr e) sits = record {
   known = sits.known;
   rows = sits.rows;
   due = sits.due;
-  turned = subst (λ (t : Turn). Turned t s next left (phase_at image.phases s)) (sym e)
-      (subst (λ (t : Turn). Turned t s request left (phase_at image.phases s)) e sits.turned);
+  turned = subst (λ (t : Turn). TurnedTo t s next left (phase_at image.phases s)) (sym e)
+      (subst (λ (t : Turn). TurnedTo t s request left (phase_at image.phases s)) e sits.turned);
 }
 
 all_set : {D : Type 0} → (i k : ℕ) (players : List Player) (next : Player) (image : ImageState D) → k < length players → AllSit i players image
@@ -153,7 +153,7 @@ all_new_so image front (l ∷ lefts) (p ∷ players) is none idle (stream, many,
           known = omega (arith, stream, below);
           rows = omega (arith, stream, below, ap (λ (ps : List Phase). length ps) idle, length-replicate (length image.requests) Idle);
           due = omega (arith, ap (λ j. entries_of p.stream j) none, many, due, ap (slice_index image.requests) stream);
-          turned = subst (λ (t : Turn). Turned t p.stream p.request p.left (phase_at image.phases p.stream)) (sym turn)
+          turned = subst (λ (t : Turn). TurnedTo t p.stream p.request p.left (phase_at image.phases p.stream)) (sym turn)
               (ap (λ (ps : List Phase). phase_at ps p.stream) idle ∙ idle_all (length image.requests) p.stream);
         },
       ),

@@ -11,15 +11,15 @@ use Rattle.img_shared.specs.Phases.{phase_at, done_in, CanLeave}
 use Rattle.shared_tests.specs.declared.turn.Turn.{Turn}
 use Rattle.shared_tests.specs.declared.turn.Turn.TheVariants.{Rest, Wait, Serve, Leave, Gone}
 
-abbrev pub Turned : Turn → ℕ → Request → ℕ → Phase → Type 0
-Turned Rest stream request left phase = phase ≡ Idle
-Turned Wait stream request left phase = (phase ≡ Waiting (begun_of stream request)) × (0 < left)
-Turned Serve stream request left phase = IsServing phase stream request (done_in phase) × (0 < left)
-Turned Leave stream request left phase = CanLeave phase × (0 < left)
-Turned Gone stream request left phase = Unit {0}
+abbrev pub TurnedTo : Turn → ℕ → Request → ℕ → Phase → Type 0
+TurnedTo Rest stream request left phase = phase ≡ Idle
+TurnedTo Wait stream request left phase = (phase ≡ Waiting (begun_of stream request)) × (0 < left)
+TurnedTo Serve stream request left phase = IsServing phase stream request (done_in phase) × (0 < left)
+TurnedTo Leave stream request left phase = CanLeave phase × (0 < left)
+TurnedTo Gone stream request left phase = Unit {0}
 
 pub record Sits {D : Type 0} (stream left : ℕ) (turn : Turn) (request : Request) (image : ImageState D) : Type 0 where
   pub known : stream < length image.requests
   pub rows : stream < length image.phases
   pub due : entries_of stream image.journal + left ≡ slice_index image.requests stream
-  pub turned : Turned turn stream request left (phase_at image.phases stream)
+  pub turned : TurnedTo turn stream request left (phase_at image.phases stream)

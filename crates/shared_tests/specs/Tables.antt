@@ -5,7 +5,7 @@ use Rattle.shared_tests.specs.declared.player.Player.{Player}
 use Rattle.shared_tests.specs.declared.turn.Turn.TheVariants.{Rest}
 use Rattle.shared_tests.specs.Sits.{Sits}
 
-pub record TableState (D : Type 0) : Type 0 where
+pub record SharedTable (D : Type 0) : Type 0 where
   pub image : ImageState D
   pub players : List Player
 

@@ -18,9 +18,9 @@ pub struct Table<D: Device> {
 }
 
 impl<D: Device> Model for Table<D> {
-    ghost use Rattle.shared_tests.specs.Tables.{TableState, AllSit};
+    ghost use Rattle.shared_tests.specs.Tables.{SharedTable, AllSit};
 
-    ghost Value = { TableState D };
+    ghost Value = { SharedTable D };
 
     ghost view = { λ t. record { image = t.image; players = t.players.items } };
 

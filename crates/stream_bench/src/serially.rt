@@ -4,7 +4,7 @@ ghost use Rattle.std.specs.Prelude.{◌≡◌, ◌+◌, ◌<◌, ◌≤◌, ◌^
 ghost use Rattle.aio_model.specs.Serving.{length_of};
 ghost use Rattle.img_requests.specs.Journal.{entries_of};
 ghost use Rattle.img_requests.specs.Pieces.{HasRoom};
-ghost use Rattle.img_requests.specs.Progress.{IsServed, UnderWay};
+ghost use Rattle.img_requests.specs.Progress.{IsServedThrough, UnderWay};
 
 use crate::serving::device_for;
 use aio_model::{Bytes, Placed, Request, Script, Step, What};
@@ -19,7 +19,7 @@ const LIMIT: u32 = 4096;
 /// Serves the pieces of the request that has begun, until it has ended.
 fn serve_pieces<D: Device>(image: &mut Image<D>, request: &Request, buffer: &mut [u8])
     requires under_way { UnderWay D.bytes 0 request.now image.old image.old buffer.old }
-    ensures { IsServed D.bytes 0 request.now image.old image.new buffer.new }
+    ensures { IsServedThrough D.bytes 0 request.now image.old image.new buffer.new }
 {
     loop {
         match image.piece(0, request, buffer) {

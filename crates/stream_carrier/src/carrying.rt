@@ -1,6 +1,6 @@
 //! Coroutines are resumed as they are woken.
 ghost use Rattle.std.specs.Prelude.{◌≡◌, ◌<◌, length};
-ghost use Rattle.co_state.specs.Asked.{nothing_asked};
+ghost use Rattle.co_state.specs.Wants.{nothing_asked};
 ghost use Rattle.img_streams.specs.Streams.{IsStreamOf, source};
 ghost use Rattle.stream_ends.specs.Stops.{AreGoing};
 

@@ -2,7 +2,7 @@ ghost use Rattle.std.specs.Prelude.{◌≡◌, ◌≤◌, IfOk, IfErr, length};
 ghost use Rattle.aio_script.specs.Bounds.{IsBounded};
 ghost use Rattle.stream_ends.specs.Images.{device_behind};
 ghost use Rattle.stream_ends.specs.Starts.{HasBegun};
-ghost use Rattle.stream_ends.specs.Stops.{IsServed};
+ghost use Rattle.stream_ends.specs.Stops.{IsScriptServed};
 
 use crate::carrying::carry_woken;
 use crate::tally::Tally;
@@ -31,7 +31,7 @@ fn carry_all<D: Device, G: Gate, R: Wait>(
 ) -> Carried<D>
     requires bounded { IsBounded script.now }
     requires begun { HasBegun D.bytes script.now (device_behind begun.lock) begun }
-    ensures serves { IsServed script.now (D.bytes (device_behind begun.lock)) (D.bytes result.done.device) result.done.served.items }
+    ensures serves { IsScriptServed script.now (D.bytes (device_behind begun.lock)) (D.bytes result.done.device) result.done.served.items }
     ensures few { length result.done.served.items ≤ 4096 }
 {
     let Begun {
@@ -65,7 +65,7 @@ pub fn serve_by_wakes<D: Device, G: Gate, R: Wait>(
 ) -> Result<Carried<D>, Unmade<D>>
     requires bounded { IsBounded script.now }
     requires fits { script.now.image ≤ D.extent device }
-    ensures serves { IfOk result (λ carried. IsServed script.now (D.bytes device) (D.bytes carried.done.device) carried.done.served.items) }
+    ensures serves { IfOk result (λ carried. IsScriptServed script.now (D.bytes device) (D.bytes carried.done.device) carried.done.served.items) }
     ensures few { IfOk result (λ carried. length carried.done.served.items ≤ 4096) }
     ensures unmade { IfErr result (λ unmade. unmade.back ≡ device) }
 {

@@ -13,7 +13,7 @@ use Rattle.aio_model.specs.declared.scripts.What.TheVariants.{Ask, Delay, Move}
 use Rattle.aio_model.specs.Asked.{is_ask, requests_of}
 use Rattle.aio_script.specs.Bounds.{AsksLittle, IsAtHome, IsBounded, IsWithin}
 use Rattle.aio_script.specs.Grammar.{has_stream}
-use Rattle.img_join.specs.Ended.{AreApart, AreOurs}
+use Rattle.img_join.specs.Ended.{HaveOwnIds, AreOurs}
 use Rattle.img_streams.specs.Lines.{AreShort, IsShort}
 use Rattle.stream_ends.specs.Images.{counts_for, ids_of}
 
@@ -80,7 +80,7 @@ are_ours loops streams (step ∷ lines) each = (stream_known step.stream streams
 
 -- ---- no two streams have the same id
 
-pub are_apart : (ids : List ℕ) → IsDistinct nat_eq ids → AreApart ids
+pub are_apart : (ids : List ℕ) → IsDistinct nat_eq ids → HaveOwnIds ids
 are_apart ids distinct i j below_i below_j same =
     elim (cases_lt i j) [
       | inl h ↦ absurd (cc (apart_from_distinct nat_eq ids i j 0 distinct h below_j, eq-eqb (slice_index ids i) (slice_index ids j) same))

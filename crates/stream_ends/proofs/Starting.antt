@@ -18,7 +18,7 @@ use Rattle.img_streams.specs.declared.stream.Stream.{Stream}
 use Rattle.img_streams.specs.Rooms.{CanStart, IsRoomFor}
 use Rattle.img_streams.specs.Streams.{IsStreamOf, source}
 use Rattle.stream_ends.specs.Images.{IsLockFor, counts_for, device_behind, homes_of, ids_of}
-use Rattle.stream_ends.specs.Starts.{AllAt, AreNew, HasStarted, HaveRooms}
+use Rattle.stream_ends.specs.Starts.{AllAt, AreNewPasses, HasStarted, HaveRooms}
 use Rattle.stream_ends.proofs.Places.{all_first, all_none, all_push, all_rest, index_mapped}
 use Rattle.stream_ends.proofs.Scripts.{are_short, few_asks, few_lines, own_asks}
 
@@ -96,7 +96,7 @@ module _ {P D : Type 0} (bytes : D → Option (List ℕ)) (script : Script) (loc
     pub many : length streams ≡ n
 
   pub deals_none : (passes : List (Pass P (ImageState D) (Note D))) (rooms : List Room) → passes_of lock ≡ max 1 (length script.streams)
-      → AreNew lock passes → HaveRooms script (ids_of script.streams) rooms → Deals 0 passes rooms []
+      → AreNewPasses lock passes → HaveRooms script (ids_of script.streams) rooms → Deals 0 passes rooms []
   deals_none passes rooms size new memory = record {
     new = λ k pass at. subst (λ (m : ℕ). IsNew lock m pass) (let z : k ≡ 0 + k = omega arith in z) (new.each k pass at);
     passes_left = omega (arith, new.many, size);

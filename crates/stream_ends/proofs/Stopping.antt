@@ -18,7 +18,7 @@ use Rattle.co_mutex.specs.Closing.{AreAll, In}
 use Rattle.co_mutex.specs.Known.{Known}
 use Rattle.co_mutex.specs.Passes.{IsNew, IsPassOf, built_of, known, passes_of}
 use Rattle.co_mutex.specs.Places.{AtRest}
-use Rattle.img_join.specs.Ended.{AreApart, AreOurs, HasRetired, IsChargedFor, IsServedWhole}
+use Rattle.img_join.specs.Ended.{HaveOwnIds, AreOurs, HasRetired, IsChargedFor, IsServedWhole}
 use Rattle.img_join.specs.Placing.{placed_from, row_at, rest_of}
 use Rattle.img_shared.specs.declared.journal.Entry.{Entry}
 use Rattle.img_shared.specs.declared.phases.Phase.TheVariants.{Retired}
@@ -32,7 +32,7 @@ use Rattle.img_streams.specs.Streams.{source}
 use Rattle.img_streams.proofs.Settling.{parts_of_retired}
 use Rattle.stream_ends.specs.Images.{IsLockFor, counts_for, device_behind, ids_of}
 use Rattle.stream_ends.specs.Starts.{AllAt}
-use Rattle.stream_ends.specs.Stops.{HaveStopped, IsServed, bytes_filled}
+use Rattle.stream_ends.specs.Stops.{HaveStopped, IsScriptServed, bytes_filled}
 use Rattle.stream_ends.proofs.Places.{at_below, at_mapped, below_at, from_mapped, in_either, in_left, in_right, index_mapped, read_mapped, same_sum}
 use Rattle.stream_ends.proofs.Scripts.{are_apart, are_ours}
 use Rattle.stream_ends.proofs.Starting.{length_counts, length_ids}
@@ -194,11 +194,11 @@ past_kept script (Some told) served inside history =
 module _ {P D : Type 0} (bytes : D → Option (List ℕ)) (script : Script) (lock : CoMutex P (ImageState D) (Note D)) (rows : List (List (List ℕ))) (image : ImageState D) (bounded : IsBounded script)
     (closed : IsClosed bytes script lock rows image) (ids_now : List ℕ) (ids_are : ids_now ≡ ids_of script.streams) (rows_now : List (List (List ℕ))) (rows_are : rows_now ≡ rows) where
   pub whole_so : (faults : D → ℕ) (served : List Placed)
-      → ((lines : List Step) → AreApart ids_now → AreOurs ids_now lines → ((k : ℕ) → k < length ids_now → HasRetired bytes lines ids_now image k (row_at rows_now k)) → IsServedWhole bytes faults lines image served)
+      → ((lines : List Step) → HaveOwnIds ids_now → AreOurs ids_now lines → ((k : ℕ) → k < length ids_now → HasRetired bytes lines ids_now image k (row_at rows_now k)) → IsServedWhole bytes faults lines image served)
       → IsServedWhole bytes faults script.lines image served
   whole_so faults served whole =
       whole script.lines
-      (subst AreApart (sym ids_are) (are_apart (ids_of script.streams) bounded.apart))
+      (subst HaveOwnIds (sym ids_are) (are_apart (ids_of script.streams) bounded.apart))
       (subst (λ (l : List ℕ). AreOurs l script.lines) (sym ids_are) (are_ours script.loops script.streams script.lines bounded.each))
       (subst (λ (l : List ℕ). (k : ℕ) → k < length l → HasRetired bytes script.lines l image k (row_at rows_now k)) (sym ids_are)
       (subst (λ (r : List (List (List ℕ))). (k : ℕ) → k < length (ids_of script.streams) → HasRetired bytes script.lines (ids_of script.streams) image k (row_at r k)) (sym rows_are) closed.each))
@@ -229,7 +229,7 @@ pub served_so : {P D : Type 0} → (bytes : D → Option (List ℕ)) (faults ext
     → IfSome (bytes (device_behind lock)) (λ told. length told ≡ extent (device_behind lock))
     → IsServedWhole bytes faults script.lines image served
     → now ≡ bytes image.device
-    → IsServed script (bytes (device_behind lock)) now served
+    → IsScriptServed script (bytes (device_behind lock)) now served
 served_so {P} {D} bytes faults extent script lock buffers image served now closed fits many whole is =
     let first : IsSerialHistory script.image (asked script.lines) (bytes (device_behind lock)) served =
     subst (λ (n : ℕ). IsSerialHistory n (asked script.lines) (bytes (device_behind lock)) served) closed.sized

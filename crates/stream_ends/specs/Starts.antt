@@ -51,7 +51,7 @@ pub record HaveRooms (script : Script) (ids : List ℕ) (rooms : List Room) : Ty
   pub each : AllAt (λ k room. IsRoomFor script.lines (slice_index ids k) room) rooms
 
 -- what is taken before the lock is built
-pub record IsReady {P T N : Type 0} (script : Script) (rooms : Rooms P T N) : Type 0 where
+pub record AreRoomsFor {P T N : Type 0} (script : Script) (rooms : Rooms P T N) : Type 0 where
   pub counts : rooms.counts.items ≡ counts_for script.lines (ids_of script.streams)
   pub rooms_are : HaveRooms script (ids_of script.streams) rooms.rooms.items
   pub none : rooms.streams.items ≡ []
@@ -59,7 +59,7 @@ pub record IsReady {P T N : Type 0} (script : Script) (rooms : Rooms P T N) : Ty
   pub ends : IsEmptyRoom script rooms.ends
 
 -- all passes of a lock, in order, which have made no call
-pub record AreNew {P T N : Type 0} (lock : CoMutex P T N) (passes : List (Pass P T N)) : Type 0 where
+pub record AreNewPasses {P T N : Type 0} (lock : CoMutex P T N) (passes : List (Pass P T N)) : Type 0 where
   pub many : length passes ≡ passes_of lock
   pub each : AllAt (IsNew lock) passes
 

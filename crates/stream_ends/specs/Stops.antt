@@ -38,7 +38,7 @@ module _ {P D : Type 0} (bytes : D → Option (List ℕ)) (script : Script) (loc
 
 -- A script was served: the replies are a serial history of its requests on the opening bytes, the device has the bytes
 -- that they leave, and those past the image are as they were.
-pub record IsServed (script : Script) (before now : Option (List ℕ)) (served : List Placed) : Type 0 where
+pub record IsScriptServed (script : Script) (before now : Option (List ℕ)) (served : List Placed) : Type 0 where
   pub history : IsSerialHistory script.image (asked script.lines) before served
   pub leaves : now ≡ option_map (bytes_left (asked script.lines) served) before
   pub past : option_map (drop script.image) now ≡ option_map (drop script.image) before

@@ -4,7 +4,7 @@ ghost use Rattle.aio_script.specs.Bounds.{IsBounded};
 ghost use Rattle.co_mutex.specs.Passes.{IsNew};
 ghost use Rattle.img_streams.specs.Rooms.{IsRoomFor};
 ghost use Rattle.stream_ends.specs.Images.{IsLockFor, device_behind, ids_of};
-ghost use Rattle.stream_ends.specs.Starts.{AreNew, HasBegun, HasStarted, IsReady};
+ghost use Rattle.stream_ends.specs.Starts.{AreNewPasses, HasBegun, HasStarted, AreRoomsFor};
 
 use crate::room::{EndRoom, Rooms};
 use aio_model::{Script, Unmade};
@@ -82,8 +82,8 @@ fn deal<D: Device>(
 ) -> Begun<ImageRule<D>>
     requires bounded { IsBounded script.now }
     requires lock { IsLockFor script.now lock }
-    requires passes { AreNew lock passes.items }
-    requires rooms { IsReady script.now rooms }
+    requires passes { AreNewPasses lock passes.items }
+    requires rooms { AreRoomsFor script.now rooms }
     ensures { HasBegun D.bytes script.now (device_behind lock) result }
 {
     let (mut rooms, mut streams, mut ends) = rooms.into_parts();

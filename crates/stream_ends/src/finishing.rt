@@ -4,7 +4,7 @@ ghost use Rattle.aio_script.specs.Bounds.{IsBounded};
 ghost use Rattle.img_join.specs.Ended.{IsChargedFor};
 ghost use Rattle.stream_ends.specs.Images.{IsLockFor, device_behind};
 ghost use Rattle.stream_ends.specs.Starts.{IsEndRoom};
-ghost use Rattle.stream_ends.specs.Stops.{HaveStopped, IsServed};
+ghost use Rattle.stream_ends.specs.Stops.{HaveStopped, IsScriptServed};
 
 use crate::gathering::gather;
 use crate::room::EndRoom;
@@ -34,7 +34,7 @@ pub fn finish<D: Device>(
     requires lock { IsLockFor script.now lock }
     requires stopped { HaveStopped D.bytes script.now lock streams.items }
     requires room { IsEndRoom script.now lock ends }
-    ensures serves { IsServed script.now (D.bytes (device_behind lock)) (D.bytes result.device) result.served.items }
+    ensures serves { IsScriptServed script.now (D.bytes (device_behind lock)) (D.bytes result.device) result.served.items }
     ensures few { length result.served.items ≤ 4096 }
     ensures charged { IsChargedFor D.extent D.faults D.size_faults D.calls script.now.image (device_behind lock) result.device result.served.items }
 {

@@ -3,7 +3,7 @@ ghost use Rattle.std.specs.Prelude.{◌≡◌, ◌≤◌, ◌<◌, ◌^◌, [], 
 ghost use Rattle.std.specs.List.{All};
 ghost use Rattle.aio_script.specs.Bounds.{IsBounded};
 ghost use Rattle.stream_ends.specs.Images.{counts_for, ids_of};
-ghost use Rattle.stream_ends.specs.Starts.{HaveRooms, IsEmptyRoom, IsReady};
+ghost use Rattle.stream_ends.specs.Starts.{HaveRooms, IsEmptyRoom, AreRoomsFor};
 
 use aio_model::{NoMemory, Placed, Script};
 use co_mutex::{LockRule, Pass};
@@ -133,7 +133,7 @@ impl<P: LockRule> Rooms<P> {
     /// All of it for a script.
     pub(crate) fn build(alloc: Global, script: &Script) -> Result<Rooms<P>, NoMemory>
         requires { IsBounded script.now }
-        ensures { IfOk result (IsReady script.now) }
+        ensures { IfOk result (AreRoomsFor script.now) }
     {
         let Ok(ids) = ids_in(alloc, script) else {
             return Err(NoMemory);

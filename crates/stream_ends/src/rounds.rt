@@ -4,7 +4,7 @@ ghost use Rattle.aio_script.specs.Bounds.{IsBounded};
 ghost use Rattle.img_join.specs.Ended.{IsChargedFor};
 ghost use Rattle.img_streams.specs.Streams.{HasGone, IsStreamOf, source};
 ghost use Rattle.stream_ends.specs.Starts.{AllAt};
-ghost use Rattle.stream_ends.specs.Stops.{AreGoing, HaveStopped, IsServed};
+ghost use Rattle.stream_ends.specs.Stops.{AreGoing, HaveStopped, IsScriptServed};
 
 use crate::beginning::{Begun, begin};
 use crate::finishing::{Finished, finish};
@@ -84,7 +84,7 @@ pub fn serve_in_rounds<D: Device, G: Gate, R: Wait>(
 ) -> Result<Finished<D>, Unmade<D>>
     requires bounded { IsBounded script.now }
     requires fits { script.now.image ≤ D.extent device }
-    ensures serves { IfOk result (λ done. IsServed script.now (D.bytes device) (D.bytes done.device) done.served.items) }
+    ensures serves { IfOk result (λ done. IsScriptServed script.now (D.bytes device) (D.bytes done.device) done.served.items) }
     ensures charged { IfOk result (λ done. IsChargedFor D.extent D.faults D.size_faults D.calls script.now.image device done.device done.served.items) }
     ensures unmade { IfErr result (λ unmade. unmade.back ≡ device) }
 {

@@ -2,7 +2,7 @@
 use Rattle.std.proofs.Common.{◌≡◌, ℕ, zero, suc, inl, inr, Option, List, [], ◌∷◌, refl, sym, ap, ◌∙◌, subst, arith}
 use mathlib.Core.Option.{some-ne-none, some-injective}
 use Rattle.aio_model.specs.declared.scripts.Script.{Script}
-use Rattle.co_state.specs.Asked.{Asked}
+use Rattle.co_state.specs.Wants.{Wants}
 use Rattle.co_state.specs.declared.co.CoStep.TheVariants.{Done}
 use Rattle.co_mutex.specs.declared.lock.CoMutex.{CoMutex}
 use Rattle.co_mutex.specs.declared.lock.Pass.{Pass}
@@ -14,7 +14,7 @@ use Rattle.img_shared.specs.Notes.{Note}
 use Rattle.img_streams.specs.declared.stream.Stream.{Stream}
 use Rattle.img_streams.specs.Streams.{HasGone, Resumes}
 
-pub gone_after : {P D : Type 0} → (bytes : D → Option (List ℕ)) (old new : Stream P (ImageState D) (Note D)) (of : CoMutex P (ImageState D) (Note D) × Script) (wants : Asked)
+pub gone_after : {P D : Type 0} → (bytes : D → Option (List ℕ)) (old new : Stream P (ImageState D) (Note D)) (of : CoMutex P (ImageState D) (Note D) × Script) (wants : Wants)
     → Resumes bytes old of wants Done new → HasGone new.at
 gone_after bytes old new of wants (inl (gone, same, nothing)) = subst HasGone (sym (ap (λ (co : Stream _ _ _). co.at) same ∙ gone)) tt
 gone_after bytes old new of wants (inr (id, co, retires)) = subst HasGone (sym retires.at_is) tt

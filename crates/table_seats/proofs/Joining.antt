@@ -4,7 +4,7 @@ use Rattle.std.proofs.lemmas.Bool.{and_parts, and_from, not_from_false, not-true
 use mathlib.Core.Option.{some}
 use lib.ListN.{get_elem?}
 use Rattle.atomic_table.proofs.Lists.{at_set}
-use Rattle.table_seats.specs.Seats.{Numbers, Part, Told, numbers_in, owns, longer_of, own_entries, EachView, AreApart, IsPart, NoneMissed, AreParts, IsSeat, SeatsStand}
+use Rattle.table_seats.specs.Seats.{Numbers, Part, Told, numbers_in, owns, longer_of, own_entries, EachView, OwnApart, IsPart, NoneMissed, AreParts, IsSeat, SeatsStand}
 use Rattle.table_seats.specs.Calls.{IsJoined}
 use Rattle.table_seats.specs.Dividing.{both_numbers, told_of, joined_part, spent_part}
 use Rattle.table_seats.proofs.Entries.{own-append}
@@ -180,13 +180,13 @@ module _ {E : Type 0} (seat_of : E → ℕ) where
     pub both_owns : (n : ℕ) → owns (numbers_in (part_of both)) n ≡ true → (owns (numbers_in (part_of v)) n ≡ true) ⊎ (owns (numbers_in (part_of w)) n ≡ true)
     both_owns n own = both_owned (numbers_in (part_of v)) (numbers_in (part_of w)) n next (subst (λ p. owns (numbers_in p) n ≡ true) is_both own)
 
-    module _ (h : AreApart seat_of part_of views) where
+    module _ (h : OwnApart seat_of part_of views) where
       -- another view owns nothing of what the two own
       beside_both : (i : ℕ) (u : V) (n : ℕ) → i ≢ other → i ≢ id → get_elem? views i ≡ some u → owns (numbers_in (part_of both)) n ≡ true → owns (numbers_in (part_of u)) n ≡ false
       beside_both i u n no_w no_v ati own =
           ⊎_elim (λ q. h id i v u at ati (λ k. no_v (sym k)) n q) (λ q. h other i w u atw ati (λ k. no_w (sym k)) n q) (both_owns n own)
 
-      apart_joined : AreApart seat_of part_of after_join
+      apart_joined : OwnApart seat_of part_of after_join
       apart_joined i j u x ati atj ne n own =
           ⊎_elim
           (λ t. absurd (let none = none_of_spent u n t.1 in cc))

@@ -1,7 +1,7 @@
 -- One view that has all numbers stands over a history with no entry.
 use Rattle.std.proofs.Common.{◌≡◌, ℕ, zero, suc, None, [], ◌∷◌, refl, sym, subst, arith}
 use mathlib.Core.Option.{some-injective, some-ne-none}
-use Rattle.table_seats.specs.Seats.{Part, EachView, AreApart, IsSeat, SeatsStand}
+use Rattle.table_seats.specs.Seats.{Part, EachView, OwnApart, IsSeat, SeatsStand}
 
 -- a fact of the one view that there is
 pub each_alone : {V : Type 0} (P : V → Type 0) (v : V) → P v → EachView P (v ∷ [])
@@ -13,7 +13,7 @@ abbrev pub first_part : {E : Type 0} → Part E
 first_part = record { first = 0; count = 65; seen = []; mine = []; told = None }
 
 module _ {E : Type 0} (seat_of : E → ℕ) {V : Type 0} (part_of : V → Part E) where
-  apart_alone : (v : V) → AreApart seat_of part_of (v ∷ [])
+  apart_alone : (v : V) → OwnApart seat_of part_of (v ∷ [])
   apart_alone v zero zero u x e f ne n own = absurd (ne refl)
   apart_alone v zero (suc j) u x e f ne n own = absurd (some-ne-none x (sym f))
   apart_alone v (suc i) j u x e f ne n own = absurd (some-ne-none u (sym e))

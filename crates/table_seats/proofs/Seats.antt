@@ -3,7 +3,7 @@ use Rattle.std.proofs.Common.{◌≡◌, ◌≢◌, ℕ, ◌<◌, ◌≤◌, Boo
 use mathlib.Core.Option.{some}
 use lib.ListN.{get_elem?}
 use Rattle.atomic_table.proofs.Lists.{at_set}
-use Rattle.table_seats.specs.Seats.{Told, Part, numbers_in, owns, everyone, own_entries, EachView, AreApart, AreParts, IsSeat, SeatsStand, Makes}
+use Rattle.table_seats.specs.Seats.{Told, Part, numbers_in, owns, everyone, own_entries, EachView, OwnApart, AreParts, IsSeat, SeatsStand, Makes}
 use Rattle.table_seats.proofs.Entries.{own-append, own-here, own-other, own_of_seen, owned_below, owns_everyone}
 
 -- a fact of every view, once one has changed
@@ -123,7 +123,7 @@ module _ {E : Type 0} (seat_of : E → ℕ) where
           empty xs (omega arith)
 
   module _ {V : Type 0} (part_of : V → Part E) where
-    pub apart_set : (views : List V) (id : ℕ) (v w : V) → AreApart seat_of part_of views → get_elem? views id ≡ some v → numbers_in (part_of w) ≡ numbers_in (part_of v) → AreApart seat_of part_of (set views id w)
+    pub apart_set : (views : List V) (id : ℕ) (v w : V) → OwnApart seat_of part_of views → get_elem? views id ≡ some v → numbers_in (part_of w) ≡ numbers_in (part_of v) → OwnApart seat_of part_of (set views id w)
     apart_set views id v w h at e i j u x ati atj ne n own =
         ⊎_elim (λ a. ⊎_elim (λ b. absurd (ne (a.0 ∙ sym b.0))) (λ b. h id j v x at b.1 (λ q. ne (a.0 ∙ q)) n (subst (λ m. owns m n ≡ true) (ap (λ k. numbers_in (part_of k)) (sym a.1) ∙ e) own)) (at_set views id j w x atj)) (λ a. ⊎_elim (λ b. subst (λ m. owns m n ≡ false) (sym e ∙ ap (λ k. numbers_in (part_of k)) b.1) (h i id u v a.1 at a.0 n own)) (λ b. h i j u x a.1 b.1 ne n own) (at_set views id j w x atj)) (at_set views id i w u ati)
 

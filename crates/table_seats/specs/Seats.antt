@@ -89,13 +89,13 @@ module _ {E : Type 0} (seat_of : E → ℕ) where
 
   module _ {V : Type 0} (part_of : V → Part E) where
     -- two views own no number together
-    abbrev pub AreApart : List V → Type 0
-    AreApart views =
+    abbrev pub OwnApart : List V → Type 0
+    OwnApart views =
         (id other : ℕ) (known beside : V) → get_elem? views id ≡ some known → get_elem? views other ≡ some beside → id ≢ other → (n : ℕ) → owns (numbers_in (part_of known)) n ≡ true → owns (numbers_in (part_of beside)) n ≡ false
 
     pub record SeatsStand (history : List E) (views : List V) : Type 0 where
       pub each : EachView (λ known. IsSeat history (part_of known)) views
-      pub apart : AreApart views
+      pub apart : OwnApart views
       pub all_owned : own_entries everyone history ≡ history
 
   -- The entry was made, behind some of others: it stands in the one history, which is legal, and what was seen goes on with it.

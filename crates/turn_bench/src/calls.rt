@@ -1,6 +1,6 @@
 ghost use Rattle.std.specs.Prelude.{◌≡◌, ◌<◌, List, []};
 ghost use Rattle.aio_model.specs.declared.timer_calls.TimerCall.{TimerCall};
-ghost use Rattle.aio_loop.specs.Entering.{Each, is_callees_on_timers, ChangesSide};
+ghost use Rattle.aio_loop.specs.Entering.{EachPasses, is_callees_on_timers, ChangesSide};
 
 use aio_bh::{Call, Turn};
 use aio_core::{LoopTable, Seat};
@@ -20,7 +20,7 @@ pub struct Calls {
 fn arm_for_now(side: &mut Side, timer: TimerId)
     requires timer { timer.number < side.old.timers.made }
     ensures made { side.new.timers.made ≡ side.old.timers.made }
-    ensures changes { (calls : List TimerCall) × Each is_callees_on_timers calls × ChangesSide [] calls side.old side.new }
+    ensures changes { (calls : List TimerCall) × EachPasses is_callees_on_timers calls × ChangesSide [] calls side.old side.new }
 {
     side.timers.arm(timer, 0);
 }

@@ -5,8 +5,8 @@ ghost use Rattle.aio_model.specs.LoopLegal.{IsLegal};
 ghost use Rattle.aio_model.specs.declared.handler_calls.HandlerCall.{HandlerCall};
 ghost use Rattle.aio_model.specs.declared.timer_calls.TimerCall.{TimerCall};
 ghost use Rattle.aio_bh.specs.Ready.{IsReady};
-ghost use Rattle.aio_bh.specs.Running.{GivesBack};
-ghost use Rattle.aio_loop.specs.Entering.{Each, is_callees_on_handlers, is_callees_on_timers, ChangesSide};
+ghost use Rattle.aio_bh.specs.Running.{SeatComesBack};
+ghost use Rattle.aio_loop.specs.Entering.{EachPasses, is_callees_on_handlers, is_callees_on_timers, ChangesSide};
 
 use crate::notes::{Entry, Notes};
 use aio_bh::{BottomHalves, Call, Turn};
@@ -46,7 +46,7 @@ impl<'a, R: Wait> Responder<'a, R> {
 
 fn remove(side: &mut Side, which: Option<HandlerId>)
     ensures timers { side.new.timers ≡ side.old.timers }
-    ensures changes { (on : List HandlerCall) × Each is_callees_on_handlers on × ChangesSide on [] side.old side.new }
+    ensures changes { (on : List HandlerCall) × EachPasses is_callees_on_handlers on × ChangesSide on [] side.old side.new }
 {
     if let Some(id) = which {
         side.handlers.remove(id);
@@ -58,7 +58,7 @@ fn schedule<R: Wait>(rt: &R, table: &LoopTable<u64>, seat: &mut Seat<u64>, now: 
     requires legal { IsLegal table.now.sizes seat.old.known.seen }
     requires handle { 0 < table.now.sizes.handles }
     ensures seat { IsReady table.now seat.new }
-    ensures made { (made : History) × GivesBack made seat.old.known seat.new.known }
+    ensures made { (made : History) × SeatComesBack made seat.old.known seat.new.known }
 {
     if now {
         table.schedule(rt, seat, 0);
@@ -68,7 +68,7 @@ fn schedule<R: Wait>(rt: &R, table: &LoopTable<u64>, seat: &mut Seat<u64>, now: 
 fn arm(side: &mut Side, timer: TimerId, expire: Option<i64>)
     requires timer { timer.number < side.old.timers.made }
     ensures made { side.new.timers.made ≡ side.old.timers.made }
-    ensures changes { (on : List TimerCall) × Each is_callees_on_timers on × ChangesSide [] on side.old side.new }
+    ensures changes { (on : List TimerCall) × EachPasses is_callees_on_timers on × ChangesSide [] on side.old side.new }
 {
     if let Some(expire) = expire {
         side.timers.arm(timer, expire);

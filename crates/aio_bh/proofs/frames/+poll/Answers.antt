@@ -1,12 +1,12 @@
 use Rattle.std.proofs.Common.{◌≡◌, ◌-◌, option_map, length, true, false, None, refl, sym, ap, ◌∙◌, subst, arith}
 use Rattle.aio_model.specs.LoopFlags.{are_due, is_lot}
 use Rattle.aio_model.specs.LoopFrame.{Nests, Frame, nests_above}
-use Rattle.aio_bh.specs.SoFar.{far, Goes, Calls, Ends, Follows, BehindNest}
-use Rattle.aio_bh.proofs.Parts.{Goes-then, Goes-turn}
-use Rattle.aio_bh.proofs.Turning.{between-take, between-finished, finished_same_out, finishes_handle, Goes-ends, Goes-take}
+use Rattle.aio_bh.specs.PollFrames.{far, GoesFurther, CallsBody, FreesLot, FollowsDequeue, BehindNest}
+use Rattle.aio_bh.proofs.Parts.{GoesFurther-then, GoesFurther-turn}
+use Rattle.aio_bh.proofs.Turning.{between-take, between-finished, finished_same_out, finishes_handle, GoesFurther-ends, GoesFurther-take}
 use Rattle.aio_bh.proofs.Lasting.{may_end_behind}
 use Rattle.aio_bh.proofs.Returning.{gives_behind, gives_freed-then, gives_nothing, next_frees_none, take_frees_none}
-use Rattle.aio_bh.proofs.Steps.{Goes-behind, Goes-frame, Goes-more, Goes-nested, Goes-on, Goes-renamed, nests_below}
+use Rattle.aio_bh.proofs.Steps.{GoesFurther-behind, GoesFurther-frame, GoesFurther-more, GoesFurther-nested, GoesFurther-on, GoesFurther-renamed, nests_below}
 use Rattle.aio_bh.proofs.frames.+poll.Goals as goal
 
 pub frame-loop-next-init : goal.frame-loop-next-init
@@ -16,7 +16,7 @@ frame-loop-next-init g t c =
     let before = a.home.now.seat in
     let after = c.take.new.home.seat in
     record {
-      goes = Goes-take sizes (Frame sizes a.deeper) (nests_above a.deeper) g.R.Runner.does before.known after.known a.runner.now a.polled.now a.home.now.number.0 a.home.now.number.1 c.take.ensures.step;
+      goes = GoesFurther-take sizes (Frame sizes a.deeper) (nests_above a.deeper) g.R.Runner.does before.known after.known a.runner.now a.polled.now a.home.now.number.0 a.home.now.number.1 c.take.ensures.step;
       between = between-take a.table.now a.deeper before after c.take.ensures.seat c.requires.can_take c.take.ensures.step;
       pass = c.requires.pass;
       gives = gives_nothing a.pool.now before.known after.known a.pass.now (take_frees_none before.known after.known c.take.ensures.step);
@@ -33,10 +33,10 @@ frame-loop-next-preserved g t c =
     let old = c.loop-next.home.seat.known in
     let mid = c.next.new.home.seat.known in
     let new = c.turn.new.home.seat.known in
-    let turn = Goes-turn sizes (Frame sizes a.deeper) (nests_above a.deeper) next.bh (are_due next.flags) job g.R.Runner.does old mid new c.loop-next.runner c.turn.new.runner c.loop-next.polled c.next.new.polled c.turn.new.polled v.between.of_table.sizes c.in-Some.ensures.next c.turn.ensures.goes in
+    let turn = GoesFurther-turn sizes (Frame sizes a.deeper) (nests_above a.deeper) next.bh (are_due next.flags) job g.R.Runner.does old mid new c.loop-next.runner c.turn.new.runner c.loop-next.polled c.next.new.polled c.turn.new.polled v.between.of_table.sizes c.in-Some.ensures.next c.turn.ensures.goes in
     let frees = next_frees_none next.bh (are_due next.flags) job old mid c.loop-next.polled c.next.new.polled c.in-Some.ensures.next in
     record {
-      goes = Goes-more sizes a.deeper g.R.Runner.does a.home.now.seat.known old new a.runner.now c.loop-next.runner c.turn.new.runner a.polled.now c.loop-next.polled c.turn.new.polled v.goes turn;
+      goes = GoesFurther-more sizes a.deeper g.R.Runner.does a.home.now.seat.known old new a.runner.now c.loop-next.runner c.turn.new.runner a.polled.now c.loop-next.polled c.turn.new.polled v.goes turn;
       between = c.turn.ensures.between;
       pass = c.turn.ensures.pass;
       gives = gives_freed-then a.pool.now a.home.now.seat.known old new a.pass.now c.loop-next.pass c.turn.new.pass v.gives (gives_behind a.pool.now old mid new c.loop-next.pass c.turn.new.pass frees c.turn.ensures.gives);
@@ -47,7 +47,7 @@ pub frame-returns-clause-goes : goal.frame-returns-clause-goes
 frame-returns-clause-goes g t c =
     let a = c.args in
     let none = rw c.in_default.is at c.next.ensures.next in
-    Goes-frame a.table.now.sizes a.deeper g.R.Runner.does a.home.now.seat.known c.loop-next.home.seat.known c.next.new.home.seat.known a.runner.now c.loop-next.runner c.loop-next.runner a.polled.now c.loop-next.polled c.next.new.polled c.loop-next.invariant.goes none refl
+    GoesFurther-frame a.table.now.sizes a.deeper g.R.Runner.does a.home.now.seat.known c.loop-next.home.seat.known c.next.new.home.seat.known a.runner.now c.loop-next.runner c.loop-next.runner a.polled.now c.loop-next.polled c.next.new.polled c.loop-next.invariant.goes none refl
 
 pub nest-returns-then-enter-clause-goes : goal.nest-returns-then-enter-clause-goes
 nest-returns-then-enter-clause-goes g t c =
@@ -64,10 +64,10 @@ nest-returns-then-enter-clause-goes g t c =
     let below = nests_below a.deeper a.nests c.requires.nests.0 c.requires.nests.1 in
     let entry = c.enter.ensures.nests c.if-enter.true in
     let left = a.nests - 1 - 1 in
-    let later = subst (λ i. Goes (BehindNest frame i left) does asked new) (sym is.0) c.nest.ensures.goes in
-    let rest = Goes-on does frame call.bh job call.first call.nests_left left Nests back asked new (omega (arith, is.3, entry.0)) refl entry.1 later in
-    Goes-behind sizes a.deeper a.bh (a.nests - 1) does (far a.home.now.seat.known a.runner.now a.polled.now) back new below.0 c.frame.ensures.goes
-    (Goes-renamed does frame a.bh call.bh (a.nests - 1) call.nests_left None job false call.first back new is.0 (ap (option_map g.J.Job.number_of) is.1) is.2 is.3 rest)
+    let later = subst (λ i. GoesFurther (BehindNest frame i left) does asked new) (sym is.0) c.nest.ensures.goes in
+    let rest = GoesFurther-on does frame call.bh job call.first call.nests_left left Nests back asked new (omega (arith, is.3, entry.0)) refl entry.1 later in
+    GoesFurther-behind sizes a.deeper a.bh (a.nests - 1) does (far a.home.now.seat.known a.runner.now a.polled.now) back new below.0 c.frame.ensures.goes
+    (GoesFurther-renamed does frame a.bh call.bh (a.nests - 1) call.nests_left None job false call.first back new is.0 (ap (option_map g.J.Job.number_of) is.1) is.2 is.3 rest)
 
 pub nest-returns-then-enter-clause-gives : goal.nest-returns-then-enter-clause-gives
 nest-returns-then-enter-clause-gives g t c =
@@ -87,8 +87,8 @@ nest-returns-else-enter-clause-goes g t c =
     let back = far c.frame.new.home.seat.known c.frame.new.runner c.frame.new.polled in
     let new = far c.enter.new.home.seat.known c.enter.new.runner c.enter.new.polled in
     let below = nests_below a.deeper a.nests c.requires.nests.0 c.requires.nests.1 in
-    Goes-behind sizes a.deeper a.bh (a.nests - 1) does (far a.home.now.seat.known a.runner.now a.polled.now) back new below.0 c.frame.ensures.goes
-    (Goes-renamed does (Frame sizes a.deeper) a.bh call.bh (a.nests - 1) call.nests_left None (option_map g.J.Job.number_of call.job) false call.first back new is.0 (ap (option_map g.J.Job.number_of) is.1) is.2 is.3 (c.enter.ensures.ends c.if-enter.false))
+    GoesFurther-behind sizes a.deeper a.bh (a.nests - 1) does (far a.home.now.seat.known a.runner.now a.polled.now) back new below.0 c.frame.ensures.goes
+    (GoesFurther-renamed does (Frame sizes a.deeper) a.bh call.bh (a.nests - 1) call.nests_left None (option_map g.J.Job.number_of call.job) false call.first back new is.0 (ap (option_map g.J.Job.number_of) is.1) is.2 is.3 (c.enter.ensures.ends c.if-enter.false))
 
 pub nest-returns-else-enter-clause-gives : goal.nest-returns-else-enter-clause-gives
 nest-returns-else-enter-clause-gives g t c =
@@ -108,7 +108,7 @@ turn-finish-requires-clause-may_end g t c =
     let asked = far c.call.new.home.seat.known c.call.new.runner c.call.new.polled in
     let new = far c.nest.new.home.seat.known c.nest.new.runner c.nest.new.polled in
     let entry = c.call.ensures.nests c.if-call.true in
-    let called = Goes-nested does (Frame sizes a.deeper) (nests_above a.deeper) c.nests_of.result a.next.bh job due old asked new c.nests_of.ensures entry.1 entry.0 entry.2 c.nest.ensures.goes in
+    let called = GoesFurther-nested does (Frame sizes a.deeper) (nests_above a.deeper) c.nests_of.result a.next.bh job due old asked new c.nests_of.ensures entry.1 entry.0 entry.2 c.nest.ensures.goes in
     may_end_behind sizes a.deeper (nests_above a.deeper) a.next.bh job due does old new called c.nest.ensures.between.legal c.requires.may_end
 
 pub turn-end_lot-requires-clause-may_end : goal.turn-end_lot-requires-clause-may_end
@@ -146,9 +146,9 @@ turn-returns-then-call-clause-goes g t c =
     let new = far home.seat.known c.nest.new.runner c.nest.new.polled in
     let entry = c.call.ensures.nests c.if-call.true in
     let between = c.nest.ensures.between in
-    let called = Goes-nested does frame nests c.nests_of.result bh job due old asked new c.nests_of.ensures entry.1 entry.0 entry.2 c.nest.ensures.goes in
-    let ends = Goes-ends sizes bh does home.seat.known after c.nest.new.runner c.nest.new.polled home.number.0 home.number.1 between.of_table.sizes between.legal c.finish.ensures.ends in
-    Goes-then (Calls frame nests bh job due) (Ends sizes bh) (Follows sizes frame nests bh job due) does old new (far after c.nest.new.runner c.nest.new.polled) (λ x y z one two. (y, one, two)) called ends
+    let called = GoesFurther-nested does frame nests c.nests_of.result bh job due old asked new c.nests_of.ensures entry.1 entry.0 entry.2 c.nest.ensures.goes in
+    let ends = GoesFurther-ends sizes bh does home.seat.known after c.nest.new.runner c.nest.new.polled home.number.0 home.number.1 between.of_table.sizes between.legal c.finish.ensures.ends in
+    GoesFurther-then (CallsBody frame nests bh job due) (FreesLot sizes bh) (FollowsDequeue sizes frame nests bh job due) does old new (far after c.nest.new.runner c.nest.new.polled) (λ x y z one two. (y, one, two)) called ends
 
 pub turn-returns-then-call-clause-gives : goal.turn-returns-then-call-clause-gives
 turn-returns-then-call-clause-gives g t c =
@@ -184,8 +184,8 @@ turn-returns-then-bh-handles-clause-goes g t c =
     let polled = c.call.new.polled in
     let after = c.end_lot.new.home.seat.known in
     let between = c.call.ensures.between in
-    let ends = Goes-ends sizes bh does home.seat.known after runner polled home.number.0 home.number.1 between.of_table.sizes between.legal c.end_lot.ensures.ends in
-    Goes-then (Calls frame nests bh job due) (Ends sizes bh) (Follows sizes frame nests bh job due) does (far a.home.now.seat.known a.runner.now a.polled.now) (far home.seat.known runner polled) (far after runner polled) (λ x y z one two. (y, one, two)) (c.call.ensures.ends c.if-call.false) ends
+    let ends = GoesFurther-ends sizes bh does home.seat.known after runner polled home.number.0 home.number.1 between.of_table.sizes between.legal c.end_lot.ensures.ends in
+    GoesFurther-then (CallsBody frame nests bh job due) (FreesLot sizes bh) (FollowsDequeue sizes frame nests bh job due) does (far a.home.now.seat.known a.runner.now a.polled.now) (far home.seat.known runner polled) (far after runner polled) (λ x y z one two. (y, one, two)) (c.call.ensures.ends c.if-call.false) ends
 
 pub turn-returns-then-bh-handles-clause-gives : goal.turn-returns-then-bh-handles-clause-gives
 turn-returns-then-bh-handles-clause-gives g t c =
@@ -207,5 +207,5 @@ turn-returns-else-bh-handles-clause-goes g t c =
     let runner = c.call.new.runner in
     let polled = c.call.new.polled in
     let between = c.call.ensures.between in
-    let ends = Goes-ends sizes bh does known known runner polled home.number.0 home.number.1 between.of_table.sizes between.legal (finishes_handle sizes bh known (omega (arith, c.if-bh-handles.false, c.handles.ensures))) in
-    Goes-then (Calls frame nests bh job due) (Ends sizes bh) (Follows sizes frame nests bh job due) does (far a.home.now.seat.known a.runner.now a.polled.now) (far known runner polled) (far known runner polled) (λ x y z one two. (y, one, two)) (c.call.ensures.ends c.if-call.false) ends
+    let ends = GoesFurther-ends sizes bh does known known runner polled home.number.0 home.number.1 between.of_table.sizes between.legal (finishes_handle sizes bh known (omega (arith, c.if-bh-handles.false, c.handles.ensures))) in
+    GoesFurther-then (CallsBody frame nests bh job due) (FreesLot sizes bh) (FollowsDequeue sizes frame nests bh job due) does (far a.home.now.seat.known a.runner.now a.polled.now) (far known runner polled) (far known runner polled) (λ x y z one two. (y, one, two)) (c.call.ensures.ends c.if-call.false) ends

@@ -3,7 +3,7 @@ use Rattle.aio_model.specs.LoopFrame.{Frame, nests_above}
 use Rattle.aio_model.specs.LoopLists.{out_of}
 use Rattle.lot_pool.specs.Pools.{IsHomeOf}
 use Rattle.aio_bh.specs.OneShots.{GivesFreed}
-use Rattle.aio_bh.specs.SoFar.{far, Goes, IsBetween, TakesAndSome}
+use Rattle.aio_bh.specs.PollFrames.{far, GoesFurther, IsBetween, TakesAndSome}
 use Rattle.aio_bh.proofs.frames.+poll.Given as goal
 
 abbrev pub decreases-nest : goal.decreases-nest
@@ -17,7 +17,7 @@ decreases-frame g l = 16 * l.deeper + 15
 
 abbrev pub invariant-frame-loop-next : goal.invariant-frame-loop-next
 invariant-frame-loop-next g l = record {
-  goes : Goes (TakesAndSome l.table.sizes (Frame l.table.sizes l.deeper) (nests_above l.deeper)) g.R.Runner.does (far l.fn.home.seat.known l.fn.runner l.fn.polled) (far l.home.seat.known l.runner l.polled);
+  goes : GoesFurther (TakesAndSome l.table.sizes (Frame l.table.sizes l.deeper) (nests_above l.deeper)) g.R.Runner.does (far l.fn.home.seat.known l.fn.runner l.fn.polled) (far l.home.seat.known l.runner l.polled);
   between : IsBetween l.table l.deeper l.home.seat;
   pass : IsHomeOf l.pool l.pass;
   gives : GivesFreed l.pool l.fn.home.seat.known l.home.seat.known l.fn.pass l.pass;

@@ -1,12 +1,12 @@
 use Rattle.std.proofs.Common.{◌≡◌, ◌≤◌, length, ◌-◌}
-use Rattle.aio_words.specs.Content.{Takes}
+use Rattle.aio_words.specs.Content.{TakesBytes}
 use Rattle.aio_cli.specs.Calls.{ReadsWell}
 use Rattle.aio_cli.specs.Reading.{most_read}
 use Rattle.aio_cli.proofs.read.read_text.Given as goal
 
 abbrev pub invariant-loop-chunk : goal.invariant-loop-chunk
 invariant-loop-chunk g l =
-    Takes (g.S.Source.left l.fn.source) (g.S.Source.left l.source) l.text.items
+    TakesBytes (g.S.Source.left l.fn.source) (g.S.Source.left l.source) l.text.items
     × (length l.text.items ≤ most_read)
     × (g.S.Source.faults l.fn.source ≤ g.S.Source.faults l.source)
     × (length l.chunk ≡ 4096)

@@ -1,4 +1,4 @@
-use Rattle.aio_loop.proofs.SoFar.{one_more_expired}
+use Rattle.aio_loop.proofs.TurnParts.{one_more_expired}
 use Rattle.aio_loop.proofs.expiring.enter_each_expired.Goals as goal
 
 pub loop-preserved : goal.loop-preserved

@@ -2,7 +2,7 @@ use Rattle.std.proofs.Common.{IsFalse}
 use Rattle.aio_model.specs.LoopLegal.{IsLegal}
 use Rattle.aio_loop.specs.Homes.{IsHomeFree}
 use Rattle.aio_loop.specs.Walks.{loop_far}
-use Rattle.aio_loop.proofs.SoFar.{ExpiredSoFar}
+use Rattle.aio_loop.proofs.TurnParts.{ExpiredSoFar}
 use Rattle.aio_loop.proofs.expiring.enter_each_expired.Given as goal
 
 abbrev pub invariant-loop : goal.invariant-loop

@@ -1,4 +1,4 @@
-use Rattle.aio_loop.proofs.SoFar.{one_more_ready}
+use Rattle.aio_loop.proofs.TurnParts.{one_more_ready}
 use Rattle.aio_loop.proofs.walking.enter_each_ready.Goals as goal
 
 pub loop-preserved : goal.loop-preserved

@@ -2,7 +2,7 @@ use Rattle.std.proofs.Common.{IsTrue}
 use Rattle.aio_model.specs.LoopLegal.{IsLegal}
 use Rattle.aio_loop.specs.Homes.{IsHomeFree}
 use Rattle.aio_loop.specs.Walks.{loop_far}
-use Rattle.aio_loop.proofs.SoFar.{ReadySoFar}
+use Rattle.aio_loop.proofs.TurnParts.{ReadySoFar}
 use Rattle.aio_loop.proofs.walking.enter_each_ready.Given as goal
 
 abbrev pub invariant-loop : goal.invariant-loop

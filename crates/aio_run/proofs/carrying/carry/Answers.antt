@@ -1,5 +1,5 @@
 use Rattle.std.proofs.Common.{◌≡◌, sym, ap, subst, arith, List, length, vec_len}
-use Rattle.co_loop.specs.Rows.{AreOf}
+use Rattle.co_loop.specs.Rows.{AreOfOrigin}
 use Rattle.co_loop.specs.Working.{CanWork, Works}
 use Rattle.loop_rows.specs.declared.shared.LoopShared.{LoopShared}
 use Rattle.loop_rows.specs.Opening.{HomesEach}
@@ -11,7 +11,7 @@ use Rattle.aio_run.proofs.carrying.carry.Goals as goal
 
 pub run_loops-joined-requires-clause-lent : goal.run_loops-joined-requires-clause-lent
 run_loops-joined-requires-clause-lent g c κs within =
-    subst (λ (l : List (LoopShared _ _)). AreOf (g.C.Co.source_of c.args.env.now) l) (sym c.deref.ensures.value) c.requires.lent
+    subst (λ (l : List (LoopShared _ _)). AreOfOrigin (g.C.Co.source_of c.args.env.now) l) (sym c.deref.ensures.value) c.requires.lent
 
 pub run_loops-joined-requires-clause-homes : goal.run_loops-joined-requires-clause-homes
 run_loops-joined-requires-clause-homes g c κs within =

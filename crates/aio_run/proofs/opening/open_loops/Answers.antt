@@ -1,5 +1,5 @@
 use Rattle.std.proofs.Common.{◌∙◌, None, replicate, slice_index_or, sym, ap, subst, arith}
-use Rattle.loop_rows.specs.Opening.{AreNew, NewEach}
+use Rattle.loop_rows.specs.Opening.{AreNewLoops, NewEach}
 use Rattle.aio_run.proofs.Lists.{same_at}
 use Rattle.aio_run.proofs.opening.open_loops.Goals as goal
 
@@ -7,7 +7,7 @@ pub returns : goal.returns
 returns g c =
     let t = c.in_ok-opened.ensures in
     record {
-      tables = subst (λ n. AreNew c.args.script.now.loops n g.origin c.in_ok-opened.opened) c.coroutines_for-coroutines.ensures t;
+      tables = subst (λ n. AreNewLoops c.args.script.now.loops n g.origin c.in_ok-opened.opened) c.coroutines_for-coroutines.ensures t;
       rest = record {
         hands = c.in_ok-hands.ensures.hands.0 ∙ c.requires.1.1.1.1.1.1;
         begin = c.in_ok-hands.ensures.begins c.in_ok-opened.opened.shared.items c.in_ok-opened.opened.homes.items c.in_ok-opened.opened.row.seats.items (t.long ∙ sym c.requires.1.1.1.1.1.1)

@@ -1,8 +1,8 @@
 use Rattle.std.proofs.Common.{◌<◌, ◌∙◌, sym, ap, subst, length, slice_index}
-use Rattle.co_loop.specs.Rows.{AreOf}
+use Rattle.co_loop.specs.Rows.{AreOfOrigin}
 use Rattle.loop_rows.specs.Rows.{IsRow}
 use Rattle.stream_ends.specs.Images.{homes_of}
-use Rattle.aio_run.specs.Posting.{HaveBegun, HaveCoroutines, HaveOwn}
+use Rattle.aio_run.specs.Posting.{HaveBegun, HaveCoroutines, AllHaveOwn}
 use Rattle.aio_run.specs.Readiness.{coroutines_of}
 use Rattle.aio_run.proofs.Posted.{homes_below, new_tables, new_of, new_sizes, new_homes, none_begun, own_new}
 use Rattle.aio_run.proofs.preparing.post_streams.Goals as goal
@@ -22,7 +22,7 @@ post_each-requires-clause-tables g c =
 
 pub post_each-requires-clause-of : goal.post_each-requires-clause-of
 post_each-requires-clause-of g c =
-    subst (AreOf _) (sym c.deref.ensures.value)
+    subst (AreOfOrigin _) (sym c.deref.ensures.value)
     (new_of c.args.script.now.loops (coroutines_of c.args.script.now) _ c.args.loops.opened c.requires.open.tables)
 
 pub post_each-requires-clause-row : goal.post_each-requires-clause-row
@@ -49,6 +49,6 @@ returns g c =
       is_row = subst (λ l. IsRow l c.post_each.new.row) c.deref.ensures.value c.post_each.ensures.row.0;
       numbers = c.post_each.ensures.row.1;
       begun = subst (λ n. HaveBegun (length c.args.script.now.streams) (homes_of c.args.script.now.streams) n c.post_each.new.row.seats.items) (ap length c.deref.ensures.value ∙ t.long) c.post_each.ensures.begun;
-      own = subst (λ n. HaveOwn n c.post_each.new.row.seats.items) long (c.post_each.ensures.own (subst (λ n. HaveOwn n c.args.loops.opened.row.seats.items) (sym long) (own_new c.args.script.now.loops (coroutines_of c.args.script.now) _ c.args.loops.opened t)));
+      own = subst (λ n. AllHaveOwn n c.post_each.new.row.seats.items) long (c.post_each.ensures.own (subst (λ n. AllHaveOwn n c.args.loops.opened.row.seats.items) (sym long) (own_new c.args.script.now.loops (coroutines_of c.args.script.now) _ c.args.loops.opened t)));
       rest = record { hands = rest.hands; begin = rest.begin; quiet = rest.quiet; reserved = rest.reserved; berths = rest.berths; streams = rest.streams; ends = rest.ends };
     }

@@ -1,6 +1,6 @@
 use Rattle.std.proofs.Common.{length, ap, subst, arith}
 use Rattle.std.specs.List.{AllByRecursion}
-use Rattle.aio_run.specs.Berths.{AllOf}
+use Rattle.aio_run.specs.Berths.{BerthsAreOf}
 use Rattle.aio_run.specs.Ends.{end_of}
 use Rattle.aio_run.proofs.Lists.{length_pushed, mapped_more}
 use Rattle.aio_run.proofs.running.end_loops.Goals as goal
@@ -8,7 +8,7 @@ use Rattle.aio_run.proofs.running.end_loops.Goals as goal
 pub loop-run-preserved : goal.loop-run-preserved
 loop-run-preserved g c =
     let was = c.loop-run.invariant in
-    let runs = subst (AllByRecursion (λ run. AllOf g.D.Device.bytes c.args.script.now c.args.lock.now run.work.crew.ended.items)) c.in-Some.ensures.items was.runs in
+    let runs = subst (AllByRecursion (λ run. BerthsAreOf g.D.Device.bytes c.args.script.now c.args.lock.now run.work.crew.ended.items)) c.in-Some.ensures.items was.runs in
     let fewer = ap length c.in-Some.ensures.items in
     let longer = ap length c.push_reserved.ensures.items in
     let pushed = length_pushed c.loop-run.ends.items c.end_one.result in

@@ -8,7 +8,7 @@ use Rattle.loop_threads.specs.Reserving.{IsReserved}
 use Rattle.stream_ends.specs.Images.{homes_of}
 use Rattle.aio_run.specs.declared.running.RunEnd.{RunEnd}
 use Rattle.aio_run.specs.Ends.{IsOver, end_of}
-use Rattle.aio_run.specs.Posting.{HaveBegun, HaveOwn, HaveSet}
+use Rattle.aio_run.specs.Posting.{HaveBegun, AllHaveOwn, HaveSet}
 use Rattle.aio_run.specs.Readiness.{AreQuiet, HaveEntered, coroutines_of}
 use Rattle.aio_run.specs.Serving.{HasServed}
 use Rattle.aio_run.specs.Turned.{HasTurned}
@@ -44,7 +44,7 @@ carry_streams-runs-requires-clause-begun g c κs within =
     let opened = c.args.loops.opened in
     begun_alone opened.shared.items opened.row c.end_if_none.new.row.seats.items (length script.streams) (homes_of script.streams) posted.is_row posted.numbers
     (subst (λ n. HaveBegun (length script.streams) (homes_of script.streams) n opened.row.seats.items) (sym posted.long) posted.begun)
-    (subst (λ n. HaveOwn n opened.row.seats.items) (sym posted.long) posted.own)
+    (subst (λ n. AllHaveOwn n opened.row.seats.items) (sym posted.long) posted.own)
     c.end_if_none.ensures.coroutines
 
 pub carry_streams-runs-requires-clause-none_entered : goal.carry_streams-runs-requires-clause-none_entered

@@ -1,6 +1,6 @@
 use Rattle.std.specs.List.{flat_map}
 use Rattle.std.proofs.Common.{◌+◌, drop, Ok}
-use Rattle.aio_script.proofs.Gathered.{Gathers-then, Gathers-stops, Gathers-same}
+use Rattle.aio_script.proofs.Gathered.{PutsOnPage-then, PutsOnPage-stops, PutsOnPage-same}
 use Rattle.aio_script.proofs.Texts.{flat_map_around, flat_map_next}
 use Rattle.aio_script.proofs.page.put_parts.Goals as goal
 
@@ -9,11 +9,11 @@ returns-in_err-put g c =
     let parts = c.args.parts.now in
     let i = c.loop-part.part-index in
     let rest = flat_map (λ part. part.now) (drop (i + 1) parts) in
-    Gathers-same (flat_map_around (λ part. part.now) parts i _ c.loop-part-test.true)
-    (Gathers-then c.from_residual.result c.loop-part.invariant
-    (Gathers-stops rest c.from_residual.result c.from_residual.ensures.0 c.in_err-put.ensures))
+    PutsOnPage-same (flat_map_around (λ part. part.now) parts i _ c.loop-part-test.true)
+    (PutsOnPage-then c.from_residual.result c.loop-part.invariant
+    (PutsOnPage-stops rest c.from_residual.result c.from_residual.ensures.0 c.in_err-put.ensures))
 
 pub loop-part-preserved : goal.loop-part-preserved
 loop-part-preserved g c =
-    Gathers-same (flat_map_next (λ part. part.now) c.args.parts.now c.loop-part.part-index _ c.loop-part-test.true)
-    (Gathers-then (Ok tt) c.loop-part.invariant c.in_ok-put.ensures)
+    PutsOnPage-same (flat_map_next (λ part. part.now) c.args.parts.now c.loop-part.part-index _ c.loop-part-test.true)
+    (PutsOnPage-then (Ok tt) c.loop-part.invariant c.in_ok-put.ensures)

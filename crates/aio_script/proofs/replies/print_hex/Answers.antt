@@ -1,6 +1,6 @@
 use Rattle.std.proofs.Common.{◌+◌, ◌≤◌, drop, length, arith}
 use Rattle.aio_model.specs.PrintedText.{hex_of}
-use Rattle.aio_script.proofs.Gathered.{Gathers-then, Gathers-stops, Gathers-same}
+use Rattle.aio_script.proofs.Gathered.{PutsOnPage-then, PutsOnPage-stops, PutsOnPage-same}
 use Rattle.aio_script.proofs.Texts.{hex_of-range, hex_of-rest}
 use Rattle.aio_script.proofs.replies.print_hex.Goals as goal
 
@@ -10,10 +10,10 @@ returns-in_err-print_hex_piece g c =
     let at = c.loop-at.at in
     let end = at + c.min.result in
     let within : end ≤ length bytes = omega (arith, c.min.ensures) in
-    Gathers-same (hex_of-rest bytes end)
-    (Gathers-stops (hex_of (drop end bytes)) c.from_residual.result c.from_residual.ensures.0
-    (Gathers-same (hex_of-range bytes at end (omega arith) within)
-    (Gathers-then _ c.loop-at.invariant.printed c.in_err-print_hex_piece.ensures)))
+    PutsOnPage-same (hex_of-rest bytes end)
+    (PutsOnPage-stops (hex_of (drop end bytes)) c.from_residual.result c.from_residual.ensures.0
+    (PutsOnPage-same (hex_of-range bytes at end (omega arith) within)
+    (PutsOnPage-then _ c.loop-at.invariant.printed c.in_err-print_hex_piece.ensures)))
 
 pub loop-at-preserved : goal.loop-at-preserved
 loop-at-preserved g c =
@@ -23,6 +23,6 @@ loop-at-preserved g c =
     let within : end ≤ length bytes = omega (arith, c.min.ensures) in
     record {
       within = within;
-      printed = Gathers-same (hex_of-range bytes at end (omega arith) within)
-          (Gathers-then _ c.loop-at.invariant.printed c.in_ok-print_hex_piece.ensures);
+      printed = PutsOnPage-same (hex_of-range bytes at end (omega arith) within)
+          (PutsOnPage-then _ c.loop-at.invariant.printed c.in_ok-print_hex_piece.ensures);
     }

@@ -1,13 +1,13 @@
 -- The bytes so far were put on the page.
 use Rattle.std.proofs.Common.{◌≤◌, ◌-◌, length, take, Ok}
 use Rattle.aio_model.specs.PrintedText.{hex_of}
-use Rattle.aio_script.specs.Printing.{Gathers}
+use Rattle.aio_script.specs.Printing.{PutsOnPage}
 use Rattle.aio_script.proofs.replies.print_hex.Given as goal
 
 abbrev pub invariant-loop-at : goal.invariant-loop-at
 invariant-loop-at g l = record {
   within : l.at ≤ length l.bytes;
-  printed : Gathers (hex_of (take l.at l.bytes)) l.initial.page l.page (g.K.Sink.held l.initial.sink) (g.K.Sink.held l.sink)
+  printed : PutsOnPage (hex_of (take l.at l.bytes)) l.initial.page l.page (g.K.Sink.held l.initial.sink) (g.K.Sink.held l.sink)
       (g.K.Sink.faults l.initial.sink) (g.K.Sink.faults l.sink) (Ok tt);
 }
 

@@ -1,4 +1,4 @@
-use Rattle.bell_loop.proofs.Going.{Goes-canceled}
+use Rattle.bell_loop.proofs.LogsGoOn.{Goes-canceled}
 use Rattle.bell_loop.proofs.steps.cancel.Goals as goal
 
 pub returns-clause-goes : goal.returns-clause-goes

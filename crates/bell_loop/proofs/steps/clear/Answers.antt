@@ -1,4 +1,4 @@
-use Rattle.bell_loop.proofs.Going.{Goes-cleared}
+use Rattle.bell_loop.proofs.LogsGoOn.{Goes-cleared}
 use Rattle.bell_loop.proofs.steps.clear.Goals as goal
 
 pub returns-clause-goes : goal.returns-clause-goes

@@ -4,7 +4,7 @@ use Rattle.aio_model.specs.LoopLog.{flags_before, enqueued_log}
 use Rattle.aio_model.specs.LoopSeats.{home}
 use Rattle.aio_core.specs.Standing.{asked_by}
 use Rattle.bell_loop.specs.Running.{GoesTo}
-use Rattle.bell_loop.proofs.Going.{Goes-enqueued}
+use Rattle.bell_loop.proofs.LogsGoOn.{Goes-enqueued}
 use Rattle.bell_loop.proofs.steps.enqueue.Goals as goal
 
 pub returns-in-Sched-clause-goes : goal.returns-in-Sched-clause-goes

@@ -1,6 +1,6 @@
 use Rattle.std.proofs.Common.{map}
 use Rattle.bell_loop.specs.Entering.{acts_at, noted}
-use Rattle.bell_loop.proofs.Polling.{lists_stay, none_waits_then, Answers-polled, none_lives_then, events_then, none_pending_then}
+use Rattle.bell_loop.proofs.Polling.{lists_stay, none_waits_then, AnswersSeen-polled, none_lives_then, events_then, none_pending_then}
 use Rattle.bell_loop.proofs.steps.poll.Goals as goal
 
 pub returns-clause-lists : goal.returns-clause-lists
@@ -13,7 +13,7 @@ returns-clause-none g c =
 
 pub returns-clause-answers : goal.returns-clause-answers
 returns-clause-answers g c =
-    Answers-polled (λ d. d.lists) (λ l. acts_at (map (λ x. x.items) l.now)) (λ d. noted d.waiting d.ran d.more d.rang) c.poll.result c.args.callbacks.now c.poll.new.runner _ _ c.poll.ensures.polls c.requires.none c.args.table.now.sizes c.requires.idles.of.sizes c.requires.names
+    AnswersSeen-polled (λ d. d.lists) (λ l. acts_at (map (λ x. x.items) l.now)) (λ d. noted d.waiting d.ran d.more d.rang) c.poll.result c.args.callbacks.now c.poll.new.runner _ _ c.poll.ensures.polls c.requires.none c.args.table.now.sizes c.requires.idles.of.sizes c.requires.names
 
 pub returns-clause-none_lives : goal.returns-clause-none_lives
 returns-clause-none_lives g c =

@@ -1,4 +1,4 @@
-use Rattle.bell_loop.proofs.Going.{Goes-set}
+use Rattle.bell_loop.proofs.LogsGoOn.{Goes-set}
 use Rattle.bell_loop.proofs.steps.set.Goals as goal
 
 pub returns-clause-goes : goal.returns-clause-goes

@@ -1,5 +1,5 @@
 use Rattle.std.proofs.Common.{◌≡◌, true, false, refl, sym, ap, ◌∙◌, length}
-use Rattle.co_state.specs.Asked.{Asked}
+use Rattle.co_state.specs.Wants.{Wants}
 use Rattle.co_loop.specs.Crews.{far}
 use Rattle.co_loop.specs.Wakes.{reach}
 use Rattle.co_loop.proofs.Choices.{when_true, when_false}
@@ -24,7 +24,7 @@ returns-then-quits-clause-crew g c =
 
 pub returns-then-quits-clause-carries : goal.returns-then-quits-clause-carries
 returns-then-quits-clause-carries g c =
-    let quits_is : c.args.cx.now.quits ≡ true = sym (c.quits.ensures ∙ ap (λ (a : Asked). a.quits) c.wake_each.ensures.rest) ∙ c.if-quits.true in
+    let quits_is : c.args.cx.now.quits ≡ true = sym (c.quits.ensures ∙ ap (λ (a : Wants). a.quits) c.wake_each.ensures.rest) ∙ c.if-quits.true in
     record {
       woke = record (far c.args.crew.now) { woken = c.wake_each.new.woken.items; seats = c.wake_each.new.seats.items };
       wakes = c.wake_each.ensures.wakes;
@@ -50,7 +50,7 @@ returns-else-quits-clause-crew g c =
 
 pub returns-else-quits-clause-carries : goal.returns-else-quits-clause-carries
 returns-else-quits-clause-carries g c =
-    let quits_is : c.args.cx.now.quits ≡ false = sym (c.quits.ensures ∙ ap (λ (a : Asked). a.quits) c.wake_each.ensures.rest) ∙ c.if-quits.false in
+    let quits_is : c.args.cx.now.quits ≡ false = sym (c.quits.ensures ∙ ap (λ (a : Wants). a.quits) c.wake_each.ensures.rest) ∙ c.if-quits.false in
     record {
       woke = record (far c.args.crew.now) { woken = c.wake_each.new.woken.items; seats = c.wake_each.new.seats.items };
       wakes = c.wake_each.ensures.wakes;

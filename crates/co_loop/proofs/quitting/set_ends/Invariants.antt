@@ -1,7 +1,7 @@
-use Rattle.co_loop.specs.Rows.{IsRow}
+use Rattle.co_loop.specs.Rows.{AreSeatsOfLoops}
 use Rattle.co_loop.specs.Quits.{SetsEnds}
 use Rattle.co_loop.proofs.quitting.set_ends.Given as goal
 
 abbrev pub invariant-loop-at : goal.invariant-loop-at
 invariant-loop-at g l =
-    IsRow l.coroutines l.shared l.seats.items × SetsEnds l.at l.fn.seats.items l.seats.items
+    AreSeatsOfLoops l.coroutines l.shared l.seats.items × SetsEnds l.at l.fn.seats.items l.seats.items

@@ -1,6 +1,6 @@
 use Rattle.std.proofs.Common.{false}
 use Rattle.aio_loop.proofs.Logged.{kept_by_turn}
-use Rattle.device_loop.specs.Devices.{IsDone}
+use Rattle.device_loop.specs.Devices.{DeviceIsDone}
 use Rattle.device_loop.proofs.Kept.{works_done, one_turn_more}
 use Rattle.device_loop.proofs.running.run_until_done.Goals as goal
 
@@ -12,4 +12,4 @@ returns-clause-turns g c =
 
 pub returns-clause-done : goal.returns-clause-done
 returns-clause-done g c =
-    kept_by_turn _ (λ d. IsDone d.counts) (λ x y e works. works_done x.counts y.counts e works) _ _ _ _ _ _ _ _ _ _ c.turn.ensures.turns c.turn_until_done.ensures.done
+    kept_by_turn _ (λ d. DeviceIsDone d.counts) (λ x y e works. works_done x.counts y.counts e works) _ _ _ _ _ _ _ _ _ _ c.turn.ensures.turns c.turn_until_done.ensures.done

@@ -1,6 +1,6 @@
 use Rattle.std.proofs.Common.{sym, subst}
 use Rattle.doorbells.specs.Responding.{AreFit}
-use Rattle.doorbells.specs.Answering.{Answers}
+use Rattle.doorbells.specs.Answering.{AnswersDoorbells}
 use Rattle.doorbells.proofs.Answered.{answered, to_same}
 use Rattle.doorbells.proofs.polling.answer.Goals as goal
 
@@ -17,5 +17,5 @@ returns-clause-answers g c =
     let before = c.args.devices.now in
     let after = c.poll.new.runner in
     let fit = subst (λ z. AreFit z.handles before.answered.items before.to) (sym sizes) c.requires.devices in
-    subst (λ z. Answers z before.to a.seen b.seen (record { answered = before.answered.items; passed_on = before.passed_on }) (record { answered = after.answered.items; passed_on = after.passed_on })) sizes
+    subst (λ z. AnswersDoorbells z before.to a.seen b.seen (record { answered = before.answered.items; passed_on = before.passed_on }) (record { answered = after.answered.items; passed_on = after.passed_on })) sizes
     (answered _ (λ d. d.answered.items) (λ d. d.passed_on) (λ d. d.from) (λ d. d.to) (λ x y e h. h) c.poll.result before after a b fit c.poll.ensures.polls)

@@ -2,7 +2,7 @@ use Rattle.std.proofs.Common.{rules, ◌≡◌, ◌+◌, ◌∷◌, [], ◌++◌
 use Rattle.loop_rows.specs.declared.shared.LoopShared.{LoopShared}
 use Rattle.loop_rows.specs.declared.seats.Seats.{Seats}
 use Rattle.loop_rows.specs.declared.opening.Homes.{Homes}
-use Rattle.loop_rows.specs.Rows.{IsAt, EachAt}
+use Rattle.loop_rows.specs.Rows.{AreSeatsOf, EachAt}
 use Rattle.loop_rows.specs.Opening.{IsNewLoop, NewEach, AreHomesOf, HomesEach}
 use Rattle.loop_rows.proofs.Places.{both_pushed}
 use Rattle.loop_rows.proofs.Building.{three_pushed}
@@ -27,7 +27,7 @@ loop-preserved g c =
       omega (arith, was.5, s.capacity),
       subst (λ (xs : List (LoopShared _ _)). EachAt (n + 1) 0 64 xs c.push_reserved-in-loop-2.new.self.items) (sym t.items)
           (subst (λ (zs : List (Seats _ _)). EachAt (n + 1) 0 64 (c.loop.shared.items ++ made.shared ∷ []) zs) (sym s.items)
-          (both_pushed (λ (x : LoopShared _ _) (z : Seats _ _). IsAt 0 64 x z) c.loop.shared.items c.loop.seats.items n made.shared made.seats ls lz was.6 c.in_ok-made.ensures.seats)),
+          (both_pushed (λ (x : LoopShared _ _) (z : Seats _ _). AreSeatsOf 0 64 x z) c.loop.shared.items c.loop.seats.items n made.shared made.seats ls lz was.6 c.in_ok-made.ensures.seats)),
       subst (λ (xs : List (LoopShared _ _)). HomesEach (n + 1) xs c.push_reserved-in-loop.new.self.items) (sym t.items)
           (subst (λ (ys : List (Homes _ _)). HomesEach (n + 1) (c.loop.shared.items ++ made.shared ∷ []) ys) (sym h.items)
           (both_pushed (λ (x : LoopShared _ _) (y : Homes _ _). AreHomesOf x y) c.loop.shared.items c.loop.homes.items n made.shared made.homes ls lh was.7 c.in_ok-made.ensures.homes)),

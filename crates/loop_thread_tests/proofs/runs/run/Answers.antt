@@ -2,13 +2,13 @@ use Rattle.std.proofs.Common.{◌≡◌, sym, subst, arith, length, vec_len, Lis
 use Rattle.loop_rows.specs.declared.shared.LoopShared.{LoopShared}
 use Rattle.loop_rows.specs.Opening.{NewEach, AreHomesOf}
 use Rattle.loop_threads.specs.Members.{IsMemberOf}
-use Rattle.loop_thread_tests.specs.Walkers.{HaveRoom}
+use Rattle.loop_thread_tests.specs.Walkers.{HaveRoomForWalkers}
 use Rattle.loop_thread_tests.proofs.Room.{have_room}
 use Rattle.loop_thread_tests.proofs.runs.run.Goals as goal
 
 pub post_all-walkers-requires-clause-room : goal.post_all-walkers-requires-clause-room
 post_all-walkers-requires-clause-room g c =
-    subst (λ (l : List (LoopShared _ _)). HaveRoom l) (sym c.deref.ensures.value) (have_room c.args.loops tt c.in-Ok-Ok-Ok.opened c.in-Ok-Ok-Ok.ensures)
+    subst (λ (l : List (LoopShared _ _)). HaveRoomForWalkers l) (sym c.deref.ensures.value) (have_room c.args.loops tt c.in-Ok-Ok-Ok.opened c.in-Ok-Ok-Ok.ensures)
 
 pub prepare-prepared-requires-clause-homes : goal.prepare-prepared-requires-clause-homes
 prepare-prepared-requires-clause-homes g c =

@@ -2,7 +2,7 @@ use Rattle.std.proofs.Common.{◌≡◌, ◌∙◌, sym, ap, subst, arith, lengt
 use Rattle.std.proofs.lemmas.List.{get_or_append_left}
 use Rattle.co_loop.specs.Working.{CanWork, Works}
 use Rattle.loop_threads.specs.declared.parts.Part.{Part}
-use Rattle.loop_threads.specs.Parts.{IsPart, ComesFrom}
+use Rattle.loop_threads.specs.Parts.{IsLoopPart, ComesFrom}
 use Rattle.loop_rows.proofs.Places.{longer}
 use Rattle.loop_threads.proofs.Coming.{last_is, reversed_more}
 use Rattle.loop_threads.proofs.carrying.step_each.Goals as goal
@@ -16,7 +16,7 @@ step-requires g c =
     let e = c.in-Some.ensures.items in
     let n = longer all.items rest.items v e in
     let at = last_is (CanWork g.C.Origin.is_of) (Works g.row.E.Denot g.row.R.Denot g.C.Origin.is_of g.C.Co.resumes g.K.Clock.time) c.args.shared.now c.args.from.now.items all.items rest.items v e (was.3 (length rest.items) v (omega (arith, n, all.ok.0))) in
-    record { lent = c.requires.lent; part = subst (IsPart (CanWork g.C.Origin.is_of) c.args.shared.now) (sym at) (c.requires.parts (length rest.items) v (omega (arith, n, all.ok.0, was.0, c.args.from.now.ok.0))) }
+    record { lent = c.requires.lent; part = subst (IsLoopPart (CanWork g.C.Origin.is_of) c.args.shared.now) (sym at) (c.requires.parts (length rest.items) v (omega (arith, n, all.ok.0, was.0, c.args.from.now.ok.0))) }
 
 pub loop-part-preserved : goal.loop-part-preserved
 loop-part-preserved g c =

@@ -9,10 +9,10 @@ use Rattle.co_loop.specs.Working.{CanWork}
 use Rattle.loop_rows.specs.declared.rows.Row.{Row}
 use Rattle.loop_threads.specs.declared.parts.Part.{Part}
 use Rattle.loop_threads.specs.declared.members.Member.{Member}
-use Rattle.loop_threads.specs.Parts.{IsPart}
+use Rattle.loop_threads.specs.Parts.{IsLoopPart}
 use Rattle.loop_threads.specs.Members.{IsOfPart, IsMemberOf}
 use Rattle.loop_rows.proofs.Places.{at_push, longer, some_of}
-use Rattle.loop_threads.specs.Within.{IsWithin}
+use Rattle.loop_threads.specs.Within.{IsSeenWithin}
 use Rattle.loop_threads.proofs.Holding.{just_joined, stayed_within, united_own, within_still}
 use Rattle.loop_threads.proofs.Membership.{taken_last, member_more}
 use Rattle.loop_threads.proofs.members.join_all.Goals as goal
@@ -26,7 +26,7 @@ join-requires-clause-other g c =
     let e = c.in-Some.ensures.items in
     let n = longer all.items rest.items v e in
     let at = taken_last c.args.parts.items all.items rest.items v e (was.2 (length rest.items) v (omega (arith, n, all.ok.0))) in
-    let is = subst (IsPart (CanWork g.C.Origin.is_of) c.args.shared.now) (sym at) (c.requires.parts.0 (length rest.items) v (omega (arith, n, all.ok.0, was.0, c.requires.parts.2, c.args.parts.ok.0))) in
+    let is = subst (IsLoopPart (CanWork g.C.Origin.is_of) c.args.shared.now) (sym at) (c.requires.parts.0 (length rest.items) v (omega (arith, n, all.ok.0, was.0, c.requires.parts.2, c.args.parts.ok.0))) in
     is.station.row
 
 pub join-requires-clause-next : goal.join-requires-clause-next
@@ -38,7 +38,7 @@ join-requires-clause-next g c =
     let e = c.in-Some.ensures.items in
     let n = longer all.items rest.items v e in
     let at = taken_last c.args.parts.items all.items rest.items v e (was.2 (length rest.items) v (omega (arith, n, all.ok.0))) in
-    let is = subst (IsPart (CanWork g.C.Origin.is_of) c.args.shared.now) (sym at) (c.requires.parts.0 (length rest.items) v (omega (arith, n, all.ok.0, was.0, c.requires.parts.2, c.args.parts.ok.0))) in
+    let is = subst (IsLoopPart (CanWork g.C.Origin.is_of) c.args.shared.now) (sym at) (c.requires.parts.0 (length rest.items) v (omega (arith, n, all.ok.0, was.0, c.requires.parts.2, c.args.parts.ok.0))) in
     let number = subst (λ (x : Part _ _ _). x.number + length rest.items + 1 ≡ length c.args.parts.items) (sym at) (c.requires.parts.1 (length rest.items) v (omega (arith, n, all.ok.0, was.0, c.requires.parts.2, c.args.parts.ok.0))) in
     (omega (arith, is.numbers.first_is, number, was.0, n, all.ok.0, c.requires.parts.2, c.args.parts.ok.0, was.4.first_is, was.4.count_is), omega (arith, is.numbers.count_is))
 
@@ -54,7 +54,7 @@ loop-part-preserved g c =
     let orig = c.args.parts in
     let same = was.2 (length rest.items) v (omega (arith, n, all.ok.0)) in
     let at = taken_last orig.items all.items rest.items v e same in
-    let is = subst (IsPart (CanWork g.C.Origin.is_of) c.args.shared.now) (sym at) (c.requires.parts.0 (length rest.items) v (omega (arith, n, all.ok.0, was.0, c.requires.parts.2, orig.ok.0))) in
+    let is = subst (IsLoopPart (CanWork g.C.Origin.is_of) c.args.shared.now) (sym at) (c.requires.parts.0 (length rest.items) v (omega (arith, n, all.ok.0, was.0, c.requires.parts.2, orig.ok.0))) in
     let done = c.loop-part.members in
     let pushed = c.push_reserved.ensures in
     let number = subst (λ (x : Part _ _ _). x.number + length rest.items + 1 ≡ length orig.items) (sym at) (c.requires.parts.1 (length rest.items) v (omega (arith, n, all.ok.0, was.0, c.requires.parts.2, orig.ok.0))) in
@@ -75,7 +75,7 @@ loop-part-preserved g c =
           k m (omega (arith, lt, pushed.len, done.ok.0)) (λ low. was.5 k t m (omega (arith, low, done.ok.0))))),
       (λ some t s lt. united_own (c.join.ensures.each t (some_of T t lt) s s s (omega arith) lt)),
       (λ j p low high t s w lt. ⊎_elim
-          (λ (is : j ≡ length rest.items). subst (λ (x : Part _ _ _). IsWithin (slice_index_or x.row.seats.items t s) (slice_index_or c.join.new.self.seats.items t w)) (at ∙ get_or_default orig.items (length rest.items) v p (omega (arith, n, all.ok.0, was.0, c.requires.parts.2, orig.ok.0)) ∙ ap (λ (i : ℕ). slice_index_or orig.items i p) (sym is))
+          (λ (is : j ≡ length rest.items). subst (λ (x : Part _ _ _). IsSeenWithin (slice_index_or x.row.seats.items t s) (slice_index_or c.join.new.self.seats.items t w)) (at ∙ get_or_default orig.items (length rest.items) v p (omega (arith, n, all.ok.0, was.0, c.requires.parts.2, orig.ok.0)) ∙ ap (λ (i : ℕ). slice_index_or orig.items i p) (sym is))
           (just_joined (c.join.ensures.each t (some_of T t lt) w s w (omega arith) lt)))
           (λ (ne : j ≡ length rest.items → ⊥).
           let less : vec_len all ≤ j = grind (arith, low, ne, n, all.ok.0, rest.ok.0) in
@@ -91,7 +91,7 @@ loop-part-preserved g c =
           (λ a b x y f low. was.8 a b x y f (omega (arith, low, done.ok.0))) k j p m h (omega (arith, lt, pushed.len, done.ok.0)))),
       (λ none. absurd (omega (arith, none, pushed.len))),
       (λ some t s w lt. ⊎_elim
-          (λ (first : vec_len done ≡ 0). subst (λ (x : Row _ _). IsWithin (slice_index_or x.seats.items t s) (slice_index_or c.join.new.self.seats.items t w)) (was.9 first) (stayed_within (c.join.ensures.each t (some_of T t lt) s w w (omega arith) lt)))
+          (λ (first : vec_len done ≡ 0). subst (λ (x : Row _ _). IsSeenWithin (slice_index_or x.seats.items t s) (slice_index_or c.join.new.self.seats.items t w)) (was.9 first) (stayed_within (c.join.ensures.each t (some_of T t lt) s w w (omega arith) lt)))
           (λ (ne : vec_len done ≡ 0 → ⊥).
           let more : 0 < vec_len done = grind (arith, ne) in
           within_still _ _ _ _ (slice_index_or T t (some_of T t lt)) (c.requires.mine.0.each t (some_of T t lt) s lt) (was.3.each t (some_of T t lt) w lt)

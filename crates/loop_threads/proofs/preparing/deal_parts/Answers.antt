@@ -6,8 +6,8 @@ use Rattle.loop_rows.specs.declared.opening.Homes.{Homes}
 use Rattle.loop_threads.specs.declared.hands.Hand.{Hand}
 use Rattle.loop_threads.specs.declared.parts.Part.{Part}
 use Rattle.loop_rows.specs.Opening.{AreHomesOf}
-use Rattle.loop_threads.specs.Parts.{IsPart}
-use Rattle.loop_threads.specs.Running.{CanBegin, Begins}
+use Rattle.loop_threads.specs.Parts.{IsLoopPart}
+use Rattle.loop_threads.specs.Running.{CanBegin, BeginsRun}
 use Rattle.loop_rows.proofs.Places.{at_push, longer}
 use Rattle.loop_threads.proofs.Membership.{taken_last}
 use Rattle.loop_threads.specs.Dealing.{RowSees}
@@ -48,7 +48,7 @@ loop-one-preserved g c =
     let can = subst (λ (x : Homes _ _). CanBegin (CanWork g.C.Origin.is_of) T (length hr.items) x hand) (sym (taken_last c.args.homes.items H.items hr.items one eh sh))
     (subst (λ (i : ℕ). CanBegin (CanWork g.C.Origin.is_of) T i (slice_index_or c.args.homes.items i one) hand) same
     (subst (λ (x : Hand _). CanBegin (CanWork g.C.Origin.is_of) T (length dr.items) (slice_index_or c.args.homes.items (length dr.items) one) x) (sym (taken_last c.args.hands.items D.items dr.items hand ed sd)) (c.requires.hands.1 (length dr.items) one hand (omega (arith, lt, same))))) in
-    let is : IsPart (CanWork g.C.Origin.is_of) T made = part_begins (CanWork g.C.Origin.is_of) T (length hr.items) one hand row lt are can dealt.1.0
+    let is : IsLoopPart (CanWork g.C.Origin.is_of) T made = part_begins (CanWork g.C.Origin.is_of) T (length hr.items) one hand row lt are can dealt.1.0
     (record { first_is = omega (arith, dealt.1.1.first_is, was.1, was.2, nh, nr, H.ok.0, R.ok.0, c.requires.few); count_is = dealt.1.1.count_is }) made (ap (λ (i : ℕ). part_of i one hand row) nl) in (
       omega (arith, same, hr.ok.0, dr.ok.0),
       omega (arith, was.1, nh, H.ok.0, hr.ok.0, pushed.len),
@@ -57,10 +57,10 @@ loop-one-preserved g c =
       dealt.0,
       (λ k h low. sym (ap (λ l. slice_index_or l k h) eh ∙ get_or_append_left hr.items (one ∷ []) h k (omega (arith, low, hr.ok.0))) ∙ was.5 k h (omega (arith, low, nh, H.ok.0, hr.ok.0))),
       (λ k d low. sym (ap (λ l. slice_index_or l k d) ed ∙ get_or_append_left dr.items (hand ∷ []) d k (omega (arith, low, dr.ok.0))) ∙ was.6 k d (omega (arith, low, nd, D.ok.0, dr.ok.0))),
-      (λ j p low. subst (λ (xs : List (Part _ _ _)). IsPart (CanWork g.C.Origin.is_of) T (slice_index_or xs j p) × ((slice_index_or xs j p).number + j + 1 ≡ length T)) (sym pushed.items)
-          (at_push (λ (i : ℕ) (x : Part _ _ _). IsPart (CanWork g.C.Origin.is_of) T x × (x.number + i + 1 ≡ length T)) parts.items (length parts.items) made refl (is, omega (arith, nl, was.1, nh, H.ok.0, parts.ok.0)) j p (omega (arith, low, pushed.len, parts.ok.0)) (λ less. was.7 j p (omega (arith, less, parts.ok.0))))),
-      (λ k j h d p at low. subst (λ (xs : List (Part _ _ _)). Begins (slice_index_or c.args.homes.items k h) (slice_index_or c.args.hands.items k d) (slice_index_or xs j p)) (sym pushed.items)
-          (begin_more (λ (x : Homes _ _) (y : Hand _) (z : Part _ _ _). Begins x y z) c.args.homes.items H.items hr.items c.args.hands.items D.items dr.items parts.items one hand made (length T) eh ed (omega (arith, was.0, H.ok.0, D.ok.0)) (omega (arith, was.1, H.ok.0, parts.ok.0))
+      (λ j p low. subst (λ (xs : List (Part _ _ _)). IsLoopPart (CanWork g.C.Origin.is_of) T (slice_index_or xs j p) × ((slice_index_or xs j p).number + j + 1 ≡ length T)) (sym pushed.items)
+          (at_push (λ (i : ℕ) (x : Part _ _ _). IsLoopPart (CanWork g.C.Origin.is_of) T x × (x.number + i + 1 ≡ length T)) parts.items (length parts.items) made refl (is, omega (arith, nl, was.1, nh, H.ok.0, parts.ok.0)) j p (omega (arith, low, pushed.len, parts.ok.0)) (λ less. was.7 j p (omega (arith, less, parts.ok.0))))),
+      (λ k j h d p at low. subst (λ (xs : List (Part _ _ _)). BeginsRun (slice_index_or c.args.homes.items k h) (slice_index_or c.args.hands.items k d) (slice_index_or xs j p)) (sym pushed.items)
+          (begin_more (λ (x : Homes _ _) (y : Hand _) (z : Part _ _ _). BeginsRun x y z) c.args.homes.items H.items hr.items c.args.hands.items D.items dr.items parts.items one hand made (length T) eh ed (omega (arith, was.0, H.ok.0, D.ok.0)) (omega (arith, was.1, H.ok.0, parts.ok.0))
           (omega (arith, c.requires.homes.0, c.args.homes.ok.0)) (omega (arith, c.requires.hands.0, c.args.hands.ok.0)) sh sd (record { home_is = refl; lots_are = refl; coroutines_are = refl; side_is = refl; work_is = refl; not_ended = refl })
           (λ a b x y z f less. was.8 a b x y z f (omega (arith, less, parts.ok.0))) k j h d p at (omega (arith, low, pushed.len, parts.ok.0)))),
       (λ whole see.

@@ -5,10 +5,10 @@ use denote.Param.Send.{IsSend, IsSync, param_send, arg_send, shr_send, shr_slice
 use Rattle.loop_rows.specs.contracts.shared.LoopShared as LoopShared
 use Rattle.loop_rows.proofs.shared.LoopShared.TheSendSync.{the_sync as loop_sync}
 use Rattle.std.proofs.sync.atomic.AtomicBool.TheSendSync.{the_sync as flag_sync}
-use Rattle.co_loop.specs.Rows.{AreOf}
+use Rattle.co_loop.specs.Rows.{AreOfOrigin}
 use Rattle.co_loop.specs.Working.{CanWork, Works}
 use Rattle.loop_threads.specs.declared.parts.Part.{Part}
-use Rattle.loop_threads.specs.Parts.{IsPart, ComesFrom, AllCarried}
+use Rattle.loop_threads.specs.Parts.{IsLoopPart, ComesFrom, AllCarried}
 use Rattle.loop_rows.proofs.Places.{longer}
 use Rattle.loop_threads.proofs.Sending.{part_work_send, five_send}
 use Rattle.loop_threads.proofs.Coming.{carried_through}
@@ -20,7 +20,7 @@ pub spawn_with-requires : goal.spawn_with-requires
 spawn_with-requires g t c κs within =
     let e = c.in-Err.ensures.err in
     let rest = parts_popped (CanWork g.C.Origin.is_of) (Works g.row.E.Denot g.row.R.Denot g.C.Origin.is_of g.C.Co.resumes g.K.Clock.time) c.args.shared.now c.args.waiting.items c.pop.new.self.items c.in-Some.part c.in-Some.ensures.items c.requires.waiting in
-    (search (rules, within), (search (rules, within), (search (rules, within), (search (rules, within), (search (rules, within), subst (λ (v : _). AreOf (g.C.Co.source_of v.1.now) v.2.now × IsPart (CanWork g.C.Origin.is_of) v.2.now v.4) (sym e) (c.requires.lent, rest.1))))))
+    (search (rules, within), (search (rules, within), (search (rules, within), (search (rules, within), (search (rules, within), subst (λ (v : _). AreOfOrigin (g.C.Co.source_of v.1.now) v.2.now × IsLoopPart (CanWork g.C.Origin.is_of) v.2.now v.4) (sym e) (c.requires.lent, rest.1))))))
 
 pub spawn_with-started-requires-send-F : goal.spawn_with-started-requires-send-F
 spawn_with-started-requires-send-F g t c κs within =

@@ -3,7 +3,7 @@ use Rattle.std.proofs.Math.ListN.{length-set}
 use Rattle.std.specs.List.{flat_map}
 use Rattle.aio_model.specs.PrintedText.{line_for}
 use Rattle.aio_model.proofs.InOrder.{asked_rest}
-use Rattle.aio_script.proofs.Gathered.{Gathers-then, Gathers-stops, Gathers-same}
+use Rattle.aio_script.proofs.Gathered.{PutsOnPage-then, PutsOnPage-stops, PutsOnPage-same}
 use Rattle.reply_printing.specs.declared.links.Links.{Links}
 use Rattle.reply_printing.proofs.NextLines.{AreNext-more, AreNext-silent, is_ask-other, next-inside, printed-more, printed-silent, printed-whole, stream-below}
 use Rattle.reply_printing.proofs.print.print_lines.Goals as goal
@@ -41,11 +41,11 @@ returns-in_err-print_one-clause-gathers g c =
     let known : step.stream < length links.next =
     omega (arith, stream-below lines served k step inside c.line-item.is 64 c.requires.streams) in
     let rest = flat_map (line_for served) (asked_rest lines k step inside c.line-item.is) in
-    Gathers-same
+    PutsOnPage-same
     (printed-whole lines served k step inside c.line-item.is c.requires.order links.next links.behind.items c.loop-line.invariant.next
     c.in-Ask.request c.in-Ask.is known c.take-place.result c.take-place.ensures.first c.index-served-place.result c.index-served-place.is)
-    (Gathers-then c.from_residual.result c.loop-line.invariant.printed
-    (Gathers-stops rest c.from_residual.result c.from_residual.ensures.0 c.in_err-print_one.ensures))
+    (PutsOnPage-then c.from_residual.result c.loop-line.invariant.printed
+    (PutsOnPage-stops rest c.from_residual.result c.from_residual.ensures.0 c.in_err-print_one.ensures))
 
 pub loop-line-preserved : goal.loop-line-preserved
 loop-line-preserved g c =
@@ -60,10 +60,10 @@ loop-line-preserved g c =
     elim c.match-line.branch [
       | in-Ask+in_ok-print_one w ↦ record {
         printed = rw (w.sink-is, w.page-is)
-            (Gathers-same
+            (PutsOnPage-same
             (printed-more lines served k step inside c.line-item.is c.requires.order links.next links.behind.items c.loop-line.invariant.next
             w.in-Ask.request w.in-Ask.is known w.take-place.result w.take-place.ensures.first w.index-served-place.result w.index-served-place.is)
-            (Gathers-then (Ok tt) c.loop-line.invariant.printed w.in_ok-print_one.ensures));
+            (PutsOnPage-then (Ok tt) c.loop-line.invariant.printed w.in_ok-print_one.ensures));
         sized = ap length (ap (λ (l : Links). l.next) w.links-is ∙ w.take-place.ensures.next)
             ∙ length-set links.next step.stream (slice_index links.behind.items w.take-place.result) ∙ c.loop-line.invariant.sized;
         room = ap length (ap (λ (l : Links). l.behind.items) w.links-is ∙ w.take-place.ensures.behind) ∙ c.loop-line.invariant.room;
@@ -73,7 +73,7 @@ loop-line-preserved g c =
       }
       | in_default w ↦
           let silent = is_ask-other step.what w.in_default.not-Ask in record {
-            printed = rw (w.sink-is, w.page-is) (Gathers-same (printed-silent lines served k step inside c.line-item.is silent) c.loop-line.invariant.printed);
+            printed = rw (w.sink-is, w.page-is) (PutsOnPage-same (printed-silent lines served k step inside c.line-item.is silent) c.loop-line.invariant.printed);
             sized = ap (λ (l : Links). length l.next) w.links-is ∙ c.loop-line.invariant.sized;
             room = ap (λ (l : Links). length l.behind.items) w.links-is ∙ c.loop-line.invariant.room;
             next = rw w.links-is (AreNext-silent lines served k step inside c.line-item.is links.next links.behind.items silent c.loop-line.invariant.next);

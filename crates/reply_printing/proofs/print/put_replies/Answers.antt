@@ -2,7 +2,7 @@ use Rattle.std.proofs.Common.{◌≡◌, ◌∙◌, length, ap}
 use Rattle.aio_model.specs.Asked.{asked}
 use Rattle.aio_model.specs.SerialHistory.{errors_of}
 use Rattle.aio_model.specs.PrintedText.{end_line}
-use Rattle.aio_script.proofs.Gathered.{Gathers-then, Gathers-stops, Gathers-same}
+use Rattle.aio_script.proofs.Gathered.{PutsOnPage-then, PutsOnPage-stops, PutsOnPage-same}
 use Rattle.reply_printing.proofs.StreamCounts.{served-many, streams-below}
 use Rattle.reply_printing.proofs.print.put_replies.Goals as goal
 
@@ -11,7 +11,7 @@ link-requires-clause-streams g c = streams-below 64 c.args.lines.now c.args.serv
 
 pub returns-in_err-print_lines-clause-gathers : goal.returns-in_err-print_lines-clause-gathers
 returns-in_err-print_lines-clause-gathers g c =
-    Gathers-stops (end_line (length (asked c.args.lines.now)) (errors_of c.args.served.now)) c.from_residual.result c.from_residual.ensures.0
+    PutsOnPage-stops (end_line (length (asked c.args.lines.now)) (errors_of c.args.served.now)) c.from_residual.result c.from_residual.ensures.0
     c.in_err-print_lines.ensures.gathers
 
 pub returns-clause-gathers : goal.returns-clause-gathers
@@ -20,4 +20,4 @@ returns-clause-gathers g c =
     let served = c.args.served.now in
     let last : end_line (length served) c.errors_in.result ≡ end_line (length all) (errors_of served) =
     ap (λ n. end_line n c.errors_in.result) (served-many c.args.lines.now served c.requires.order) ∙ ap (end_line (length all)) c.errors_in.ensures in
-    Gathers-then c.print_last.result c.in_ok-print_lines.ensures.gathers (Gathers-same last c.print_last.ensures)
+    PutsOnPage-then c.print_last.result c.in_ok-print_lines.ensures.gathers (PutsOnPage-same last c.print_last.ensures)

@@ -4,9 +4,9 @@ use Rattle.aio_model.specs.declared.scripts.Step.{Step}
 use Rattle.aio_model.specs.Asked.{asked, is_ask}
 use Rattle.aio_model.specs.SerialHistory.{bytes_left}
 use Rattle.served_check.specs.Cursors.{none_done}
-use Rattle.served_check.specs.Judging.{Goes}
+use Rattle.served_check.specs.Judging.{RepliesGoOn}
 use Rattle.served_check.proofs.Named.{length-asked}
-use Rattle.served_check.proofs.Whole.{Goes-whole, whole-long}
+use Rattle.served_check.proofs.Whole.{RepliesGoOn-whole, whole-long}
 use Rattle.served_check.proofs.judging.replay.Goals as goal
 
 pub returns-then-served-count_requests : goal.returns-then-served-count_requests
@@ -26,11 +26,11 @@ returns c =
     let opened : c.as_mut_slice.result.now ≡ c.args.opening.now = c.as_mut_slice.ensures.value ∙ c.in-Ok.ensures.items in
     let counted : c.count_requests.result ≡ count_by (λ (step : Step). is_ask step.what) lines =
     c.count_requests.ensures ∙ ap (count_by (λ (step : Step). is_ask step.what)) c.as_slice-lines.ensures in
-    let goes : Goes size (asked lines) none_done c.args.opening.now served =
-    subst (λ (l : List Step). Goes size (asked l) none_done c.args.opening.now served) c.as_slice-lines.ensures
-    (subst (λ (b : List ℕ). Goes size (asked read) none_done b served) opened (c.in_ok-serve_all.ensures.goes.0 c.if-not-branch.false)) in
+    let goes : RepliesGoOn size (asked lines) none_done c.args.opening.now served =
+    subst (λ (l : List Step). RepliesGoOn size (asked l) none_done c.args.opening.now served) c.as_slice-lines.ensures
+    (subst (λ (b : List ℕ). RepliesGoOn size (asked read) none_done b served) opened (c.in_ok-serve_all.ensures.goes.0 c.if-not-branch.false)) in
     let all : length c.serve_all.new.bytes ≡ c.in-Ok.bytes.len = omega (arith, c.in-Ok.bytes.ok.0, c.serve_all.auto.bytes, ap length c.as_mut_slice.ensures.value) in (
-      Goes-whole size (asked lines) c.args.opening.now served (c.if-served-count_requests.false ∙ counted ∙ sym (length-asked lines)) goes,
+      RepliesGoOn-whole size (asked lines) c.args.opening.now served (c.if-served-count_requests.false ∙ counted ∙ sym (length-asked lines)) goes,
       take_at c.serve_all.new.bytes _ c.in-Ok.bytes.len all
           ∙ c.in_ok-serve_all.ensures.left c.if-not-branch.false
           ∙ ap (λ (l : List Step). bytes_left (asked l) served c.as_mut_slice.result.now) c.as_slice-lines.ensures

@@ -15,5 +15,5 @@ returns-clause-answers g c =
     let lists = c.poll-polled.ensures.lists ∙ ap (λ s. s.lists) c.begin_poll.ensures.rest in
     Answers-poll reply (state_of old) _
     (ap (λ l. record { sizes = old.table.sizes; lists = map (λ x. x.items) l.now; seen = after.home.seat.known.seen; rang = after.callbacks.rang; living = 0; marks = old.marks }) lists)
-    (subst (λ s. one.Answers old.table.sizes (acts_at (map (λ x. x.items) s.lists.now)) Poll reply s.rang after.callbacks.rang old.home.seat.known.seen after.home.seat.known.seen) c.begin_poll.ensures.rest c.poll-polled.ensures.answers)
+    (subst (λ s. one.AnswersSeen old.table.sizes (acts_at (map (λ x. x.items) s.lists.now)) Poll reply s.rang after.callbacks.rang old.home.seat.known.seen after.home.seat.known.seen) c.begin_poll.ensures.rest c.poll-polled.ensures.answers)
     c.poll-polled.ensures.none_lives c.poll-polled.ensures.events

@@ -8,7 +8,7 @@ use Rattle.co_loop.specs.declared.on_loop.CoLoop.{CoLoop}
 use Rattle.co_loop.specs.Again.{is_kept}
 use Rattle.co_loop.specs.Crews.{far}
 use Rattle.co_loop.specs.Loops.{IsOnLoop, on_loop}
-use Rattle.co_loop.specs.Rows.{IsRow}
+use Rattle.co_loop.specs.Rows.{AreSeatsOfLoops}
 use Rattle.co_loop.specs.Numbers.{numbers}
 use Rattle.co_loop.proofs.Numbered.{runner_does}
 use Rattle.co_loop.proofs.Stationed.{fits_lent, lots_here, home_here, lots_there, home_there, together, fits_again, row_again, numbers_by_turn, turns_for}
@@ -42,7 +42,7 @@ returns-clause-station g c =
       lots = lots_there g.C.Origin.is_of c.args.shared.now c.args.station.number c.args.station.turning.table.now c.args.station.turning.pool.now c.turn-turned.new.aio.lot_pass on c.turn-turned.ensures.lots;
       coroutines = λ t. subst (λ (k : ℕ). IsCoSeatOf (slice_index_or c.args.shared.now k t).coroutines after.home) own (fits.home_of t).home_of;
       row = row_again c.args.shared.now c.args.station.row row_end after.crew.coroutines c.requires.station.row
-          (subst (λ (v : Vec (Seats g.row.C.Denot g.row.C-Source.Denot) Global). IsRow after.crew.coroutines c.args.shared.now v.items) (sym seats_are) fits.is_crew.row)
+          (subst (λ (v : Vec (Seats g.row.C.Denot g.row.C-Source.Denot) Global). AreSeatsOfLoops after.crew.coroutines c.args.shared.now v.items) (sym seats_are) fits.is_crew.row)
           (ap (λ (v : Vec (Seats g.row.C.Denot g.row.C-Source.Denot) Global). numbers v.items) seats_are
           ∙ numbers_by_turn _ (λ (e : CoLoop g.row.C.Denot g.row.E.Denot g.row.R.Denot g.row.C-Source.Denot). far e.crew) _ (λ a e b d. runner_does g.C.Origin.is_of g.C.Co.resumes a.shared.now e (on_loop a.crew a.home a.is_ended) (on_loop b.crew b.home b.is_ended) d.2) _ _ _ _ _ _ _ _ _ _ _ c.turn-turned.ensures.turns
           ∙ ap (λ (k : Crew g.row.C.Denot g.row.C-Source.Denot). numbers k.seats.items) c.exchange_seats.ensures.crew)

@@ -1,7 +1,7 @@
 use Rattle.std.proofs.Common.{◌<◌, sym, ap, ◌∙◌, subst, arith}
 use Rattle.table_seats.proofs.Splitting.{half_below, back_first, back_count, front_count}
 use Rattle.co_schedule.specs.Slots.{Kept}
-use Rattle.co_schedule.specs.Parcels.{given_in, IsOf}
+use Rattle.co_schedule.specs.Parcels.{given_in, IsParcelOf}
 use Rattle.co_schedule.specs.Seating.{front_known, back_known, half_cut}
 use Rattle.co_schedule.proofs.Seating.{split_allowed}
 use Rattle.co_schedule.proofs.OriginsDivided.{splits_of}
@@ -13,7 +13,7 @@ split_seat-inner-requires g c =
     let s = c.seat.inside.inner in
     let t = c.self.inside.table.shared in
     let v = s.me.0.known in
-    let of = IsOf g.C.Origin.is_of t.key.origin.value in
+    let of = IsParcelOf g.C.Origin.is_of t.key.origin.value in
     let many : 1 < v.count = subst (λ z. 1 < z.known.count) (sym c.seat.view_is) c.requires.many in
     let half = half_below v.count (omega arith) in (
       ap (λ z. z.table) c.seat.view_is ∙ c.requires.seat.tables ∙ sym (ap (λ z. z.table) c.self.view_is),

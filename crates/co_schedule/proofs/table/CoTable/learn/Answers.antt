@@ -3,7 +3,7 @@ use mathlib.Core.Option.{none}
 use Rattle.atomic_table.specs.Table.{step}
 use Rattle.co_schedule.specs.Words.{head_at}
 use Rattle.co_schedule.specs.Slots.{Kept}
-use Rattle.co_schedule.specs.Parcels.{given_in, IsOf}
+use Rattle.co_schedule.specs.Parcels.{given_in, IsParcelOf}
 use Rattle.co_schedule.specs.Plays.{learned}
 use Rattle.co_schedule.proofs.Learning.{learn_allowed}
 use Rattle.co_schedule.proofs.Opened.{head_within, with_origin}
@@ -13,7 +13,7 @@ pub load-requires : goal.load-requires
 load-requires g c =
     let s = c.args.inner.now in
     let t = c.self.inside.table.shared in
-    let of = IsOf g.C.Origin.is_of t.key.origin.value in
+    let of = IsParcelOf g.C.Origin.is_of t.key.origin.value in
     let kept = Kept given_in of t.key.coroutines in (
       c.requires.table ∙ sym (ap (λ z. z.table) c.self.view_is),
       head_within t.table_id.words t.key.coroutines c.self.invariant.1,

@@ -3,7 +3,7 @@ use mathlib.Core.Option.{none}
 use Rattle.atomic_table.specs.Table.{step}
 use Rattle.co_schedule.specs.Words.{mark_at}
 use Rattle.co_schedule.specs.Slots.{Kept}
-use Rattle.co_schedule.specs.Parcels.{given_in, IsOf}
+use Rattle.co_schedule.specs.Parcels.{given_in, IsParcelOf}
 use Rattle.co_schedule.specs.Plays.{mark_seen}
 use Rattle.co_schedule.proofs.Looking.{mark_look_allowed}
 use Rattle.co_schedule.proofs.Opened.{mark_within, all_numbers, some_numbers, with_origin}
@@ -15,7 +15,7 @@ load-requires g c =
     let t = c.self.inside.table.shared in
     let co = c.args.co in
     let low : co < t.key.coroutines = subst (λ z. co < z.coroutines) (sym c.self.view_is) c.requires.below in
-    let of = IsOf g.C.Origin.is_of t.key.origin.value in
+    let of = IsParcelOf g.C.Origin.is_of t.key.origin.value in
     let kept = Kept given_in of t.key.coroutines in (
       c.requires.table ∙ sym (ap (λ z. z.table) c.self.view_is),
       mark_within t.table_id.words c.mark_word.result co t.key.coroutines c.self.invariant.1 c.mark_word.ensures low,

@@ -1,6 +1,6 @@
 use Rattle.std.proofs.Common.{sym, ap, ◌∙◌, arith}
 use Rattle.co_schedule.specs.Slots.{Kept}
-use Rattle.co_schedule.specs.Parcels.{given_in, IsOf}
+use Rattle.co_schedule.specs.Parcels.{given_in, IsParcelOf}
 use Rattle.co_schedule.specs.Seating.{front_known, back_known}
 use Rattle.co_schedule.proofs.Seating.{split_allowed}
 use Rattle.co_schedule.proofs.OriginsDivided.{splits_of}
@@ -12,7 +12,7 @@ split_seat-home-requires g c =
     let s = c.args.inner in
     let t = c.self.inside.table.shared in
     let v = s.me.0.known in
-    let of = IsOf g.C.Origin.is_of t.key.origin.value in
+    let of = IsParcelOf g.C.Origin.is_of t.key.origin.value in
     let count = c.requires.numbers.1 in (
       c.requires.table ∙ sym (ap (λ z. z.table) c.self.view_is),
       head_within t.table_id.words t.key.coroutines c.self.invariant.1,

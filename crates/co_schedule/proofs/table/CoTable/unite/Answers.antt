@@ -1,6 +1,6 @@
 use Rattle.std.proofs.Common.{refl, sym, ap, ◌∙◌}
 use Rattle.co_schedule.specs.Slots.{Kept}
-use Rattle.co_schedule.specs.Parcels.{given_in, IsOf}
+use Rattle.co_schedule.specs.Parcels.{given_in, IsParcelOf}
 use Rattle.co_schedule.specs.Seating.{joined_known, spent_known}
 use Rattle.co_schedule.proofs.Seating.{join_allowed}
 use Rattle.co_schedule.proofs.OriginsDivided.{joins_of}
@@ -12,7 +12,7 @@ join_seat-requires g c =
     let s = c.args.inner.now in
     let o = c.args.other in
     let t = c.self.inside.table.shared in
-    let of = IsOf g.C.Origin.is_of t.key.origin.value in
+    let of = IsParcelOf g.C.Origin.is_of t.key.origin.value in
     let here = sym (ap (λ z. z.table) c.self.view_is) in (
       c.requires.table.0 ∙ here,
       c.requires.table.1 ∙ here,

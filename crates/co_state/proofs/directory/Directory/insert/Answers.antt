@@ -1,5 +1,5 @@
 use Rattle.std.proofs.Common.{◌≡◌, ◌∙◌, ◌+◌, ◌<◌, None, Some, length, cond, eqb, sym, ap, subst, arith}
-use Rattle.co_state.specs.Lookup.{Table, shape, ids_in, key_in, size_of, IsSorted, AreBelow}
+use Rattle.co_state.specs.Lookup.{Table, shape, ids_in, key_in, size_of, IsSorted, AreSmall}
 use Rattle.co_state.specs.declared.tree.Entry.{Entry}
 use Rattle.co_state.proofs.Trees.{insert_below, insert_sorted, insert_size, key_inserted, length_ids, none_is_in}
 use Rattle.co_state.proofs.directory.Directory.insert.Goals as goal
@@ -21,7 +21,7 @@ invariant_of-self c =
       subst (IsSorted (λ q. q)) (sym c.insert.ensures) (insert_sorted (λ q. q) (shape inside.tree) new c.self.invariant.0 absent),
       ap (λ n. n + 1) c.self.invariant.1 ∙ sym (ap size_of c.insert.ensures ∙ insert_size (shape inside.tree) new c.args.id),
       omega (arith, fewer, inside.spares.ok.0, c.pop.new.self.ok.0, c.self.invariant.2, c.pop.ensures.capacity),
-      subst AreBelow (sym c.insert.ensures) (insert_below (shape inside.tree) new c.args.id c.self.invariant.3 c.ranges.id.fits),
+      subst AreSmall (sym c.insert.ensures) (insert_below (shape inside.tree) new c.args.id c.self.invariant.3 c.ranges.id.fits),
     )
 
 pub returns-clause-keys : goal.returns-clause-keys

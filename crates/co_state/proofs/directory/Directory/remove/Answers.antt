@@ -1,5 +1,5 @@
 use Rattle.std.proofs.Common.{◌∙◌, ◌+◌, IsSome, None, length, cond, eqb, sym, ap, subst, arith}
-use Rattle.co_state.specs.Lookup.{Table, shape, ids_in, key_in, size_of, IsSorted, AreBelow}
+use Rattle.co_state.specs.Lookup.{Table, shape, ids_in, key_in, size_of, IsSorted, AreSmall}
 use Rattle.co_state.proofs.Trees.{remove_less, remove_sorted, remove_size, key_removed, length_ids}
 use Rattle.co_state.proofs.directory.Directory.remove.Goals as goal
 
@@ -11,7 +11,7 @@ invariant_of-self c =
       subst (IsSorted (λ q. q)) (sym c.remove.ensures.left) (remove_sorted (shape inside.tree) c.args.id c.self.invariant.0 some),
       omega (arith, c.self.invariant.1, size, ap size_of c.remove.ensures.left),
       omega (arith, c.self.invariant.1, c.self.invariant.2, size, inside.spares.ok.0, c.push_reserved.new.self.ok.0, c.push_reserved.ensures.len, c.push_reserved.ensures.capacity),
-      subst AreBelow (sym c.remove.ensures.left) (λ q there. c.self.invariant.3 q (remove_less (shape inside.tree) c.args.id c.self.invariant.0 some q there)),
+      subst AreSmall (sym c.remove.ensures.left) (λ q there. c.self.invariant.3 q (remove_less (shape inside.tree) c.args.id c.self.invariant.0 some q there)),
     )
 
 pub returns-clause-keys : goal.returns-clause-keys

@@ -1,7 +1,7 @@
 use Rattle.std.proofs.Common.{◌≡◌, ◌∙◌, ℕ, Option, IfSome, sym, ap, subst}
 use Rattle.aio_model.specs.declared.holds.Hold.TheVariants.{Reads, Writes, WaitsWrite}
 use Rattle.aio_model.specs.Readers.{ReadersWriter, hold_of}
-use Rattle.aio_model.specs.Holds.{Has, Waits, answered, after_wake, IsSettled}
+use Rattle.aio_model.specs.Holds.{Has, HasTicket, answered, after_wake, IsSettled}
 use Rattle.aio_model.specs.RwTable.{Exchanged, stepped_back, queued_again, upgraded, wake_one}
 use Rattle.aio_model.proofs.Holding.{exchanges}
 use Rattle.co_waits.proofs.Tables.{steps_back}
@@ -52,7 +52,7 @@ returns-else-is_single-clause-granted c =
     let queued : c.step_back.new.self ≡ stepped_back c.args.who state = c.step_back.ensures.stepped in
     let left : c.wake_one-woken.new.self ≡ (upgraded c.args.who state).state = c.wake_one-woken.ensures.left ∙ ap (λ (s : ReadersWriter). (wake_one s).state) queued ∙ sym (ap (λ (x : Exchanged). x.state) stepped) in
     let woken : c.wake_one-woken.result ≡ (upgraded c.args.who state).woken = c.wake_one-woken.ensures.woken ∙ ap (λ (s : ReadersWriter). (wake_one s).woken) queued ∙ sym (ap (λ (x : Exchanged). x.woken) stepped) in
-    let told : IfSome c.wake_one-woken.result (λ w. Waits (hold_of state w) × Has (hold_of c.wake_one-woken.new.self w)) =
-    subst (λ (o : Option ℕ). IfSome o (λ w. Waits (hold_of state w) × Has (hold_of c.wake_one-woken.new.self w))) (sym woken)
-    (subst (λ (s : ReadersWriter). IfSome (upgraded c.args.who state).woken (λ w. Waits (hold_of state w) × Has (hold_of s w))) (sym left) all.woken) in
-    subst (λ (s : ReadersWriter). IfSome c.wake_one-woken.result (λ w. Waits (hold_of s w) × Has (hold_of c.wake_one-woken.new.self w))) c.self.view_is told
+    let told : IfSome c.wake_one-woken.result (λ w. HasTicket (hold_of state w) × Has (hold_of c.wake_one-woken.new.self w)) =
+    subst (λ (o : Option ℕ). IfSome o (λ w. HasTicket (hold_of state w) × Has (hold_of c.wake_one-woken.new.self w))) (sym woken)
+    (subst (λ (s : ReadersWriter). IfSome (upgraded c.args.who state).woken (λ w. HasTicket (hold_of state w) × Has (hold_of s w))) (sym left) all.woken) in
+    subst (λ (s : ReadersWriter). IfSome c.wake_one-woken.result (λ w. HasTicket (hold_of s w) × Has (hold_of c.wake_one-woken.new.self w))) c.self.view_is told

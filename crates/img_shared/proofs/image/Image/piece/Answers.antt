@@ -1,7 +1,7 @@
 use Rattle.std.proofs.Common.{◌≡◌, ◌+◌, ◌<◌, ◌∙◌, sym, ap, subst, length, arith}
 use Rattle.std.proofs.lemmas.List.{get_or_default}
 use Rattle.aio_words.specs.Called.{failures_in}
-use Rattle.img_requests.proofs.CallCounts.{MakesCall-sizes, MakesCall-failures}
+use Rattle.img_requests.proofs.CallCounts.{MakesDeviceCall-sizes, MakesDeviceCall-failures}
 use Rattle.img_requests.specs.declared.present.Present.{Present}
 use Rattle.img_requests.specs.Pieces.{done_after, stage_after}
 use Rattle.img_requests.specs.Presents.{present_of}
@@ -41,8 +41,8 @@ invariant_of-self g c =
           (ap (λ (p : Present). p.stage) c.after-answer.ensures.present)
           c.serve_piece.ensures.extent c.serve_piece.ensures.sizes c.serve_piece.ensures.counted
           (cause_of c.serve_piece.result c.is_ok-served.result _ _ _ c.after-answer.result.0 c.is_ok-served.ensures.value c.after-answer.ensures.answer c.serve_piece.ensures.cause)
-          (MakesCall-sizes _ _ _ _ _ _ c.serve_piece.ensures.calls)
-          (MakesCall-failures _ _ _ _ _ _ c.serve_piece.ensures.calls
+          (MakesDeviceCall-sizes _ _ _ _ _ _ c.serve_piece.ensures.calls)
+          (MakesDeviceCall-failures _ _ _ _ _ _ c.serve_piece.ensures.calls
           ∙ ap (λ n. failures_in (g.D.Device.calls c.self.inside.device) + n) (failed_as c.serve_piece.result c.is_ok-served.result _ _ c.after-answer.result.0 c.is_ok-served.ensures.value c.after-answer.ensures.answer));
     }
 

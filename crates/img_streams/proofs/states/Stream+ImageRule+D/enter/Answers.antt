@@ -1,7 +1,7 @@
 use Rattle.std.proofs.Common.{◌∙◌, ◌++◌, [], false, ap, inl, refl, true}
 use Rattle.img_streams.specs.Deeds.{listed, asks}
 use Rattle.img_streams.specs.Streams.{source}
-use Rattle.img_streams.proofs.Going.{due_now, small_now, can_now}
+use Rattle.img_streams.proofs.StreamsGoOn.{due_now, small_now, can_now}
 use Rattle.img_streams.proofs.Entering.{line_of, asks_entering, waits_resumes, hand_asks, entered_is, entered_resumes}
 use Rattle.img_streams.proofs.states.Stream+ImageRule+D.enter.Goals as goal
 

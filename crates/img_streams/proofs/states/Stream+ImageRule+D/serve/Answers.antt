@@ -6,7 +6,7 @@ use Rattle.std.specs.Vec.{with_items}
 use Rattle.std.proofs.lemmas.List.{with_items_is}
 use Rattle.img_requests.specs.Pieces.{HasRoom}
 use Rattle.img_streams.specs.Own.{own_note}
-use Rattle.img_streams.proofs.Going.{room_now}
+use Rattle.img_streams.proofs.StreamsGoOn.{room_now}
 use Rattle.img_streams.proofs.Serving.{asks_serving, serving_now, served_is, served_resumes, served_at, calls_at}
 use Rattle.img_streams.proofs.states.Stream+ImageRule+D.serve.Goals as goal
 

@@ -6,7 +6,7 @@ use Rattle.img_streams.specs.Deeds.{listed, asks, woken_by, TookUp}
 use Rattle.img_streams.specs.Own.{own_note}
 use Rattle.img_streams.specs.Streams.{source}
 use Rattle.img_streams.proofs.Entering.{line_of, waits_resumes, hand_asks}
-use Rattle.img_streams.proofs.Going.{room_now}
+use Rattle.img_streams.proofs.StreamsGoOn.{room_now}
 use Rattle.img_streams.proofs.Serving.{calls_at}
 use Rattle.img_streams.proofs.TakingUp.{asks_waiting, waiting_now, taken_at, taken_is, taken_resumes}
 use Rattle.img_streams.proofs.states.Stream+ImageRule+D.take_up.Goals as goal

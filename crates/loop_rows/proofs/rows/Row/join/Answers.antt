@@ -2,7 +2,7 @@ use Rattle.std.proofs.Common.{rules, ◌≡◌, ◌<◌, ◌+◌, ◌∙◌, ap,
 use Rattle.std.proofs.lemmas.List.{get_or-set_other, get_or_append_left, get_or_at}
 use Rattle.loop_rows.specs.declared.shared.LoopShared.{LoopShared}
 use Rattle.loop_rows.specs.declared.seats.Seats.{Seats}
-use Rattle.loop_rows.specs.Rows.{IsAt, UnitesEach}
+use Rattle.loop_rows.specs.Rows.{AreSeatsOf, UnitesEach}
 use Rattle.loop_rows.proofs.Places.{as_read, longer}
 use Rattle.loop_rows.proofs.Rowing.{renumbered, unite_each, popped_seat, united_more}
 use Rattle.loop_rows.proofs.rows.Row.join.Goals as goal
@@ -29,7 +29,7 @@ unite-requires-clause-seats g c =
     let more : vec_len c.loop-seat.seats ≡ n + 1 = omega (arith, longer c.loop-seat.seats.items c.pop.new.self.items c.in-Some.seat c.in-Some.ensures.items, c.loop-seat.seats.ok.0, c.pop.new.self.ok.0, nl) in
     let lt : n < length T = omega (arith, more, was.1) in
     let old = c.index_mut.result.now in
-    let at = as_read (λ (x : LoopShared _ _) (y : Seats _ _). IsAt c.args.self.now.first c.args.self.now.count x y) T c.args.self.now.seats.items n c.index-shared-t.result old c.index-shared-t.is (c.index_mut.ensures.value ∙ was.5 n old (omega (arith, more))) (c.requires.row.each n c.index-shared-t.result old lt) in
+    let at = as_read (λ (x : LoopShared _ _) (y : Seats _ _). AreSeatsOf c.args.self.now.first c.args.self.now.count x y) T c.args.self.now.seats.items n c.index-shared-t.result old c.index-shared-t.is (c.index_mut.ensures.value ∙ was.5 n old (omega (arith, more))) (c.requires.row.each n c.index-shared-t.result old lt) in
     renumbered (sym at.first_is) (sym at.count_is) at
 
 pub unite-requires-clause-other : goal.unite-requires-clause-other
@@ -41,7 +41,7 @@ unite-requires-clause-other g c =
     let more : vec_len c.loop-seat.seats ≡ n + 1 = omega (arith, longer c.loop-seat.seats.items c.pop.new.self.items c.in-Some.seat c.in-Some.ensures.items, c.loop-seat.seats.ok.0, c.pop.new.self.ok.0, nl) in
     let lt : n < length T = omega (arith, more, was.1) in
     let old = c.index_mut.result.now in
-    let at = as_read (λ (x : LoopShared _ _) (y : Seats _ _). IsAt c.args.self.now.first c.args.self.now.count x y) T c.args.self.now.seats.items n c.index-shared-t.result old c.index-shared-t.is (c.index_mut.ensures.value ∙ was.5 n old (omega (arith, more))) (c.requires.row.each n c.index-shared-t.result old lt) in
+    let at = as_read (λ (x : LoopShared _ _) (y : Seats _ _). AreSeatsOf c.args.self.now.first c.args.self.now.count x y) T c.args.self.now.seats.items n c.index-shared-t.result old c.index-shared-t.is (c.index_mut.ensures.value ∙ was.5 n old (omega (arith, more))) (c.requires.row.each n c.index-shared-t.result old lt) in
     let o = popped_seat T c.args.other.seats.items c.loop-seat.seats.items c.pop.new.self.items n c.args.other.first c.args.other.count c.index-shared-t.result c.in-Some.seat c.in-Some.ensures.items (omega (arith, c.pop.new.self.ok.0, nl)) (λ d. was.6 n d (omega (arith, more))) lt c.index-shared-t.is c.requires.other.each in
     renumbered (c.requires.next.0 ∙ omega (arith, at.first_is, at.count_is)) (sym o.count_is) o
 

@@ -2,7 +2,7 @@ use Rattle.std.proofs.Common.{◌<◌, ◌∙◌, refl, sym, subst, length-set}
 use Rattle.co_schedule.specs.Parcels.{IsStateOf}
 use Rattle.loop_rows.specs.declared.shared.LoopShared.{LoopShared}
 use Rattle.loop_rows.specs.declared.seats.Seats.{Seats}
-use Rattle.loop_rows.specs.Rows.{IsAt}
+use Rattle.loop_rows.specs.Rows.{AreSeatsOf}
 use Rattle.loop_rows.proofs.Places.{as_read}
 use Rattle.loop_rows.proofs.RowSteps.{each_posted}
 use Rattle.loop_rows.proofs.rows.Row.post.Goals as goal
@@ -11,7 +11,7 @@ pub post-requires-clause-seats : goal.post-requires-clause-seats
 post-requires-clause-seats g c =
     let t = c.index-shared-to.result in
     let s = c.index_mut.result.now in
-    let at = as_read (λ (x : LoopShared _ _) (y : Seats _ _). IsAt c.args.self.now.first c.args.self.now.count x y) c.args.shared.now c.args.self.now.seats.items c.args.to t s c.index-shared-to.is c.index_mut.ensures.value (c.requires.row.each c.args.to t s c.requires.to) in
+    let at = as_read (λ (x : LoopShared _ _) (y : Seats _ _). AreSeatsOf c.args.self.now.first c.args.self.now.count x y) c.args.shared.now c.args.self.now.seats.items c.args.to t s c.index-shared-to.is c.index_mut.ensures.value (c.requires.row.each c.args.to t s c.requires.to) in
     record { bottoms = at.bottoms; coroutines = at.coroutines }
 
 pub post-requires-clause-below : goal.post-requires-clause-below

@@ -2,7 +2,7 @@ use Rattle.std.proofs.Common.{◌≡◌, ◌<◌, ◌+◌, ◌∙◌, ap, sym, l
 use Rattle.std.proofs.lemmas.List.{get_or-set_other}
 use Rattle.loop_rows.specs.declared.shared.LoopShared.{LoopShared}
 use Rattle.loop_rows.specs.declared.seats.Seats.{Seats}
-use Rattle.loop_rows.specs.Rows.{IsAt, Divides, DividesEach}
+use Rattle.loop_rows.specs.Rows.{AreSeatsOf, Divides, DividesEach}
 use Rattle.loop_rows.proofs.Places.{at_both, of_read, as_read}
 use Rattle.loop_rows.proofs.Rowing.{renumbered, stay_each, go_each}
 use Rattle.loop_rows.proofs.rows.Row.split.Goals as goal
@@ -13,7 +13,7 @@ divide-requires-clause-seats g c =
     let t : ℕ = c.loop-t.t in
     let old = c.index_mut.result.now in
     let lt : t < length c.args.shared.now = c.loop-t-test.true in
-    let at = as_read (λ (x : LoopShared _ _) (y : Seats _ _). IsAt c.args.self.now.first c.args.self.now.count x y) c.args.shared.now c.args.self.now.seats.items t c.index-shared-t.result old c.index-shared-t.is (c.index_mut.ensures.value ∙ was.4 t old (omega arith)) (c.requires.row.each t c.index-shared-t.result old lt) in
+    let at = as_read (λ (x : LoopShared _ _) (y : Seats _ _). AreSeatsOf c.args.self.now.first c.args.self.now.count x y) c.args.shared.now c.args.self.now.seats.items t c.index-shared-t.result old c.index-shared-t.is (c.index_mut.ensures.value ∙ was.4 t old (omega arith)) (c.requires.row.each t c.index-shared-t.result old lt) in
     renumbered (sym at.first_is) c.requires.half.1 at
 
 pub loop-t-preserved : goal.loop-t-preserved

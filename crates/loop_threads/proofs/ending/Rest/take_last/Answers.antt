@@ -2,7 +2,7 @@ use Rattle.std.proofs.Common.{◌≡◌, ℕ, arith, length, vec_len}
 use Rattle.loop_rows.specs.declared.shared.LoopShared.{LoopShared}
 use Rattle.loop_rows.specs.declared.seats.Seats.{Seats}
 use Rattle.loop_threads.specs.declared.members.Member.{Member}
-use Rattle.loop_rows.specs.Rows.{IsAt}
+use Rattle.loop_rows.specs.Rows.{AreSeatsOf}
 use Rattle.loop_threads.specs.Members.{IsMemberOf}
 use Rattle.loop_rows.proofs.Places.{at_front, at_last, longer}
 use Rattle.loop_threads.specs.Within.{HaveOwn}
@@ -27,7 +27,7 @@ returns-clause-rest g c =
       homes_long = omega (arith, ly, yr.ok.0);
       seats_long = omega (arith, lz, zr.ok.0);
       members = (two_popped (λ (x : LoopShared _ _) (y : Member _ _ _). IsMemberOf x y) old.shared.items xr.items old.members.items yr.items c.in_ok-shared.shared c.in-Some.member (vec_len xr) ex ey (omega (arith, xr.ok.0)) ly (λ k a b lt. c.requires.members k a b (omega (arith, lt, nx, old.shared.ok.0, xr.ok.0)))).0;
-      seats = (two_popped (λ (x : LoopShared _ _) (y : Seats _ _). IsAt 0 64 x y) old.shared.items xr.items old.seats.items zr.items c.in_ok-shared.shared c.in-Some-pop.seats (vec_len xr) ex ez (omega (arith, xr.ok.0)) lz (λ k a b lt. c.requires.seats k a b (omega (arith, lt, nx, old.shared.ok.0, xr.ok.0)))).0;
+      seats = (two_popped (λ (x : LoopShared _ _) (y : Seats _ _). AreSeatsOf 0 64 x y) old.shared.items xr.items old.seats.items zr.items c.in_ok-shared.shared c.in-Some-pop.seats (vec_len xr) ex ez (omega (arith, xr.ok.0)) lz (λ k a b lt. c.requires.seats k a b (omega (arith, lt, nx, old.shared.ok.0, xr.ok.0)))).0;
       own = λ k s lt. at_front (λ (j : ℕ) (x : Seats _ _). HaveOwn x) old.seats.items zr.items c.in-Some-pop.seats ez k s (omega (arith, lt, lz)) (c.requires.own k s (omega (arith, lt, nx, old.shared.ok.0, xr.ok.0)));
     }
 
@@ -50,6 +50,6 @@ returns-clause-last g c =
       member_is = ey;
       seats_are = ez;
       member = (two_popped (λ (x : LoopShared _ _) (y : Member _ _ _). IsMemberOf x y) old.shared.items xr.items old.members.items yr.items c.in_ok-shared.shared c.in-Some.member (vec_len xr) ex ey (omega (arith, xr.ok.0)) ly (λ k a b lt. c.requires.members k a b (omega (arith, lt, nx, old.shared.ok.0, xr.ok.0)))).1;
-      seats = (two_popped (λ (x : LoopShared _ _) (y : Seats _ _). IsAt 0 64 x y) old.shared.items xr.items old.seats.items zr.items c.in_ok-shared.shared c.in-Some-pop.seats (vec_len xr) ex ez (omega (arith, xr.ok.0)) lz (λ k a b lt. c.requires.seats k a b (omega (arith, lt, nx, old.shared.ok.0, xr.ok.0)))).1;
+      seats = (two_popped (λ (x : LoopShared _ _) (y : Seats _ _). AreSeatsOf 0 64 x y) old.shared.items xr.items old.seats.items zr.items c.in_ok-shared.shared c.in-Some-pop.seats (vec_len xr) ex ez (omega (arith, xr.ok.0)) lz (λ k a b lt. c.requires.seats k a b (omega (arith, lt, nx, old.shared.ok.0, xr.ok.0)))).1;
       own = at_last (λ (j : ℕ) (x : Seats _ _). HaveOwn x) old.seats.items zr.items (vec_len xr) c.in-Some-pop.seats ez lz (c.requires.own (vec_len xr) c.in-Some-pop.seats (omega (arith, nx, old.shared.ok.0, xr.ok.0)));
     }

@@ -1,6 +1,6 @@
 use Rattle.std.proofs.Common.{◌≡◌, ℕ, ◌+◌, ◌<◌, length, slice_index, sym, ◌∙◌, ap, subst, arith}
 use Rattle.std.proofs.lemmas.List.{get_or_default}
-use Rattle.served_check.specs.Cursors.{IsAt}
+use Rattle.served_check.specs.Cursors.{CursorStands}
 use Rattle.served_check.proofs.Finding.{is_due, none_left, inside, never, named_next, at_behind}
 use Rattle.served_check.proofs.cursors.Cursors.find.Goals as goal
 
@@ -32,6 +32,6 @@ returns c =
     get_or_default cursors.next.items cursor.line 0 c.index.result.now room ∙ sym c.index.ensures in (
       is_due lines cursors c.requires.at placed cursor c.at-cursor.ensures due,
       named,
-      subst (λ (line : ℕ). IsAt lines placed.stream (record { line = line; done = cursor.done + 1 })) next behind,
+      subst (λ (line : ℕ). CursorStands lines placed.stream (record { line = line; done = cursor.done + 1 })) next behind,
       ap (λ (n : ℕ). n + 1) (sym due),
     )

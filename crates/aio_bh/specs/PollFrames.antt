@@ -6,14 +6,14 @@ use Rattle.aio_model.specs.LoopLists.{out_of, job_of}
 use Rattle.aio_model.specs.LoopSeats.{home, entries_of}
 use Rattle.aio_model.specs.LoopLegal.{MayFollow, IsLegal}
 use Rattle.aio_model.specs.InFlight.{AtRest}
-use Rattle.aio_model.specs.LoopFrame.{Answer, Entered, Place, Makes, Body, Turns, Runs, is_cut, ran_of, cut_nests_of}
+use Rattle.aio_model.specs.LoopFrame.{Answer, Entered, PollPlace, Makes, Body, Turns, DoesEntries, is_cut, ran_of, cut_nests_of}
 use Rattle.aio_core.specs.Known.{Known}
 use Rattle.aio_core.specs.Standing.{is_empty}
 use Rattle.aio_core.specs.Words.{index_count}
 use Rattle.aio_core.specs.Calls.{TableState, SeatState, IsSeatOf}
 use Rattle.aio_bh.specs.HomeSteps.{home_steps}
 use Rattle.aio_bh.specs.declared.polled.Polled.{Polled}
-use Rattle.aio_bh.specs.Polling.{counted, GoesOn}
+use Rattle.aio_bh.specs.Polling.{counted, HomeGoesOn}
 
 -- what a part of a poll changes: what the home knows, the runner, and the counts
 pub record Far (R : Type 0) : Type 0 where
@@ -24,11 +24,11 @@ pub record Far (R : Type 0) : Type 0 where
 abbrev pub far : {R : Type 0} → Known → R → Polled → Far R
 far known runner polled = record { known = known; runner = runner; polled = polled }
 
-abbrev pub place_of : {R : Type 0} → Far R → List Entered → Place
+abbrev pub place_of : {R : Type 0} → Far R → List Entered → PollPlace
 place_of so_far log = record { seen = so_far.known.seen; log = log; progress = so_far.polled.progress }
 
 -- the counts are those of the entries into the runner so far
-pub record Counts (polled : Polled) (log : List Entered) : Type 0 where
+pub record CountsEntered (polled : Polled) (log : List Entered) : Type 0 where
   pub ran : polled.ran ≡ counted (ran_of log)
   pub cut_nests : polled.cut_nests ≡ counted (cut_nests_of log)
 
@@ -36,19 +36,19 @@ pub record Counts (polled : Polled) (log : List Entered) : Type 0 where
 pub record EntersSome {R : Type 0} (does : R → Entered → R → Type 0) (runner : R) (log : List Entered) (runner_after : R) (log_after : List Entered) : Type 0 where
   pub more : List Entered
   pub longer : log_after ≡ more ++ log
-  pub runs : Runs does runner more runner_after
+  pub runs : DoesEntries does runner more runner_after
 
 -- from these entries on some part of a poll was done, which leads from place to place by this relation
-pub record Went {R : Type 0} (relation : Place → Place → Type 0) (does : R → Entered → R → Type 0) (old new : Far R) (log : List Entered) : Type 0 where
+pub record Went {R : Type 0} (relation : PollPlace → PollPlace → Type 0) (does : R → Entered → R → Type 0) (old new : Far R) (log : List Entered) : Type 0 where
   pub log_after : List Entered
   pub goes : relation (place_of old log) (place_of new log_after)
   pub enters : EntersSome does old.runner log new.runner log_after
-  pub counts : Counts old.polled log → Counts new.polled log_after
+  pub counts : CountsEntered old.polled log → CountsEntered new.polled log_after
 
 -- whatever entries there were before
-pub record Goes {R : Type 0} (relation : Place → Place → Type 0) (does : R → Entered → R → Type 0) (old new : Far R) : Type 0 where
+pub record GoesFurther {R : Type 0} (relation : PollPlace → PollPlace → Type 0) (does : R → Entered → R → Type 0) (old new : Far R) : Type 0 where
   pub at : (log : List Entered) → Went relation does old new log
-  pub goes_on : GoesOn old.known new.known
+  pub goes_on : HomeGoesOn old.known new.known
 
 -- Before a frame with so many depths below its own the home is at rest with nothing at hand, and has room for a slice a frame.
 pub record CanTake (table : TableState) (deeper : ℕ) (seat : SeatState) : Type 0 where
@@ -99,29 +99,29 @@ pub record TakesNext (i : ℕ) (ran : Bool) (job : Option ℕ) (before after : K
   pub progress : polled_after ≡ record polled { progress = polled.progress || (ran && not (is_idle i (others ++ before.seen))) }
 
 -- the body of what is called
-abbrev pub Calls : (Place → Place → Type 0) → ℕ → ℕ → Option ℕ → Bool → Place → Place → Type 0
-Calls frame nests index job ran before after =
+abbrev pub CallsBody : (PollPlace → PollPlace → Type 0) → ℕ → ℕ → Option ℕ → Bool → PollPlace → PollPlace → Type 0
+CallsBody frame nests index job ran before after =
     MatchBool ran (Body frame index job true nests before after) (after ≡ before)
 
 -- what follows where a callback nests: a frame, and then the rest of its body, with so many nests left
-abbrev pub BehindNest : (Place → Place → Type 0) → ℕ → ℕ → Place → Place → Type 0
+abbrev pub BehindNest : (PollPlace → PollPlace → Type 0) → ℕ → ℕ → PollPlace → PollPlace → Type 0
 BehindNest frame index nests before after =
-    (back : Place) × frame before back × Body frame index None false nests back after
+    (back : PollPlace) × frame before back × Body frame index None false nests back after
 
 -- a lot is freed
-abbrev pub Ends : Sizes → ℕ → Place → Place → Type 0
-Ends sizes index before after =
+abbrev pub FreesLot : Sizes → ℕ → PollPlace → PollPlace → Type 0
+FreesLot sizes index before after =
     MatchBool (is_lot sizes index) (Makes (Free index) before after) (after ≡ before)
 
 -- what follows a dequeue in its turn
-abbrev pub Follows : Sizes → (Place → Place → Type 0) → ℕ → ℕ → Option ℕ → Bool → Place → Place → Type 0
-Follows sizes frame nests index job ran before after =
-    (ended : Place) × Calls frame nests index job ran before ended × Ends sizes index ended after
+abbrev pub FollowsDequeue : Sizes → (PollPlace → PollPlace → Type 0) → ℕ → ℕ → Option ℕ → Bool → PollPlace → PollPlace → Type 0
+FollowsDequeue sizes frame nests index job ran before after =
+    (ended : PollPlace) × CallsBody frame nests index job ran before ended × FreesLot sizes index ended after
 
 -- one take, and then some turns
-abbrev pub TakesAndSome : Sizes → (Place → Place → Type 0) → ℕ → Place → Place → Type 0
+abbrev pub TakesAndSome : Sizes → (PollPlace → PollPlace → Type 0) → ℕ → PollPlace → PollPlace → Type 0
 TakesAndSome sizes frame nests before after =
-    (taken : Place) × (count : ℕ) × Makes Take before taken × Turns sizes frame nests count taken after
+    (taken : PollPlace) × (count : ℕ) × Makes Take before taken × Turns sizes frame nests count taken after
 
 -- the counts after one more entry
 abbrev pub noted : Bool → Answer → ℕ → Polled → Polled

@@ -7,7 +7,7 @@ use Rattle.aio_model.specs.Asked.{Asked}
 use Rattle.aio_model.specs.Serving.{bytes_after}
 use Rattle.aio_model.specs.SerialHistory.{CountsFrom, FitAlong, indices_of}
 use Rattle.served_check.specs.Cursors.{one_more}
-use Rattle.served_check.specs.Judging.{Goes, IsNext, Advances}
+use Rattle.served_check.specs.Judging.{RepliesGoOn, IsNext, Advances}
 
 module _ (stream : ℕ) (placed : Placed) (served : List Placed) where
   own_first : (placed.stream == stream) ≡ true → indices_of stream (placed ∷ served) ≡ placed.index ∷ indices_of stream served
@@ -44,8 +44,8 @@ counts_first placed served n counts =
     (subst (CountsFrom n) (own_first placed.stream placed served (eq-eqb placed.stream placed.stream refl)) counts).0
 
 module _ (size : ℕ) (asked : List Asked) (done : ℕ → ℕ) (bytes : List ℕ) (placed : Placed) (served : List Placed) where
-  pub Goes-next : Goes size asked done bytes (placed ∷ served) → IsNext size asked done bytes placed
-  Goes-next goes = record {
+  pub RepliesGoOn-next : RepliesGoOn size asked done bytes (placed ∷ served) → IsNext size asked done bytes placed
+  RepliesGoOn-next goes = record {
     due = counts_first placed served (done placed.stream) (goes.in_order placed.stream);
     request = goes.fits.0;
     named = goes.fits.1;
@@ -53,8 +53,8 @@ module _ (size : ℕ) (asked : List Asked) (done : ℕ → ℕ) (bytes : List �
   }
 
   module _ (done' : ℕ → ℕ) (bytes' : List ℕ) (advances : Advances size asked placed done done' bytes bytes') where
-    pub Goes-on : Goes size asked done bytes (placed ∷ served) → Goes size asked done' bytes' served
-    Goes-on goes =
+    pub RepliesGoOn-on : RepliesGoOn size asked done bytes (placed ∷ served) → RepliesGoOn size asked done' bytes' served
+    RepliesGoOn-on goes =
         let same : goes.fits.0 ≡ advances.next.request =
         same_Some goes.fits.0 advances.next.request (sym goes.fits.1 ∙ advances.next.named) in
         let left : bytes_after goes.fits.0 placed.reply bytes ≡ bytes' =
@@ -65,8 +65,8 @@ module _ (size : ℕ) (asked : List Asked) (done : ℕ → ℕ) (bytes : List �
               (counts_on stream placed served done (goes.in_order stream));
         }
 
-    pub Goes-back : Goes size asked done' bytes' served → Goes size asked done bytes (placed ∷ served)
-    Goes-back goes = record {
+    pub RepliesGoOn-back : RepliesGoOn size asked done' bytes' served → RepliesGoOn size asked done bytes (placed ∷ served)
+    RepliesGoOn-back goes = record {
       fits = (
         advances.next.request,
         advances.next.named,

@@ -1,7 +1,7 @@
 -- Where home alone makes the history, a call of home is a step from log to log.
 use Rattle.std.proofs.Common.{◌≡◌, ℕ, Bool, true, false, cond, eqb, List, [], ◌∷◌, ◌++◌, arith, refl, sym, ◌∙◌, ap, subst}
 use Rattle.aio_model.specs.declared.flags.Flags.{Flags}
-use Rattle.aio_model.specs.LoopHistory.{Sizes, Asked, Entry, Enqueue, Put, Cancel, SetEvent, ClearEvent, History}
+use Rattle.aio_model.specs.LoopHistory.{Sizes, EnqueueAsks, Entry, Enqueue, Put, Cancel, SetEvent, ClearEvent, History}
 use Rattle.aio_model.specs.LoopFlags.{flags_of, enqueues}
 use Rattle.aio_model.specs.LoopLists.{is_set, out_of}
 use Rattle.aio_model.specs.LoopLegal.{IsLegal}
@@ -13,7 +13,7 @@ use Rattle.aio_core.specs.Known.{Known, Done, numbers_of, is_running}
 use Rattle.aio_core.specs.Standing.{Makes, Cancels}
 use Rattle.aio_core.specs.SleepSteps.{ClearsEvent}
 use Rattle.aio_core.specs.Calls.{TableState, SeatState, IsSeatOf}
-use Rattle.aio_bh.specs.Enqueuing.{Stands, enqueue_entries}
+use Rattle.aio_bh.specs.Enqueuing.{AddsOnly, enqueue_entries}
 use Rattle.aio_bh.proofs.Entries.{none_of_own}
 use Rattle.bell_loop.specs.Running.{IsAlone, Calm, Lots, Idles, GoesTo, SameButSeen}
 use Rattle.bell_loop.proofs.Held.{NoneAnnounced-entry, NoneAnnounced-enqueue, Lots-enqueue, out-enqueue}
@@ -32,7 +32,7 @@ Idles-after table a b idles of same legal = record {
 }
 
 -- what a call changes, in that form
-same-stands : (entries : History) (a b : Known) → a.phase ≡ AtRest → b.phase ≡ AtRest → Stands entries a b → SameButSeen a b
+same-stands : (entries : History) (a b : Known) → a.phase ≡ AtRest → b.phase ≡ AtRest → AddsOnly entries a b → SameButSeen a b
 same-stands entries a b rest still stands =
     let told_is : b.told ≡ a.told = ap (λ (k : Known). k.told) stands.rest in
     stands.rest ∙ ap (λ p. record a { seen = b.seen; mine = b.mine; did = b.did; phase = p }) (still ∙ sym rest) ∙ ap (λ t. record a { seen = b.seen; mine = b.mine; did = b.did; told = t }) (sym told_is)
@@ -43,11 +43,11 @@ same-done a b steps h =
     let told_is : b.told ≡ a.told = ap (λ (k : Known). k.told) h in
     h ∙ ap (λ d. record a { seen = b.seen; mine = b.mine; did = d }) (sym did_is) ∙ ap (λ t. record a { seen = b.seen; mine = b.mine; did = b.did; told = t }) (sym told_is)
 
-were_flags : (sizes : Sizes) (i : ℕ) (asked : Asked) (flags : Flags) (b : Bool) (seen : History) → IsLegal sizes (cond b (Enqueue i asked home flags ∷ []) (Put i home ∷ (Enqueue i asked home flags ∷ [])) ++ seen) → flags ≡ flags_of i seen
+were_flags : (sizes : Sizes) (i : ℕ) (asked : EnqueueAsks) (flags : Flags) (b : Bool) (seen : History) → IsLegal sizes (cond b (Enqueue i asked home flags ∷ []) (Put i home ∷ (Enqueue i asked home flags ∷ [])) ++ seen) → flags ≡ flags_of i seen
 were_flags sizes i asked flags true seen legal = legal.0.1
 were_flags sizes i asked flags false seen legal = legal.1.0.1
 
-pub Goes-enqueued : (i : ℕ) (asked : Asked) (flags : Flags) (a b : Known) → a.first ≡ 64 → Stands (enqueue_entries i asked a.first flags) a b → GoesTo (enqueued_log i asked home) (λ log. flags ≡ flags_before i log) a.seen b.seen
+pub Goes-enqueued : (i : ℕ) (asked : EnqueueAsks) (flags : Flags) (a b : Known) → a.first ≡ 64 → AddsOnly (enqueue_entries i asked a.first flags) a b → GoesTo (enqueued_log i asked home) (λ log. flags ≡ flags_before i log) a.seen b.seen
 Goes-enqueued i asked flags a b number stands =
     let s = stands.stands.stands in
     record {
@@ -71,7 +71,7 @@ Goes-enqueued i asked flags a b number stands =
           };
     }
 
-pub Idles-enqueued : (entries : History) (table : TableState) (a b : SeatState) → Idles table a → IsSeatOf table b → b.known.phase ≡ AtRest → Stands entries a.known b.known → Idles table b × SameButSeen a.known b.known
+pub Idles-enqueued : (entries : History) (table : TableState) (a b : SeatState) → Idles table a → IsSeatOf table b → b.known.phase ≡ AtRest → AddsOnly entries a.known b.known → Idles table b × SameButSeen a.known b.known
 Idles-enqueued entries table a b idles of still stands =
     let same = same-stands entries a.known b.known idles.rest still stands in
     (Idles-after table a b idles of same stands.stands.stands.legal, same)

@@ -16,7 +16,7 @@ use Rattle.img_shared.specs.Notes.{Note, Placement}
 use Rattle.img_join.specs.Accounts.{Account}
 use Rattle.img_streams.specs.declared.stream.Stream.{Stream}
 use Rattle.img_streams.specs.Lines.{line_from, StandsAt, HaveRoom}
-use Rattle.img_streams.specs.Own.{own_note, IsOf}
+use Rattle.img_streams.specs.Own.{own_note, IsOwnPass}
 use Rattle.img_streams.specs.Streams.{IsStreamOf, StandsSo, CanGetReply, GetsReply}
 use Rattle.img_streams.proofs.LinesAlong.{named_here, above_less, above_ask, line_here, short_here}
 
@@ -58,7 +58,7 @@ module _ {P D : Type 0} (bytes : D → Option (List ℕ)) (old : Stream P (Image
 
   module _ (other : Stream P (ImageState D) (Note D)) where
     -- it goes on with the same entries
-    pub stays : IsOf bytes of.0 other.pass old.co.co other.queued
+    pub stays : IsOwnPass bytes of.0 other.pass old.co.co other.queued
         → (own_note bytes of.0 other.pass).entries ≡ (own_note bytes of.0 old.pass).entries
         → Account bytes (asked of.1.lines) old.id old.co.co of.1.image (requests_of old.id of.1.lines) (own_note bytes of.0 other.pass)
         (map (λ buffer. buffer.items) old.filled.items) other.buffer.items
@@ -88,7 +88,7 @@ module _ {P D : Type 0} (bytes : D → Option (List ℕ)) (old : Stream P (Image
 
     -- its request at hand has got its reply
     pub replied : (request : Request) → StandsAt of.1.lines old.id old.line (Ask request)
-        → IsOf bytes of.0 other.pass old.co.co false
+        → IsOwnPass bytes of.0 other.pass old.co.co false
         → (own_note bytes of.0 other.pass).phase ≡ Idle
         → length (own_note bytes of.0 other.pass).entries ≡ length (own_note bytes of.0 old.pass).entries + 1
         → ((next : List ℕ) → Account bytes (asked of.1.lines) old.id old.co.co of.1.image (requests_of old.id of.1.lines) (own_note bytes of.0 other.pass)
