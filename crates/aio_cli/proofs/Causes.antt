@@ -16,9 +16,6 @@ use Rattle.aio_cli.specs.declared.answer.Answer.{Answer}
 use Rattle.aio_cli.specs.declared.answer.Answer.TheVariants.{Done, Errors, Usage, BadScript, TooLong, TooLarge, ReadFault, WriteFault, NoMemory, DeviceFault}
 use Rattle.aio_cli.specs.Answers.{LoopScriptIsDone, IsOfLoop, IsScriptRefusal, IsWholeAnswer, OnBadScript, OnCut, OnDeviceFault, OnRun, OnTooLarge, OnTooLong, OnWritten}
 use Rattle.aio_cli.specs.Rings.{RingsSaid}
-use Rattle.program_words.specs.declared.modes.Mode.{Mode}
-use Rattle.program_words.specs.declared.modes.Mode.TheVariants.{Image, Bells}
-use Rattle.aio_cli.specs.Words.{InBells, InImage}
 use Rattle.aio_cli.specs.Reading.{IsText, IsTooLong, Refuses, RefusesLoop, Says, SaysLoop, SaysFitting, SaysImage, SaysSome, longest_script}
 
 -- a fact for the bytes that are told, if they are
@@ -151,11 +148,3 @@ module _ (before now : Option (List ℕ)) (bytes : List ℕ) (told : before ≡ 
     whole-only served f g WriteFault usage read write eios still told_size bad long ran large size few script says = absurd (write refl)
     whole-only served f g NoMemory usage read write eios still told_size bad long ran large size few script says = tt
     whole-only served f g DeviceFault usage read write eios still told_size bad long ran large size few script says = absurd (told_size size.0)
-
--- In the mode that the words ask for.
-
-pub in_image : (m : Option Mode) (P : Type 0) → m ≡ Some Image → P → InImage m P
-in_image m P is p = subst (λ k. InImage k P) (sym is) p
-
-pub in_bells : (m : Option Mode) (P : Type 0) → m ≡ Some Bells → P → InBells m P
-in_bells m P is p = subst (λ k. InBells k P) (sym is) p

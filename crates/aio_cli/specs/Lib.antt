@@ -4,6 +4,7 @@ pub mod Calls
 pub mod FaultText
 pub mod Reading
 pub mod Run
-pub mod Words
 pub mod Printed
 pub mod Generated
+pub mod Outside
+pub mod Modes

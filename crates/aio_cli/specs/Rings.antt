@@ -1,10 +1,8 @@
 -- What a loop script's run writes, and the end to which its loop comes.
-use Rattle.std.specs.Prelude.{◌≡◌, ℕ, Option, None, Some, MatchOption, List}
+use Rattle.std.specs.Prelude.{◌≡◌, ℕ, Option, None, MatchOption, List}
 use Rattle.aio_model.specs.declared.loop_scripts.LoopScript.{LoopScript}
 use Rattle.aio_model.specs.LoopHistory.{History}
 use Rattle.aio_model.specs.LoopText.{IsLoopText}
-use Rattle.program_words.specs.declared.modes.Mode.{Mode}
-use Rattle.program_words.specs.declared.modes.Mode.TheVariants.{Bells}
 use Rattle.bell_script.specs.Scripts.{TellsScript}
 use Rattle.aio_cli.specs.Reading.{SaysLoop}
 use Rattle.aio_cli.specs.declared.answer.Answer.{Answer}
@@ -40,11 +38,6 @@ pub record EndsSaid (left_before left_now : Option (List ℕ)) (Wrote : List ℕ
 abbrev pub AtDone : {E : Type 0} → Answer → Option E → (E → Type 0) → Type 0
 AtDone Done bells P = MatchOption bells ⊥ P
 AtDone answer bells P = bells ≡ None
-
--- and exactly in the mode of loop scripts
-abbrev pub AtBells : {E : Type 0} → Option Mode → Answer → Option E → (E → Type 0) → Type 0
-AtBells (Some Bells) answer bells P = AtDone answer bells P
-AtBells mode answer bells P = bells ≡ None
 
 -- an answer that can come once a loop script was read
 abbrev pub IsOfBells : Answer → Type 0
