@@ -1,5 +1,5 @@
 -- Two seats rang at once, and were joined.
-use Rattle.std.proofs.Common.{◌≡◌, Option, None, Some, MatchOption, ℕ, false, ◌<◌, ◌+◌, ◌-◌, ◌++◌, sym, ap, ◌∙◌, subst, append_assoc, arith}
+use Rattle.std.proofs.Common.{◌≡◌, Option, None, Some, MatchOption, ℕ, ◌<◌, ◌+◌, ◌-◌, ◌++◌, sym, ap, ◌∙◌, subst, append_assoc, arith}
 use Rattle.std.proofs.lemmas.List.{append_cancel_right}
 use Rattle.table_seats.specs.Dividing.{front_numbers, back_numbers, half_of}
 use Rattle.table_seats.proofs.Entries.{own-append}
@@ -8,7 +8,6 @@ use Rattle.aio_model.specs.LoopHistory.{ToCall, History}
 use Rattle.aio_model.specs.LoopLists.{seat_of}
 use Rattle.aio_model.specs.LoopSeats.{Numbers, owns, own_entries}
 use Rattle.aio_model.specs.LoopCalls.{dequeue_times, stops}
-use Rattle.aio_model.specs.LoopLaws.{some_entry}
 use Rattle.aio_model.proofs.Awaiting.{dequeue_times-append, some_entry-parts}
 use Rattle.aio_core.specs.Known.{Known, numbers_of}
 use Rattle.aio_core.specs.Calls.{TableState, SeatState, IsSeatOf}

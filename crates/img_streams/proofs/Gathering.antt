@@ -1,11 +1,10 @@
 -- The places of a stream's lines and the buffers of its requests, gathered along the links.
-use Rattle.std.proofs.Common.{◌≡◌, ℕ, ◌+◌, ◌<◌, ◌≤◌, ◌==◌, true, List, [], ◌∷◌, ◌++◌, length, map, get_or, slice_index, take, drop, refl, sym, ap, ◌∙◌, subst, arith, append_assoc, append-nil}
+use Rattle.std.proofs.Common.{◌≡◌, ℕ, ◌+◌, ◌<◌, ◌≤◌, List, [], ◌∷◌, ◌++◌, length, get_or, take, drop, refl, sym, ap, ◌∙◌, subst, arith, append_assoc, append-nil}
 use Rattle.std.proofs.lemmas.List.{drop_all, take_all, drop-drop}
 use Rattle.std.proofs.lemmas.Bool.{eq-eqb}
 use Rattle.aio_model.specs.declared.scripts.Step.{Step}
 use Rattle.aio_model.specs.Asked.{requests_of}
 use Rattle.img_streams.specs.Lines.{next_own, line_from, places_from, places_of}
-use Rattle.img_streams.specs.Links.{LeadFrom}
 use Rattle.img_streams.specs.Rooms.{AddsFor, HaveBuffers, AreGathered}
 use Rattle.img_streams.proofs.LinesAlong.{above_kept, line_again, line_inside, own_at}
 use Rattle.img_streams.proofs.OwnPlaces.{places_more, places_skip}

@@ -1,5 +1,5 @@
 -- A reply is found by its name among the served ones, where its stream's replies stand in their order.
-use Rattle.std.proofs.Common.{◌≡◌, ℕ, zero, suc, ◌+◌, ◌<◌, ◌==◌, ◌&&◌, true, false, cond, List, [], ◌∷◌, length, map, get_or, Option, Some, inl, inr, refl, sym, ◌∙◌, ap, subst, arith}
+use Rattle.std.proofs.Common.{◌≡◌, ℕ, zero, suc, ◌+◌, ◌<◌, ◌==◌, ◌&&◌, true, List, [], ◌∷◌, length, map, get_or, Some, inl, inr, sym, ◌∙◌, ap, subst, arith}
 use Rattle.std.proofs.lemmas.Bool.{cases_Bool, eq-eqb, ne_eqb, and_left, and_right, and_from, cond-true, cond-false}
 use Rattle.aio_model.specs.declared.replies.Placed.{Placed}
 use Rattle.aio_model.specs.SerialHistory.{CountsFrom, indices_of}

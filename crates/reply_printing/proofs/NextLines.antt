@@ -1,6 +1,6 @@
 -- The lines that are printed one by one, each with the next reply of its stream.
 use Rattle.std.proofs.Common.{◌≡◌, ℕ, ◌+◌, ◌<◌, ◌≢◌, ◌==◌, ◌&&◌, false, true, cond, List, [], ◌∷◌, ◌++◌, length, take, drop, get_or, set, slice_index, Some, inl, inr, refl, sym, ◌∙◌, ap, subst, arith, get_or-set_other, get_or-set_same}
-use Rattle.std.specs.List.{flat_map, AllByRecursion}
+use Rattle.std.specs.List.{flat_map}
 use Rattle.std.proofs.lemmas.Bool.{cases_Bool, true≢false, eqb-true, eqb-false, eq-eqb, and_left, and_right, and_from, cond-true, cond-false}
 use Rattle.std.proofs.lemmas.List.{append-nil, take_more, drop_more, take-append-drop}
 use Rattle.std.proofs.lemmas.List.Sums.{sum_by-append}
@@ -16,7 +16,7 @@ use Rattle.aio_model.specs.Asked.{Asked, is_ask, requests_of, asked_by, asked}
 use Rattle.aio_model.specs.PrintedText.{Standing, line_of, line_for, line_standing, standing_from}
 use Rattle.aio_model.proofs.InOrder.{asked_at, asked_rest, asked-more, asked-split}
 use Rattle.aio_model.proofs.Names.{requests_of-push}
-use Rattle.reply_printing.specs.Standings.{AreInOrder, HaveStreamsBelow, LeadThrough, StandsAmong, standings_of}
+use Rattle.reply_printing.specs.Standings.{AreInOrder, HaveStreamsBelow, LeadThrough, standings_of}
 use Rattle.reply_printing.proofs.FoundReplies.{standing_from-counts}
 use Rattle.reply_printing.proofs.StreamCounts.{standings-many}
 

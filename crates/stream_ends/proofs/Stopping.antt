@@ -1,5 +1,5 @@
 -- Coroutines that have retired: their passes are all passes of the lock, and the image behind it is that of the script.
-use Rattle.std.proofs.Common.{◌≡◌, ℕ, zero, suc, ◌+◌, ◌<◌, ◌≤◌, max, inl, inr, sum, Option, Some, None, option_map, IfSome, List, [], ◌∷◌, ◌++◌, length, map, drop, slice_index, set, refl, sym, ap, ◌∙◌, subst, arith}
+use Rattle.std.proofs.Common.{◌≡◌, ℕ, ◌+◌, ◌<◌, ◌≤◌, max, inl, inr, sum, Option, Some, None, option_map, IfSome, List, [], ◌∷◌, ◌++◌, length, map, drop, slice_index, set, refl, sym, ap, ◌∙◌, subst, arith}
 use Rattle.std.proofs.lemmas.Bool.{cases_lt}
 use Rattle.std.proofs.lemmas.List.{length-map}
 use lib.ListN.{get_elem?}

@@ -1,8 +1,6 @@
 -- A lock that nobody has used: its passes, and those of coroutines that have made no call, are all at rest.
-use Rattle.std.proofs.Common.{◌≡◌, ℕ, ◌+◌, ◌<◌, max, inl, inr, Option, List, [], ◌++◌, length, map, sym, ap, ◌∙◌, subst, arith}
+use Rattle.std.proofs.Common.{◌≡◌, ℕ, ◌+◌, ◌<◌, max, inl, inr, Option, List, ◌++◌, length, map, sym, ap, ◌∙◌, subst, arith}
 use Rattle.std.proofs.lemmas.Bool.{cases_lt}
-use lib.ListN.{get_elem?}
-use mathlib.Core.Option.{some}
 use Rattle.aio_model.specs.declared.scripts.Script.{Script}
 use Rattle.co_mutex.specs.declared.lock.CoMutex.{CoMutex}
 use Rattle.co_mutex.specs.declared.lock.Pass.{Pass}

@@ -3,7 +3,6 @@ use Rattle.std.specs.Prelude.{◌≡◌, ℕ, ◌+◌, ◌≤◌, max, List, [],
 use mathlib.Core.Option.{some}
 use lib.ListN.{get_elem?}
 use Rattle.aio_model.specs.declared.scripts.Script.{Script}
-use Rattle.co_state.specs.declared.cx.CoId.{CoId}
 use Rattle.co_mutex.specs.declared.lock.CoMutex.{CoMutex}
 use Rattle.co_mutex.specs.declared.lock.Pass.{Pass}
 use Rattle.co_mutex.specs.Passes.{IsNew, passes_of}

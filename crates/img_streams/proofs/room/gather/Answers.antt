@@ -1,6 +1,6 @@
-use Rattle.std.proofs.Common.{◌≡◌, ◌∙◌, ◌∷◌, ◌+◌, ◌<◌, [], List, length, map, get_or, slice_index, ap, subst, sym, arith}
+use Rattle.std.proofs.Common.{◌∙◌, ◌+◌, ◌<◌, [], map, ap, subst, sym, arith}
 use Rattle.img_streams.specs.Lines.{line_from}
-use Rattle.img_streams.proofs.Gathering.{IsAlong, along_first, own_here, along_more, along_end}
+use Rattle.img_streams.proofs.Gathering.{IsAlong, along_first, own_here, along_more}
 use Rattle.img_streams.proofs.room.gather.Goals as goal
 
 pub loop-at-init : goal.loop-at-init

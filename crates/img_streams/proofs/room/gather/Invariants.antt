@@ -1,4 +1,4 @@
-use Rattle.std.proofs.Common.{◌≡◌, ◌-◌, length, map}
+use Rattle.std.proofs.Common.{◌-◌, length, map}
 use Rattle.img_streams.proofs.Gathering.{IsAlong}
 use Rattle.img_streams.proofs.room.gather.Given as goal
 

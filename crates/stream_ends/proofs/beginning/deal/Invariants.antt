@@ -1,4 +1,4 @@
-use Rattle.std.proofs.Common.{◌≡◌, ◌≤◌, length, vec_capacity}
+use Rattle.std.proofs.Common.{◌≤◌, length, vec_capacity}
 use Rattle.stream_ends.proofs.Starting.{Deals}
 use Rattle.stream_ends.proofs.beginning.deal.Given as goal
 

@@ -2,10 +2,10 @@ use Rattle.std.proofs.Common.{◌≡◌, ◌++◌, ◌∙◌, List, length, map,
 use Rattle.aio_model.specs.declared.replies.Placed.{Placed}
 use Rattle.co_mutex.specs.Closing.{AreAll}
 use Rattle.img_join.specs.Placing.{row_at}
-use Rattle.stream_ends.specs.Images.{device_behind, ids_of}
+use Rattle.stream_ends.specs.Images.{device_behind}
 use Rattle.stream_ends.specs.Stops.{bytes_filled}
 use Rattle.stream_ends.proofs.Scripts.{counts_fit}
-use Rattle.stream_ends.proofs.Stopping.{IsClosed, all_are, all_retired, charged_so, closed_by, fits_first, length_placed, long_rows, served_so, whole_so}
+use Rattle.stream_ends.proofs.Stopping.{all_are, all_retired, charged_so, closed_by, fits_first, length_placed, long_rows, served_so, whole_so}
 use Rattle.stream_ends.proofs.finishing.finish.Goals as goal
 
 pub settle-image-requires : goal.settle-image-requires

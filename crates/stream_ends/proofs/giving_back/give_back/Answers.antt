@@ -1,5 +1,4 @@
-use Rattle.std.proofs.Common.{◌≡◌, ◌<◌, ◌∙◌, ◌++◌, map, List, sym, ap, subst, arith}
-use Rattle.co_mutex.specs.declared.lock.Pass.{Pass}
+use Rattle.std.proofs.Common.{◌≡◌, ◌∙◌, ◌++◌, map, sym, ap, subst, arith}
 use Rattle.co_mutex.specs.Closing.{AreAll}
 use Rattle.img_shared.specs.Images.{ImageState}
 use Rattle.img_streams.specs.Retired.{AreUnused}

@@ -1,4 +1,4 @@
-use Rattle.std.proofs.Common.{◌≡◌, ◌∙◌, ◌+◌, ◌++◌, ◌∷◌, [], ℕ, List, length, map, slice_index, take, sym, ap, subst, arith}
+use Rattle.std.proofs.Common.{◌∙◌, ◌++◌, ◌∷◌, [], ℕ, List, length, slice_index, take, sym, ap, subst, arith}
 use Rattle.std.proofs.lemmas.List.{length_push, map-append, take_more, take_all}
 use Rattle.aio_model.specs.Asked.{requests_of}
 use Rattle.img_streams.specs.declared.room.Room.{Room}

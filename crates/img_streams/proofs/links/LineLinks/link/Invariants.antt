@@ -1,4 +1,4 @@
-use Rattle.std.proofs.Common.{◌≡◌, ◌≤◌, ℕ, length}
+use Rattle.std.proofs.Common.{◌≤◌, length}
 use Rattle.img_streams.specs.Links.{LeadFrom}
 use Rattle.img_streams.proofs.links.LineLinks.link.Given as goal
 
