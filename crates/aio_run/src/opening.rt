@@ -53,7 +53,7 @@ fn streams_in(script: &Script) -> usize
     script.streams.as_slice().len()
 }
 
-/// How many coroutines the tables are made for.
+/// How many coroutines each loop's tables have room for: one for each stream of the script, and at least one.
 fn coroutines_for(script: &Script) -> u32
     requires bounded { IsBounded script.now }
     ensures { result ≡ coroutines_of script.now }

@@ -50,8 +50,9 @@ fn add_buffer(
     Ok(())
 }
 
-/// The places of the stream's lines, and a buffer for each request among them, both in the order of the lines.
-fn gather(
+/// The places of the stream's lines, and a buffer for each request among them, both in the order of the lines. A read's buffer has
+/// the read's length, and any other is empty.
+fn places_and_buffers(
     alloc: Global,
     lines: &[Step],
     links: &LineLinks,
@@ -101,7 +102,7 @@ fn room_for(alloc: Global, lines: &[Step], links: &LineLinks, id: u32) -> Result
     requires known { id < 64 }
     ensures { IfOk result (λ room. IsRoomFor lines.now id room) }
 {
-    let (places, mut later) = gather(alloc, lines, links, id)?;
+    let (places, mut later) = places_and_buffers(alloc, lines, links, id)?;
     let filled = filled_for(alloc, &later)?;
     add_last(alloc, &mut later)?;
     let buffer = take_first(&mut later);

@@ -65,12 +65,12 @@ impl<P: LockRule> Stream<P> {
     {
         match answer {
             Grant::NotYet => (None, None),
-            Grant::Granted(woken, first) => (woken, self.go_on_served(first)),
+            Grant::Granted(woken, first) => (woken, self.go_on_after_piece(first)),
         }
     }
 
-    /// Goes on after a piece. Names the coroutine itself.
-    fn go_on_served(&mut self, answer: Piece) -> Option<CoId>
+    /// Goes on after a piece, behind the turn at the lock: it says what the next resume does. Names the coroutine itself.
+    fn go_on_after_piece(&mut self, answer: Piece) -> Option<CoId>
         ensures moves { MovesOn (Served answer) self.old self.new }
         ensures itself { result ≡ itself self.old.co (at_after (Served answer)) }
     {
@@ -187,7 +187,7 @@ impl<D: Device> Stream<ImageRule<D>> {
             }
             Visit::Did(answer, named) => {
                 self.queued = false;
-                let itself = self.go_on_served(answer);
+                let itself = self.go_on_after_piece(answer);
                 ask(cx, named, None, itself);
                 CoStep::Yield
             }

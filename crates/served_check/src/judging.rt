@@ -11,8 +11,9 @@ use crate::putting::apply;
 use aio_model::{NoMemory, Placed, Script, Step, What};
 use std::alloc::Global;
 
-/// Serves one request more, where the reply is one that it may get now; else the bytes and the cursors stay.
-fn serve_one(
+/// Serves one request more, where the reply is one that it may get now; else the bytes and the cursors stay. Memory may run out
+/// as its stream's cursor is set.
+fn replay_one(
     size: u64,
     lines: &[Step],
     placed: &Placed,
@@ -38,7 +39,7 @@ fn serve_one(
 }
 
 /// Serves all, up to the first reply that its request may not get.
-fn serve_all(
+fn replay_all(
     alloc: Global,
     size: u64,
     lines: &[Step],
@@ -51,7 +52,7 @@ fn serve_all(
 {
     let mut cursors = Cursors::begin(alloc, lines)?;
     for placed in served {
-        if !serve_one(size, lines, placed, &mut cursors, bytes)? {
+        if !replay_one(size, lines, placed, &mut cursors, bytes)? {
             return Ok(false);
         }
     }
@@ -90,7 +91,7 @@ pub fn replay(
     let Ok(mut bytes) = Vec::from_slice(alloc, opening) else {
         return Err(NoMemory);
     };
-    if !serve_all(alloc, script.image, lines, served, bytes.as_mut_slice())? {
+    if !replay_all(alloc, script.image, lines, served, bytes.as_mut_slice())? {
         return Ok(None);
     }
     Ok(Some(bytes))

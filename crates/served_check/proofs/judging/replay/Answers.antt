@@ -28,11 +28,11 @@ returns c =
     c.count_requests.ensures ∙ ap (count_by (λ (step : Step). is_ask step.what)) c.as_slice-lines.ensures in
     let goes : RepliesGoOn size (asked lines) none_done c.args.opening.now served =
     subst (λ (l : List Step). RepliesGoOn size (asked l) none_done c.args.opening.now served) c.as_slice-lines.ensures
-    (subst (λ (b : List ℕ). RepliesGoOn size (asked read) none_done b served) opened (c.in_ok-serve_all.ensures.goes.0 c.if-not-branch.false)) in
-    let all : length c.serve_all.new.bytes ≡ c.in-Ok.bytes.len = omega (arith, c.in-Ok.bytes.ok.0, c.serve_all.auto.bytes, ap length c.as_mut_slice.ensures.value) in (
+    (subst (λ (b : List ℕ). RepliesGoOn size (asked read) none_done b served) opened (c.in_ok-replay_all.ensures.goes.0 c.if-not-branch.false)) in
+    let all : length c.replay_all.new.bytes ≡ c.in-Ok.bytes.len = omega (arith, c.in-Ok.bytes.ok.0, c.replay_all.auto.bytes, ap length c.as_mut_slice.ensures.value) in (
       RepliesGoOn-whole size (asked lines) c.args.opening.now served (c.if-served-count_requests.false ∙ counted ∙ sym (length-asked lines)) goes,
-      take_at c.serve_all.new.bytes _ c.in-Ok.bytes.len all
-          ∙ c.in_ok-serve_all.ensures.left c.if-not-branch.false
+      take_at c.replay_all.new.bytes _ c.in-Ok.bytes.len all
+          ∙ c.in_ok-replay_all.ensures.left c.if-not-branch.false
           ∙ ap (λ (l : List Step). bytes_left (asked l) served c.as_mut_slice.result.now) c.as_slice-lines.ensures
           ∙ ap (bytes_left (asked lines) served) opened,
     )

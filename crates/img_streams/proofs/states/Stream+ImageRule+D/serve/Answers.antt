@@ -45,11 +45,11 @@ returns-in-Did-clause-of g c =
     (asks_serving g.D.Device.bytes old of c.requires.of c.requires.at) c.request_at-request.ensures in
     let fits : length c.serve.new.buffer ≡ old.buffer.len = omega (arith, c.serve.auto.buffer, ap (λ l. length l) c.as_mut_slice.ensures.value, old.buffer.ok.0) in
     let is : (with_items old.buffer c.serve.new.buffer).items ≡ c.serve.new.buffer = with_items_is old.buffer c.serve.new.buffer fits in
-    served_is g.D.Device.bytes old of c.requires.of c.requires.at request line c.go_on_served-itself.new.self (record old { buffer = with_items old.buffer c.serve.new.buffer }) c.serve.new.pass
+    served_is g.D.Device.bytes old of c.requires.of c.requires.at request line c.go_on_after_piece-itself.new.self (record old { buffer = with_items old.buffer c.serve.new.buffer }) c.serve.new.pass
     c.in-Did.answer c.in-Did.ensures.turn.of
     (served_at g.D.Device.bytes old.co.co request c.in-Did.answer (own_note g.D.Device.bytes c.args.env.now.lock.now old.pass) (own_note g.D.Device.bytes c.args.env.now.lock.now c.serve.new.pass)
     c.as_mut_slice.result.now old.buffer.items c.serve.new.buffer (with_items old.buffer c.serve.new.buffer).items c.as_mut_slice.ensures.value is c.in-Did.ensures.served)
-    c.go_on_served-itself.ensures.moves
+    c.go_on_after_piece-itself.ensures.moves
 
 pub returns-in-Did-clause-resumes : goal.returns-in-Did-clause-resumes
 returns-in-Did-clause-resumes g c =
@@ -60,9 +60,9 @@ returns-in-Did-clause-resumes g c =
     (asks_serving g.D.Device.bytes old of c.requires.of c.requires.at) c.request_at-request.ensures in
     let fits : length c.serve.new.buffer ≡ old.buffer.len = omega (arith, c.serve.auto.buffer, ap (λ l. length l) c.as_mut_slice.ensures.value, old.buffer.ok.0) in
     let is : (with_items old.buffer c.serve.new.buffer).items ≡ c.serve.new.buffer = with_items_is old.buffer c.serve.new.buffer fits in
-    served_resumes g.D.Device.bytes old of c.requires.of c.requires.at request line c.go_on_served-itself.new.self (record old { buffer = with_items old.buffer c.serve.new.buffer }) c.serve.new.pass
+    served_resumes g.D.Device.bytes old of c.requires.of c.requires.at request line c.go_on_after_piece-itself.new.self (record old { buffer = with_items old.buffer c.serve.new.buffer }) c.serve.new.pass
     c.in-Did.answer c.in-Did.named c.ask-in-Did.new.cx
     (calls_at g.D.Device.bytes c.args.env.now.lock.now old.co request (Served c.in-Did.answer) c.in-Did.named old.pass c.serve.new.pass
     c.as_mut_slice.result.now old.buffer.items c.serve.new.buffer (with_items old.buffer c.serve.new.buffer).items c.as_mut_slice.ensures.value is c.in-Did.ensures.turn)
-    c.go_on_served-itself.ensures.moves
-    (c.ask-in-Did.ensures ∙ ap (λ (who : _). asks (listed c.in-Did.named ++ [] ++ listed who) false) c.go_on_served-itself.ensures.itself)
+    c.go_on_after_piece-itself.ensures.moves
+    (c.ask-in-Did.ensures ∙ ap (λ (who : _). asks (listed c.in-Did.named ++ [] ++ listed who) false) c.go_on_after_piece-itself.ensures.itself)

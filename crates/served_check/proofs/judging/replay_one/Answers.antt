@@ -1,5 +1,5 @@
 use Rattle.served_check.proofs.Finding.{AreAt-set, counts_set}
-use Rattle.served_check.proofs.judging.serve_one.Goals as goal
+use Rattle.served_check.proofs.judging.replay_one.Goals as goal
 
 pub returns-clause-at : goal.returns-clause-at
 returns-clause-at c =

@@ -1,6 +1,6 @@
 use Rattle.std.proofs.Common.{◌-◌, length, map}
 use Rattle.img_streams.proofs.Gathering.{IsAlong}
-use Rattle.img_streams.proofs.room.gather.Given as goal
+use Rattle.img_streams.proofs.room.places_and_buffers.Given as goal
 
 abbrev pub invariant-loop-at : goal.invariant-loop-at
 invariant-loop-at l = IsAlong l.lines l.id l.at l.places.items (map (λ buffer. buffer.items) l.buffers.items)

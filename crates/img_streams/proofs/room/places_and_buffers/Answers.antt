@@ -1,7 +1,7 @@
 use Rattle.std.proofs.Common.{◌∙◌, ◌+◌, ◌<◌, [], map, ap, subst, sym, arith}
 use Rattle.img_streams.specs.Lines.{line_from}
 use Rattle.img_streams.proofs.Gathering.{IsAlong, along_first, own_here, along_more}
-use Rattle.img_streams.proofs.room.gather.Goals as goal
+use Rattle.img_streams.proofs.room.places_and_buffers.Goals as goal
 
 pub loop-at-init : goal.loop-at-init
 loop-at-init c =
