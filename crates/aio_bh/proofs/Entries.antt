@@ -3,10 +3,10 @@ use Rattle.std.proofs.Common.{◌≡◌, ℕ, ◌<◌, Bool, true, false, cond, 
 use Rattle.std.proofs.lemmas.Bool.{and_parts, false≢true}
 use Rattle.table_seats.proofs.Entries.{owns_first}
 use Rattle.table_seats.proofs.Standing.{none_of}
-use Rattle.aio_model.specs.LoopHistory.{Entry, New, Enqueue, Put, Cancel, Take, Dequeue, Free, SetEvent, ClearEvent, History}
-use Rattle.aio_model.specs.LoopLists.{seat_of, taken_of, dequeue_count, out_of}
-use Rattle.aio_model.specs.LoopSeats.{Numbers, owns, home, entries_of, own_entries}
-use Rattle.aio_model.specs.LoopFrame.{are_of_callback}
+use Rattle.aio_model.specs.Loop.History.{Entry, New, Enqueue, Put, Cancel, Take, Dequeue, Free, SetEvent, ClearEvent, History}
+use Rattle.aio_model.specs.Loop.Lists.{seat_of, taken_of, dequeue_count, out_of}
+use Rattle.aio_model.specs.Loop.Seats.{Numbers, owns, home, entries_of, own_entries}
+use Rattle.aio_model.specs.Loop.Frame.{are_of_callback}
 
 -- none of the home's own
 pub none_of_home : (numbers : Numbers) (others : History) → numbers.first ≡ 64 → numbers.count ≡ 1 → own_entries numbers others ≡ [] → entries_of home others ≡ []

@@ -2,14 +2,14 @@
 use Rattle.std.proofs.Common.{◌≡◌, ℕ, ◌<◌, Bool, true, false, cond, eqb, MatchBool, List, [], ◌∷◌, ◌++◌, refl, sym, ap, ◌∙◌, subst, append_assoc}
 use Rattle.std.proofs.lemmas.Bool.{eq-eqb, and_from, and_parts}
 use Rattle.table_seats.proofs.Standing.{entries-append}
-use Rattle.aio_model.specs.declared.flags.Flags.{Flags}
-use Rattle.aio_model.specs.LoopHistory.{Entry, ToCallOnce, New, Enqueue, Put, Cancel, History}
-use Rattle.aio_model.specs.LoopHistory.{EnqueueAsks}
-use Rattle.aio_model.specs.LoopLists.{seat_of}
-use Rattle.aio_model.specs.LoopLegal.{IsLegal}
-use Rattle.aio_model.specs.LoopSeats.{entries_of}
-use Rattle.aio_model.specs.LoopFrame.{is_of_callback, are_of_callback}
-use Rattle.aio_model.specs.InFlight.{Phase, AtRest}
+use Rattle.aio_model.specs.declared.loops.flags.Flags.{Flags}
+use Rattle.aio_model.specs.Loop.History.{Entry, ToCallOnce, New, Enqueue, Put, Cancel, History}
+use Rattle.aio_model.specs.Loop.History.{EnqueueAsks}
+use Rattle.aio_model.specs.Loop.Lists.{seat_of}
+use Rattle.aio_model.specs.Loop.Legal.{IsLegal}
+use Rattle.aio_model.specs.Loop.Seats.{entries_of}
+use Rattle.aio_model.specs.Loop.Frame.{is_of_callback, are_of_callback}
+use Rattle.aio_model.specs.Loop.InFlight.{Phase, AtRest}
 use Rattle.aio_core.specs.Known.{Known, Done, numbers_of}
 use Rattle.aio_core.specs.Words.{free_word}
 use Rattle.aio_core.specs.Standing.{Makes, Claims, Enqueues, Aims, Pushes, Cancels, SetsNotifier, PlacesJob}

@@ -1,8 +1,8 @@
 -- How the counts of the home's steps add up.
 use Rattle.std.proofs.Common.{◌≡◌, ℕ, ◌+◌, true, [], ◌∷◌, ◌++◌, refl, arith}
 use Rattle.std.proofs.lemmas.Bool.{false≢true}
-use Rattle.aio_model.specs.LoopHistory.{New, Enqueue, Put, Cancel, Take, Dequeue, Free, SetEvent, ClearEvent, History}
-use Rattle.aio_model.specs.LoopFrame.{are_of_callback}
+use Rattle.aio_model.specs.Loop.History.{New, Enqueue, Put, Cancel, Take, Dequeue, Free, SetEvent, ClearEvent, History}
+use Rattle.aio_model.specs.Loop.Frame.{are_of_callback}
 use Rattle.aio_bh.specs.HomeSteps.{steps_for}
 
 pub added_up : (c b a t f s : ℕ) → c ≡ b + t → b ≡ a + f → s ≡ t + f → c ≡ a + s

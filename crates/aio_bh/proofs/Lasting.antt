@@ -1,12 +1,12 @@
 -- What any part of a poll leaves: what was seen is only longer, and a lot that may be freed still may, also over nested frames.
 use Rattle.std.proofs.Common.{◌≡◌, ℕ, zero, suc, Bool, true, false, eqb, Option, None, MatchBool, [], ◌∷◌, ◌++◌, refl, sym, ap, ◌∙◌, subst, append_assoc, append-nil, inl, inr}
 use Rattle.std.proofs.lemmas.Bool.{ne_eqb}
-use Rattle.aio_model.specs.LoopHistory.{Sizes, New, Enqueue, Put, Cancel, Take, Dequeue, Free, SetEvent, ClearEvent, History}
-use Rattle.aio_model.specs.LoopFlags.{is_lot, is_pending}
-use Rattle.aio_model.specs.LoopLists.{stack_of, out_of}
-use Rattle.aio_model.specs.LoopLegal.{MayFollow, IsLegal}
-use Rattle.aio_model.specs.LoopSeats.{home, entries_of}
-use Rattle.aio_model.specs.LoopFrame.{Lent, Answer, Entered, PollPlace, Makes, EntersRunner, Body, Turn, Turns, Frame, nests_above, are_of_callback, lent_of, start_of}
+use Rattle.aio_model.specs.Loop.History.{Sizes, New, Enqueue, Put, Cancel, Take, Dequeue, Free, SetEvent, ClearEvent, History}
+use Rattle.aio_model.specs.Loop.Flags.{is_lot, is_pending}
+use Rattle.aio_model.specs.Loop.Lists.{stack_of, out_of}
+use Rattle.aio_model.specs.Loop.Legal.{MayFollow, IsLegal}
+use Rattle.aio_model.specs.Loop.Seats.{home, entries_of}
+use Rattle.aio_model.specs.Loop.Frame.{Lent, Answer, Entered, PollPlace, Makes, EntersRunner, Body, Turn, Turns, Frame, nests_above, are_of_callback, lent_of}
 use Rattle.aio_model.proofs.AnnouncedOnce.{fits, head_is_pending, out_of-dequeue, out_of-take}
 use Rattle.aio_model.proofs.LotLives.{may_free-after, may_free-between}
 use Rattle.aio_model.proofs.Rounds.{legal_cut}

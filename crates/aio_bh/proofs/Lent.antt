@@ -1,10 +1,10 @@
 -- What an enqueue, or a cancel, through a lent seat says is what a callback owes.
 use Rattle.std.proofs.Common.{◌≡◌, ℕ, Bool, true, false, [], Result, Ok, Err, MatchResult, refl, sym, ap, ◌∙◌, subst}
-use Rattle.aio_model.specs.declared.flags.Flags.{Flags}
-use Rattle.aio_model.specs.LoopHistory.{EnqueueAsks, History}
-use Rattle.aio_model.specs.InFlight.{AtRest}
-use Rattle.aio_model.specs.LoopLegal.{IsLegal}
-use Rattle.aio_model.specs.LoopFrame.{are_of_callback}
+use Rattle.aio_model.specs.declared.loops.flags.Flags.{Flags}
+use Rattle.aio_model.specs.Loop.History.{EnqueueAsks, History}
+use Rattle.aio_model.specs.Loop.InFlight.{AtRest}
+use Rattle.aio_model.specs.Loop.Legal.{IsLegal}
+use Rattle.aio_model.specs.Loop.Frame.{are_of_callback}
 use Rattle.aio_core.specs.Known.{Known}
 use Rattle.aio_bh.specs.Enqueuing.{AddsOnly, enqueue_entries}
 use Rattle.lot_pool.specs.Pools.{PassState}

@@ -1,12 +1,11 @@
 -- A one-shot stands in the history.
 use Rattle.std.proofs.Common.{◌≡◌, ℕ, cond, List, [], ◌∷◌, refl, sym, ap, ◌∙◌, subst}
 use Rattle.table_seats.proofs.Standing.{makes_stand, stands_append}
-use Rattle.aio_model.specs.declared.flags.Flags.{Flags}
-use Rattle.aio_model.specs.LoopHistory.{ToCallOnce, New, Enqueue, Put, History}
-use Rattle.aio_model.specs.LoopLists.{seat_of}
-use Rattle.aio_model.specs.LoopLegal.{IsLegal}
-use Rattle.aio_model.specs.LoopSeats.{StandsAtTheEnd}
-use Rattle.aio_model.specs.InFlight.{Announced, ToStore, ForIndex}
+use Rattle.aio_model.specs.Loop.History.{ToCallOnce, New, Enqueue, Put, History}
+use Rattle.aio_model.specs.Loop.Lists.{seat_of}
+use Rattle.aio_model.specs.Loop.Legal.{IsLegal}
+use Rattle.aio_model.specs.Loop.Seats.{StandsAtTheEnd}
+use Rattle.aio_model.specs.Loop.InFlight.{Announced, ToStore, ForIndex}
 use Rattle.aio_core.specs.Known.{Known, part_of}
 use Rattle.aio_core.specs.Standing.{PlacesJob}
 use Rattle.aio_core.specs.Calls.{IsTaken}

@@ -1,15 +1,13 @@
 -- A poll of depth 1 takes the list once, and dequeues what it took, each once.
-use Rattle.std.proofs.Common.{◌≡◌, ℕ, zero, suc, Bool, true, false, eqb, Option, MatchBool, [], ◌∷◌, ◌++◌, refl, sym, ap, ◌∙◌, subst, append_assoc, append-nil}
+use Rattle.std.proofs.Common.{◌≡◌, Bool, true, false, eqb, [], ◌∷◌, ◌++◌, refl, sym, ap, ◌∙◌, append_assoc}
 use Rattle.std.proofs.lemmas.Bool.{false≢true}
-use Rattle.aio_model.specs.LoopHistory.{Sizes, New, Enqueue, Put, Cancel, Take, Dequeue, Free, SetEvent, ClearEvent, History}
-use Rattle.aio_model.specs.LoopFlags.{is_lot}
-use Rattle.aio_model.specs.LoopLists.{out_of}
-use Rattle.aio_model.specs.LoopLegal.{IsLegal}
-use Rattle.aio_model.specs.LoopSeats.{home, entries_of}
-use Rattle.aio_model.specs.LoopFrame.{PollPlace, Makes, Body, Turn, Turns, Frame, are_of_callback}
+use Rattle.aio_model.specs.Loop.History.{Sizes, New, Enqueue, Put, Cancel, Take, Dequeue, Free, SetEvent, ClearEvent, History}
+use Rattle.aio_model.specs.Loop.Lists.{out_of}
+use Rattle.aio_model.specs.Loop.Legal.{IsLegal}
+use Rattle.aio_model.specs.Loop.Seats.{home, entries_of}
+use Rattle.aio_model.specs.Loop.Frame.{are_of_callback}
 use Rattle.aio_model.proofs.AnnouncedOnce.{out_of-dequeue}
 use Rattle.aio_bh.specs.Polling.{dequeued_in}
-use Rattle.aio_bh.specs.PollFrames.{TakesAndSome}
 use Rattle.aio_bh.proofs.Entries.{rest_of_callback}
 
 abbrev pub no_take : History → Bool

@@ -1,12 +1,12 @@
 -- The parts of a poll one after another, at any depth: entries, bodies, turns, and the frame.
 use Rattle.std.proofs.Common.{◌≡◌, ℕ, zero, suc, ◌+◌, min, Bool, true, false, cond, Option, None, MatchBool, List, [], ◌∷◌, ◌++◌, refl, sym, ap, ◌∙◌, subst, append_assoc, arith, inl, inr}
 use Rattle.table_seats.proofs.Standing.{entries-append}
-use Rattle.aio_model.specs.LoopHistory.{Sizes, Take, Dequeue, History}
-use Rattle.aio_model.specs.LoopFlags.{is_lot}
-use Rattle.aio_model.specs.LoopLists.{seat_of, job_of, out_of}
-use Rattle.aio_model.specs.LoopLegal.{IsLegal}
-use Rattle.aio_model.specs.LoopSeats.{home, entries_of}
-use Rattle.aio_model.specs.LoopFrame.{Answer, Ended, Nests, PollPlace, Entered, Makes, EntersRunner, Body, Turn, Frame, lent_of, nests_above, is_cut, ran_of, cut_nests_of}
+use Rattle.aio_model.specs.Loop.History.{Sizes, Take, Dequeue, History}
+use Rattle.aio_model.specs.Loop.Flags.{is_lot}
+use Rattle.aio_model.specs.Loop.Lists.{seat_of, job_of, out_of}
+use Rattle.aio_model.specs.Loop.Legal.{IsLegal}
+use Rattle.aio_model.specs.Loop.Seats.{home, entries_of}
+use Rattle.aio_model.specs.Loop.Frame.{Answer, Ended, Nests, PollPlace, Entered, Makes, EntersRunner, Body, Turn, Frame, lent_of, nests_above, is_cut, ran_of, cut_nests_of}
 use Rattle.aio_model.proofs.Frames.{DoesEntries-append, Turns-more, Frame-from}
 use Rattle.aio_core.specs.Known.{Known, Done, Stage}
 use Rattle.aio_bh.specs.declared.polled.Polled.{Polled}

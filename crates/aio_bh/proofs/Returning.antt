@@ -1,8 +1,8 @@
 -- Lots that a home frees go back to their pool.
-use Rattle.std.proofs.Common.{◌≡◌, ℕ, ◌&&◌, true, Bool, Option, List, [], ◌∷◌, ◌++◌, refl, sym, ap, ◌∙◌, subst, append_assoc}
+use Rattle.std.proofs.Common.{◌≡◌, ℕ, ◌&&◌, true, Bool, Option, [], ◌∷◌, ◌++◌, refl, sym, ap, ◌∙◌, subst, append_assoc}
 use Rattle.std.proofs.lemmas.Bool.{false≢true}
-use Rattle.aio_model.specs.LoopHistory.{New, Enqueue, Put, Cancel, Take, Dequeue, Free, SetEvent, ClearEvent, History}
-use Rattle.aio_model.specs.LoopFrame.{are_of_callback}
+use Rattle.aio_model.specs.Loop.History.{New, Enqueue, Put, Cancel, Take, Dequeue, Free, SetEvent, ClearEvent, History}
+use Rattle.aio_model.specs.Loop.Frame.{are_of_callback}
 use Rattle.aio_core.specs.Known.{Known}
 use Rattle.aio_core.specs.Standing.{Frees}
 use Rattle.aio_core.specs.Calls.{HasTaken}

@@ -1,15 +1,15 @@
 -- What a poll does for each handle, and where the entries of its callbacks stand.
 use Rattle.std.proofs.Common.{◌≡◌, ℕ, zero, suc, ◌<◌, Bool, true, false, cond, ◌||◌, eqb, Option, None, MatchBool, List, [], ◌∷◌, ◌++◌, refl, sym, ap, ◌∙◌, subst, append_assoc, append-nil, arith, inl, inr, ◌⊎◌}
 use Rattle.std.proofs.lemmas.Bool.{false≢true, eq-eqb}
-use Rattle.aio_model.specs.declared.flags.Flags.{Flags}
-use Rattle.aio_model.specs.LoopHistory.{Sizes, ToCall, Entry, New, Enqueue, Put, Cancel, Take, Dequeue, Free, SetEvent, ClearEvent, History}
-use Rattle.aio_model.specs.LoopFlags.{is_lot, is_pending, puts, flags_of}
-use Rattle.aio_model.specs.LoopLists.{out_of}
-use Rattle.aio_model.specs.LoopLegal.{IsLegal}
-use Rattle.aio_model.specs.LoopLaws.{times_of, some_entry}
-use Rattle.aio_model.specs.LoopSeats.{home, entries_by, entries_of}
-use Rattle.aio_model.specs.LoopFrame.{Lent, Answer, Ended, Nests, Entered, DoesEntries, PollPlace, Makes, EntersRunner, Body, Turn, Turns, nests_above, Frame, are_of_callback, lent_of, start_of}
-use Rattle.aio_model.specs.LoopCalls.{dequeue_times, call_times, entry_times, stops, AwaitsCall}
+use Rattle.aio_model.specs.declared.loops.flags.Flags.{Flags}
+use Rattle.aio_model.specs.Loop.History.{Sizes, ToCall, Entry, New, Enqueue, Put, Cancel, Take, Dequeue, Free, SetEvent, ClearEvent, History}
+use Rattle.aio_model.specs.Loop.Flags.{is_lot, is_pending, puts}
+use Rattle.aio_model.specs.Loop.Lists.{out_of}
+use Rattle.aio_model.specs.Loop.Legal.{IsLegal}
+use Rattle.aio_model.specs.Loop.Laws.{times_of, some_entry}
+use Rattle.aio_model.specs.Loop.Seats.{home, entries_by, entries_of}
+use Rattle.aio_model.specs.Loop.Frame.{Lent, Answer, Ended, Nests, Entered, DoesEntries, PollPlace, Makes, EntersRunner, Body, Turn, Turns, nests_above, Frame, are_of_callback, lent_of, start_of}
+use Rattle.aio_model.specs.Loop.Calls.{dequeue_times, call_times, entry_times, stops, AwaitsCall}
 use Rattle.aio_model.proofs.Indices.{times_of-append}
 use Rattle.aio_model.proofs.Rounds.{legal_cut}
 use Rattle.aio_model.proofs.Awaiting.{dequeue_times-append, call_times-append, calls_most, none_dequeued, called_once, none_taken, out_most, none_out, enqueued_awaits, two_of_by, or_right, some_entry-parts}

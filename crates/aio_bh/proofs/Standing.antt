@@ -1,12 +1,12 @@
 -- Steps of one seat, one after another, stand in the history.
 use Rattle.std.proofs.Common.{◌≡◌, ℕ, zero, suc, Bool, true, false, cond, eqb, MatchBool, List, [], ◌∷◌, refl, sym, ap, ◌∙◌, subst}
 use Rattle.table_seats.proofs.Standing.{makes_stand, stands_append}
-use Rattle.aio_model.specs.declared.flags.Flags.{Flags}
-use Rattle.aio_model.specs.LoopHistory.{EnqueueAsks, Enqueue, Put, History}
-use Rattle.aio_model.specs.LoopLists.{seat_of}
-use Rattle.aio_model.specs.LoopLegal.{IsLegal}
-use Rattle.aio_model.specs.LoopSeats.{StandsAtTheEnd}
-use Rattle.aio_model.specs.InFlight.{Phase}
+use Rattle.aio_model.specs.declared.loops.flags.Flags.{Flags}
+use Rattle.aio_model.specs.Loop.History.{EnqueueAsks, Enqueue, Put, History}
+use Rattle.aio_model.specs.Loop.Lists.{seat_of}
+use Rattle.aio_model.specs.Loop.Legal.{IsLegal}
+use Rattle.aio_model.specs.Loop.Seats.{StandsAtTheEnd}
+use Rattle.aio_model.specs.Loop.InFlight.{Phase}
 use Rattle.aio_core.specs.Known.{Done, Known, part_of}
 use Rattle.aio_core.specs.Standing.{Enqueues, Aims, SetsNotifier}
 use Rattle.aio_bh.specs.HomeSteps.{home_steps}

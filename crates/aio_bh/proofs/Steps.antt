@@ -1,9 +1,9 @@
 -- The loop of a frame: turns are added, and at its end stands the whole frame; at the end of the outermost, the whole poll.
-use Rattle.std.proofs.Common.{◌≡◌, ℕ, zero, suc, ◌+◌, ◌-◌, ◌<◌, ◌≤◌, ◌⊎◌, None, [], ◌∷◌, List, ◌++◌, length, refl, sym, ap, ◌∙◌, subst, append-nil, arith, inl, inr, Bool, true, false, Option}
-use Rattle.aio_model.specs.LoopHistory.{Sizes}
-use Rattle.aio_model.specs.LoopLists.{out_of}
-use Rattle.aio_model.specs.LoopLegal.{IsLegal}
-use Rattle.aio_model.specs.LoopFrame.{Answer, Ended, Nests, PollPlace, Entered, EntersRunner, Body, Turn, Frame, nests_above, start_of, DoesEntries, lent_of, is_cut}
+use Rattle.std.proofs.Common.{◌≡◌, ℕ, zero, suc, ◌+◌, ◌-◌, ◌<◌, ◌≤◌, ◌⊎◌, None, [], ◌∷◌, List, ◌++◌, length, refl, sym, ◌∙◌, subst, append-nil, arith, inl, inr, Bool, true, false, Option}
+use Rattle.aio_model.specs.Loop.History.{Sizes}
+use Rattle.aio_model.specs.Loop.Lists.{out_of}
+use Rattle.aio_model.specs.Loop.Legal.{IsLegal}
+use Rattle.aio_model.specs.Loop.Frame.{Answer, Ended, Nests, PollPlace, Entered, EntersRunner, Body, Turn, Frame, nests_above, start_of, DoesEntries, lent_of}
 use Rattle.aio_core.specs.Known.{Known, Stage, empty_stage}
 use Rattle.lot_pool.specs.Pools.{PoolState, PassState, GivesAll, kept_lots}
 use Rattle.lot_pool.proofs.Passes.{gives_then}

@@ -1,6 +1,6 @@
 -- Tries in a loop.
 use Rattle.std.proofs.Common.{◌≡◌, ℕ, suc, ◌∙◌, subst}
-use Rattle.aio_model.specs.InFlight.{Announced}
+use Rattle.aio_model.specs.Loop.InFlight.{Announced}
 use Rattle.aio_core.specs.Calls.{TableState, SeatState, IsSeatOf}
 use Rattle.aio_bh.specs.Enqueuing.{MissesOnce, Tries}
 

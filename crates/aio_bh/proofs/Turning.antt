@@ -1,16 +1,15 @@
 -- What the calls of the home's seat tell a poll: its take, its next dequeue, and an entry into a callback.
 use Rattle.std.proofs.Common.{◌≡◌, ℕ, ◌+◌, ◌-◌, ◌<◌, ◌≤◌, Bool, true, false, not, ◌&&◌, ◌||◌, cond, ltb, Option, None, Some, is_some, option_map, MatchBool, List, length, length-append, eqb, arith, [], ◌∷◌, ◌++◌, refl, sym, ap, ◌∙◌, subst}
 use Rattle.std.proofs.lemmas.Bool.{false≢true, lt-ltb, ltb-true}
-use Rattle.aio_model.specs.declared.flags.Flags.{Flags}
-use Rattle.aio_model.specs.LoopHistory.{Sizes, Take, Dequeue, Free, History}
-use Rattle.aio_model.specs.LoopFlags.{is_idle, is_lot, are_due}
-use Rattle.aio_model.specs.LoopLists.{out_of, job_of}
-use Rattle.aio_model.specs.LoopLegal.{MayFollow, IsLegal}
-use Rattle.aio_model.specs.LoopSeats.{home, entries_of}
-use Rattle.aio_model.specs.LoopFrame.{PollPlace, Entered, Makes, are_of_callback}
-use Rattle.aio_model.specs.InFlight.{AtRest}
+use Rattle.aio_model.specs.declared.loops.flags.Flags.{Flags}
+use Rattle.aio_model.specs.Loop.History.{Sizes, Take, Dequeue, Free, History}
+use Rattle.aio_model.specs.Loop.Flags.{is_idle, is_lot, are_due}
+use Rattle.aio_model.specs.Loop.Lists.{out_of, job_of}
+use Rattle.aio_model.specs.Loop.Legal.{IsLegal}
+use Rattle.aio_model.specs.Loop.Seats.{home, entries_of}
+use Rattle.aio_model.specs.Loop.Frame.{PollPlace, Entered, Makes, are_of_callback}
+use Rattle.aio_model.specs.Loop.InFlight.{AtRest}
 use Rattle.aio_model.proofs.AnnouncedOnce.{out_of-dequeue, lot_is_no_handle}
-use Rattle.aio_model.proofs.LotLives.{may_free-between}
 use Rattle.aio_core.specs.Known.{Known, empty_stage, numbers_of}
 use Rattle.aio_core.specs.Words.{index_count}
 use Rattle.aio_core.specs.Standing.{is_empty, with_slice, without_first, Frees}

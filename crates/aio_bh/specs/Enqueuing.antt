@@ -1,8 +1,8 @@
 -- An enqueue from any thread, as a run of the steps of the table.
 use Rattle.std.specs.Prelude.{◌≡◌, ℕ, zero, suc, false, if◌then◌else◌, [], ◌∷◌, MatchBool}
-use Rattle.aio_model.specs.declared.flags.Flags.{Flags}
-use Rattle.aio_model.specs.LoopHistory.{EnqueueAsks, Enqueue, Put, History}
-use Rattle.aio_model.specs.LoopSeats.{StandsAtTheEnd}
+use Rattle.aio_model.specs.declared.loops.flags.Flags.{Flags}
+use Rattle.aio_model.specs.Loop.History.{EnqueueAsks, Enqueue, Put, History}
+use Rattle.aio_model.specs.Loop.Seats.{StandsAtTheEnd}
 use Rattle.aio_core.specs.Known.{Known}
 use Rattle.aio_core.specs.Standing.{Enqueues, Aims, Pushes}
 use Rattle.aio_core.specs.Calls.{IsMissed}

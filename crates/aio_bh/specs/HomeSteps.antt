@@ -1,6 +1,6 @@
 -- The atomic steps that are the home's alone: how many it made, and how many its entries take.
 use Rattle.std.specs.Prelude.{ℕ, ◌+◌, Bool, true, false, if◌then◌else◌, List, [], ◌∷◌}
-use Rattle.aio_model.specs.LoopHistory.{Take, Dequeue, Free, History}
+use Rattle.aio_model.specs.Loop.History.{Take, Dequeue, Free, History}
 use Rattle.aio_core.specs.Known.{Kind, TakeSwap, NextLoad, DequeueFetchAnd, LotFreeStore, Done}
 
 abbrev pub is_of_home : Kind → Bool

@@ -1,7 +1,7 @@
 -- One-shots over a pool: what comes of one, and how their lots return.
 use Rattle.std.specs.Prelude.{◌≡◌, ℕ, List, [], ◌∷◌, ◌++◌}
-use Rattle.aio_model.specs.declared.flags.Flags.{Flags}
-use Rattle.aio_model.specs.LoopHistory.{Sizes, ToCallOnce, New, Enqueue, Put, Free, History}
+use Rattle.aio_model.specs.declared.loops.flags.Flags.{Flags}
+use Rattle.aio_model.specs.Loop.History.{Sizes, ToCallOnce, New, Enqueue, Put, Free, History}
 use Rattle.aio_core.specs.Known.{Known}
 use Rattle.aio_core.specs.Standing.{PlacesJob}
 use Rattle.aio_core.specs.Calls.{IsTaken}

@@ -1,12 +1,12 @@
 -- How far a poll has come, and what its parts add.
 use Rattle.std.specs.Prelude.{◌≡◌, ℕ, ◌<◌, ◌≤◌, length, min, ◌+◌, ◌^◌, ◌-◌, Bool, true, false, not, ◌&&◌, ◌||◌, if◌then◌else◌, MatchBool, Option, None, List, [], ◌∷◌, ◌++◌}
-use Rattle.aio_model.specs.LoopHistory.{Sizes, Take, Dequeue, Free, History}
-use Rattle.aio_model.specs.LoopFlags.{is_idle, is_lot}
-use Rattle.aio_model.specs.LoopLists.{out_of, job_of}
-use Rattle.aio_model.specs.LoopSeats.{home, entries_of}
-use Rattle.aio_model.specs.LoopLegal.{MayFollow, IsLegal}
-use Rattle.aio_model.specs.InFlight.{AtRest}
-use Rattle.aio_model.specs.LoopFrame.{Answer, Entered, PollPlace, Makes, Body, Turns, DoesEntries, is_cut, ran_of, cut_nests_of}
+use Rattle.aio_model.specs.Loop.History.{Sizes, Take, Dequeue, Free, History}
+use Rattle.aio_model.specs.Loop.Flags.{is_idle, is_lot}
+use Rattle.aio_model.specs.Loop.Lists.{out_of, job_of}
+use Rattle.aio_model.specs.Loop.Seats.{home, entries_of}
+use Rattle.aio_model.specs.Loop.Legal.{MayFollow, IsLegal}
+use Rattle.aio_model.specs.Loop.InFlight.{AtRest}
+use Rattle.aio_model.specs.Loop.Frame.{Answer, Entered, PollPlace, Makes, Body, Turns, DoesEntries, is_cut, ran_of, cut_nests_of}
 use Rattle.aio_core.specs.Known.{Known}
 use Rattle.aio_core.specs.Standing.{is_empty}
 use Rattle.aio_core.specs.Words.{index_count}

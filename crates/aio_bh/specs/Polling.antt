@@ -1,10 +1,10 @@
 -- What a poll does.
 use Rattle.std.specs.Prelude.{◌≡◌, ℕ, min, ◌^◌, ◌-◌, ◌+◌, List, [], ◌∷◌, ◌++◌}
-use Rattle.aio_model.specs.LoopHistory.{Take, Dequeue, History}
-use Rattle.aio_model.specs.LoopLegal.{IsLegal}
-use Rattle.aio_model.specs.LoopLists.{stack_of, out_of}
-use Rattle.aio_model.specs.LoopSeats.{home, entries_of}
-use Rattle.aio_model.specs.LoopFrame.{Entered, PollPlace, Frame, start_of, DoesEntries, ran_of, cut_nests_of}
+use Rattle.aio_model.specs.Loop.History.{Take, Dequeue, History}
+use Rattle.aio_model.specs.Loop.Legal.{IsLegal}
+use Rattle.aio_model.specs.Loop.Lists.{stack_of, out_of}
+use Rattle.aio_model.specs.Loop.Seats.{home, entries_of}
+use Rattle.aio_model.specs.Loop.Frame.{Entered, PollPlace, Frame, start_of, DoesEntries, ran_of, cut_nests_of}
 use Rattle.aio_core.specs.Known.{Known, empty_stage}
 use Rattle.aio_bh.specs.HomeSteps.{home_steps, steps_for}
 use Rattle.aio_bh.specs.declared.polled.Polled.{Polled}

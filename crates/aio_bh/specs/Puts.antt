@@ -1,7 +1,7 @@
 -- What came of an enqueue that tried once to push.
 use Rattle.std.specs.Prelude.{◌≡◌, ℕ, ◌∷◌, []}
-use Rattle.aio_model.specs.LoopHistory.{EnqueueAsks, Enqueue}
-use Rattle.aio_model.specs.InFlight.{AtRest, Announced}
+use Rattle.aio_model.specs.Loop.History.{EnqueueAsks, Enqueue}
+use Rattle.aio_model.specs.Loop.InFlight.{AtRest, Announced}
 use Rattle.aio_core.specs.Known.{Known}
 use Rattle.aio_bh.specs.declared.put.Put.{Put}
 use Rattle.aio_bh.specs.declared.put.Put.TheVariants.{Done, Owed}

@@ -1,6 +1,6 @@
 -- A seat between two calls.
 use Rattle.std.specs.Prelude.{◌≡◌}
-use Rattle.aio_model.specs.InFlight.{AtRest}
+use Rattle.aio_model.specs.Loop.InFlight.{AtRest}
 use Rattle.aio_core.specs.Calls.{TableState, SeatState, IsSeatOf}
 
 -- it is of the table, and at rest

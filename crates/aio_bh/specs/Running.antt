@@ -1,9 +1,9 @@
 -- One entry into a runner, and the seat that it was lent.
 use Rattle.std.specs.Prelude.{◌≡◌, true, ◌++◌}
-use Rattle.aio_model.specs.LoopHistory.{History}
-use Rattle.aio_model.specs.LoopLegal.{IsLegal}
-use Rattle.aio_model.specs.LoopSeats.{entries_of}
-use Rattle.aio_model.specs.LoopFrame.{Lent, Answer, Ended, Nests, Entered, are_of_callback}
+use Rattle.aio_model.specs.Loop.History.{History}
+use Rattle.aio_model.specs.Loop.Legal.{IsLegal}
+use Rattle.aio_model.specs.Loop.Seats.{entries_of}
+use Rattle.aio_model.specs.Loop.Frame.{Lent, Answer, Ended, Nests, Entered, are_of_callback}
 use Rattle.aio_core.specs.Known.{Known}
 use Rattle.aio_bh.specs.HomeSteps.{home_steps}
 use Rattle.aio_bh.specs.declared.turn.Turn.{Turn}

@@ -1,12 +1,12 @@
 -- What a poll does for each handle, and for what callbacks made.
 use Rattle.std.specs.Prelude.{◌≡◌, ℕ, ◌<◌, ◌≤◌, suc, Bool, true, false, ◌||◌, List, [], ◌∷◌, ◌++◌, ◌⊎◌}
-use Rattle.aio_model.specs.declared.flags.Flags.{Flags}
-use Rattle.aio_model.specs.LoopHistory.{Sizes, ToCall, Enqueue, Take, History}
-use Rattle.aio_model.specs.LoopLists.{was_put}
-use Rattle.aio_model.specs.LoopLaws.{some_entry}
-use Rattle.aio_model.specs.LoopSeats.{home, entries_of}
-use Rattle.aio_model.specs.LoopFrame.{Answer, Nests, Entered}
-use Rattle.aio_model.specs.LoopCalls.{entry_times, dequeue_times, stops, AwaitsCall}
+use Rattle.aio_model.specs.declared.loops.flags.Flags.{Flags}
+use Rattle.aio_model.specs.Loop.History.{Sizes, ToCall, Enqueue, Take, History}
+use Rattle.aio_model.specs.Loop.Lists.{was_put}
+use Rattle.aio_model.specs.Loop.Laws.{some_entry}
+use Rattle.aio_model.specs.Loop.Seats.{home, entries_of}
+use Rattle.aio_model.specs.Loop.Frame.{Answer, Nests, Entered}
+use Rattle.aio_model.specs.Loop.Calls.{entry_times, dequeue_times, stops, AwaitsCall}
 
 -- it asked for a nested poll, and had one left
 abbrev pub gets_nest : Answer → ℕ → Bool

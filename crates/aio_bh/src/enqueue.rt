@@ -1,8 +1,8 @@
 //! Enqueues from any thread, after qemu_bh_schedule, qemu_bh_schedule_idle and qemu_bh_delete of QEMU's util/async.c. Each ends
 //! with a notify, also where the index was pending, so that a home about to sleep hears of it.
 ghost use Rattle.std.specs.Prelude.{◌≡◌, ◌<◌, ◌∷◌, [], MatchResult, false};
-ghost use Rattle.aio_model.specs.LoopHistory.{Put as pushed, Enqueue as enqueued};
-ghost use Rattle.aio_model.specs.InFlight.{AtRest, Announced as announced, ToStore, ForIndex};
+ghost use Rattle.aio_model.specs.Loop.History.{Put as pushed, Enqueue as enqueued};
+ghost use Rattle.aio_model.specs.Loop.InFlight.{AtRest, Announced as announced, ToStore, ForIndex};
 ghost use Rattle.aio_core.specs.Standing.{asked_by};
 ghost use Rattle.aio_core.specs.Calls.{IsSeatOf};
 ghost use Rattle.aio_bh.specs.Enqueuing.{MissesOnce, PushesOnce, PushesAndNotifies, PushesInTheEnd, Schedules, enqueue_entries, AddsOnly};

@@ -2,12 +2,12 @@
 //! also what the frames around it had left. The parts of one turn are inlined into one another, so that a poll whose callbacks
 //! don't nest has no call but theirs; what nests stands by itself.
 ghost use Rattle.std.specs.Prelude.{◌≡◌, ◌+◌, ◌-◌, ◌*◌, ◌^◌, ◌<◌, ◌≤◌, ◌⊎◌, suc, min, not, ◌&&◌, ◌||◌, true, false, None, Some, [], option_map, length, MatchBool, MatchOption, if◌then◌else◌};
-ghost use Rattle.aio_model.specs.InFlight.{AtRest};
-ghost use Rattle.aio_model.specs.LoopFlags.{are_due, is_lot};
-ghost use Rattle.aio_model.specs.LoopLists.{out_of};
-ghost use Rattle.aio_model.specs.LoopLegal.{IsLegal};
-ghost use Rattle.aio_model.specs.LoopFrame.{Ended, Nests, Frame, EntersRunner, Body, lent_of, nests_above};
-ghost use Rattle.aio_model.specs.LoopFrame.{is_cut as is_cut_by};
+ghost use Rattle.aio_model.specs.Loop.InFlight.{AtRest};
+ghost use Rattle.aio_model.specs.Loop.Flags.{are_due, is_lot};
+ghost use Rattle.aio_model.specs.Loop.Lists.{out_of};
+ghost use Rattle.aio_model.specs.Loop.Legal.{IsLegal};
+ghost use Rattle.aio_model.specs.Loop.Frame.{Ended, Nests, Frame, EntersRunner, Body, lent_of, nests_above};
+ghost use Rattle.aio_model.specs.Loop.Frame.{is_cut as is_cut_by};
 ghost use Rattle.aio_core.specs.Words.{index_count};
 ghost use Rattle.aio_core.specs.Standing.{Frees};
 ghost use Rattle.aio_core.specs.Calls.{IsSeatOf};

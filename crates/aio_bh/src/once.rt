@@ -1,6 +1,6 @@
 //! One-shots from any thread, after aio_bh_schedule_oneshot of QEMU's util/async.c, with a place from a pool instead of memory.
 ghost use Rattle.std.specs.Prelude.{◌≡◌, MatchResult};
-ghost use Rattle.aio_model.specs.InFlight.{AtRest, Announced as announced};
+ghost use Rattle.aio_model.specs.Loop.InFlight.{AtRest, Announced as announced};
 ghost use Rattle.aio_core.specs.Calls.{IsSeatOf};
 ghost use Rattle.lot_pool.specs.Pools.{IsPassOf};
 ghost use Rattle.aio_bh.specs.OneShots.{IsPoolFor, FindsNoRoom, PlacesIn, PlacesOnce};

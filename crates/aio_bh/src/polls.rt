@@ -2,8 +2,8 @@
 //! is left. What a callback schedules goes into the list behind its back, for the next poll. A lot is free again once its callback
 //! has ended.
 ghost use Rattle.std.specs.Prelude.{◌≡◌, ◌<◌, MatchResult};
-ghost use Rattle.aio_model.specs.LoopHistory.{ToCall, ToCallIdle, ToDelete};
-ghost use Rattle.aio_model.specs.InFlight.{AtRest, Announced as announced};
+ghost use Rattle.aio_model.specs.Loop.History.{ToCall, ToCallIdle, ToDelete};
+ghost use Rattle.aio_model.specs.Loop.InFlight.{AtRest, Announced as announced};
 ghost use Rattle.aio_core.specs.Known.{empty_stage};
 ghost use Rattle.aio_core.specs.Calls.{IsSeatOf};
 ghost use Rattle.aio_bh.specs.Enqueuing.{PushesAndNotifies, MissesOnce, Schedules, enqueue_entries, AddsOnly};

@@ -1,8 +1,8 @@
 //! What the user of a loop brings.
 ghost use Rattle.std.specs.Prelude.{◌≡◌, ◌<◌, None, true, option_map};
-ghost use Rattle.aio_model.specs.InFlight.{AtRest};
-ghost use Rattle.aio_model.specs.LoopLegal.{IsLegal};
-ghost use Rattle.aio_model.specs.LoopFrame.{lent_of};
+ghost use Rattle.aio_model.specs.Loop.InFlight.{AtRest};
+ghost use Rattle.aio_model.specs.Loop.Legal.{IsLegal};
+ghost use Rattle.aio_model.specs.Loop.Frame.{lent_of};
 ghost use Rattle.aio_core.specs.Words.{index_count};
 ghost use Rattle.aio_core.specs.Calls.{IsSeatOf};
 ghost use Rattle.aio_bh.specs.Running.{answer_by, RunsOnce};
@@ -13,8 +13,8 @@ use aio_core::{Job, LoopTable, Seat};
 
 /// The callbacks of a loop. A poll enters it once for each bottom half that is due.
 pub trait Runner<J: Job> {
-    ghost use Rattle.aio_model.specs.LoopHistory.{Sizes};
-    ghost use Rattle.aio_model.specs.LoopFrame.{Entered};
+    ghost use Rattle.aio_model.specs.Loop.History.{Sizes};
+    ghost use Rattle.aio_model.specs.Loop.Frame.{Entered};
 
     /// What it needs of the sizes of the loop.
     ghost can_run: { Self → Sizes → Type 0 };

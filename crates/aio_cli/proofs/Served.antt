@@ -1,7 +1,7 @@
 -- What was served, at the answers of a run.
 use Rattle.std.proofs.Common.{◌≡◌, ℕ, List, Option, subst}
-use Rattle.aio_model.specs.declared.replies.Placed.{Placed}
-use Rattle.aio_model.specs.declared.scripts.Script.{Script}
+use Rattle.aio_model.specs.declared.serving.replies.Placed.{Placed}
+use Rattle.aio_model.specs.declared.scripts.image_scripts.Script.{Script}
 use Rattle.stream_ends.specs.Stops.{IsScriptServed}
 use Rattle.script_generator.specs.Generated.{generated}
 use Rattle.aio_run.specs.declared.running.RunEnd.{RunEnd}

@@ -1,7 +1,7 @@
 -- What an answer of the program says.
 use Rattle.std.specs.Prelude.{◌≡◌, ℕ, ◌<◌, ◌≤◌, List, Option}
-use Rattle.aio_model.specs.declared.replies.Placed.{Placed}
-use Rattle.aio_model.specs.SerialHistory.{errors_of, eios_of}
+use Rattle.aio_model.specs.declared.serving.replies.Placed.{Placed}
+use Rattle.aio_model.specs.Serving.SerialHistory.{errors_of, eios_of}
 use Rattle.aio_words.specs.Faults.{HasRisen}
 use Rattle.aio_script.specs.declared.refusals.ScriptRefusal.{ScriptRefusal}
 use Rattle.aio_cli.specs.Reading.{IsTooLong, Refuses, RefusesLoop}

@@ -1,6 +1,6 @@
 -- A run of the generated script.
 use Rattle.std.specs.Prelude.{ℕ, List, Option}
-use Rattle.aio_model.specs.declared.replies.Placed.{Placed}
+use Rattle.aio_model.specs.declared.serving.replies.Placed.{Placed}
 use Rattle.stream_ends.specs.Stops.{IsScriptServed}
 use Rattle.script_generator.specs.Generated.{generated}
 use Rattle.aio_run.specs.declared.running.RunEnd.{RunEnd}

@@ -1,9 +1,9 @@
 -- How a run of the program ends: what holds in every mode, and what holds in each.
 use Rattle.std.specs.Prelude.{◌≡◌, ◌↔◌, ℕ, ◌+◌, ◌<◌, ◌≤◌, true, false, List, [], ◌∷◌, length, Option, None, Some, IfSome, Ok, Err}
-use Rattle.aio_model.specs.declared.replies.Placed.{Placed}
-use Rattle.aio_model.specs.declared.scripts.Script.{Script}
-use Rattle.aio_model.specs.declared.loop_scripts.LoopScript.{LoopScript}
-use Rattle.aio_model.specs.SerialHistory.{eios_of}
+use Rattle.aio_model.specs.declared.serving.replies.Placed.{Placed}
+use Rattle.aio_model.specs.declared.scripts.image_scripts.Script.{Script}
+use Rattle.aio_model.specs.declared.scripts.loop_scripts.LoopScript.{LoopScript}
+use Rattle.aio_model.specs.Serving.SerialHistory.{eios_of}
 use Rattle.aio_core.specs.Calls.{SeatState}
 use Rattle.aio_words.specs.declared.called.DeviceAsk.TheVariants.{Size}
 use Rattle.aio_words.specs.Called.{device_call, failures_in, sizes_asked}

@@ -1,9 +1,9 @@
 -- What is printed of a run.
 use Rattle.std.specs.Prelude.{List, ℕ}
-use Rattle.aio_model.specs.declared.replies.Placed.{Placed}
-use Rattle.aio_model.specs.declared.scripts.Script.{Script}
-use Rattle.aio_model.specs.Asked.{asked}
-use Rattle.aio_model.specs.PrintedText.{printed_text}
+use Rattle.aio_model.specs.declared.serving.replies.Placed.{Placed}
+use Rattle.aio_model.specs.declared.scripts.image_scripts.Script.{Script}
+use Rattle.aio_model.specs.Serving.Asked.{asked}
+use Rattle.aio_model.specs.Scripts.PrintedText.{printed_text}
 use Rattle.script_generator.specs.Sums.{sums_of, sums_text}
 use Rattle.aio_run.specs.declared.running.RunEnd.{RunEnd}
 use Rattle.aio_run.specs.Moves.{begun_in, counted, moved_in}

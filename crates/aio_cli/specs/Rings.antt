@@ -1,8 +1,8 @@
 -- What a loop script's run writes, and the end to which its loop comes.
 use Rattle.std.specs.Prelude.{◌≡◌, ℕ, Option, None, MatchOption, List}
-use Rattle.aio_model.specs.declared.loop_scripts.LoopScript.{LoopScript}
-use Rattle.aio_model.specs.LoopHistory.{History}
-use Rattle.aio_model.specs.LoopText.{IsLoopText}
+use Rattle.aio_model.specs.declared.scripts.loop_scripts.LoopScript.{LoopScript}
+use Rattle.aio_model.specs.Loop.History.{History}
+use Rattle.aio_model.specs.Scripts.LoopText.{IsLoopText}
 use Rattle.bell_script.specs.Scripts.{TellsScript}
 use Rattle.aio_cli.specs.Reading.{SaysLoop}
 use Rattle.aio_cli.specs.declared.answer.Answer.{Answer}

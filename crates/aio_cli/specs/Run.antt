@@ -1,10 +1,10 @@
 -- What a run of the program does, from the text that it reads to the text that it writes.
 use Rattle.std.specs.Prelude.{◌≡◌, ◌<◌, ℕ, List, length, slice_index_or, Option}
 use Rattle.std.specs.List.{AllByRecursion}
-use Rattle.aio_model.specs.declared.replies.Placed.{Placed}
-use Rattle.aio_model.specs.declared.scripts.Script.{Script}
-use Rattle.aio_model.specs.Asked.{asked}
-use Rattle.aio_model.specs.PrintedText.{printed_text}
+use Rattle.aio_model.specs.declared.serving.replies.Placed.{Placed}
+use Rattle.aio_model.specs.declared.scripts.image_scripts.Script.{Script}
+use Rattle.aio_model.specs.Serving.Asked.{asked}
+use Rattle.aio_model.specs.Scripts.PrintedText.{printed_text}
 use Rattle.stream_ends.specs.Stops.{IsScriptServed}
 use Rattle.aio_run.specs.declared.running.RunEnd.{RunEnd}
 use Rattle.aio_run.specs.Ends.{IsOver}

@@ -1,6 +1,6 @@
 //! The mode of the generated script: no source is read, and sums are printed in place of replies.
 ghost use Rattle.std.specs.Prelude.{◌≡◌, ◌<◌, ◌≤◌, ◌+◌, ◌∷◌, [], None, true, false, vec_len};
-ghost use Rattle.aio_model.specs.SerialHistory.{eios_of};
+ghost use Rattle.aio_model.specs.Serving.SerialHistory.{eios_of};
 ghost use Rattle.aio_words.specs.Called.{device_call, failures_in, sizes_asked};
 ghost use Rattle.aio_words.specs.Content.{with_piece, AppendsFront};
 ghost use Rattle.aio_words.specs.Faults.{HasRisen, HasRisenBy};

@@ -1,7 +1,7 @@
 ghost use Rattle.std.specs.Prelude.{◌≡◌, ◌≤◌, ◌<◌, [], List, ℕ, length, map, string_bytes, vec_len, None, Ok, Err, IfOk, IfErr, IfSome, true, false, ◌+◌, ◌∷◌};
-ghost use Rattle.aio_model.specs.declared.scripts.Script.{Script};
-ghost use Rattle.aio_model.specs.declared.loop_scripts.LoopScript.{LoopScript};
-ghost use Rattle.aio_model.specs.SerialHistory.{eios_of};
+ghost use Rattle.aio_model.specs.declared.scripts.image_scripts.Script.{Script};
+ghost use Rattle.aio_model.specs.declared.scripts.loop_scripts.LoopScript.{LoopScript};
+ghost use Rattle.aio_model.specs.Serving.SerialHistory.{eios_of};
 ghost use Rattle.aio_words.specs.Called.{device_call, failures_in, sizes_asked};
 ghost use Rattle.aio_words.specs.Content.{with_piece, AppendsFront};
 ghost use Rattle.aio_words.specs.Faults.{HasRisen, HasRisenBy};

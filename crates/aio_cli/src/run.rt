@@ -1,6 +1,6 @@
 //! A script served by its loops on a device, and its replies or its sums printed.
 ghost use Rattle.std.specs.Prelude.{◌≡◌, ◌<◌, ◌≤◌, ◌+◌, ◌∷◌, [], None, true, false, length, take, vec_len, IfOk, IfErr};
-ghost use Rattle.aio_model.specs.SerialHistory.{IsSerialHistory, eios_of};
+ghost use Rattle.aio_model.specs.Serving.SerialHistory.{IsSerialHistory, eios_of};
 ghost use Rattle.aio_words.specs.Called.{device_call, failures_in, sizes_asked};
 ghost use Rattle.aio_words.specs.Content.{with_piece, AppendsFront};
 ghost use Rattle.aio_words.specs.Faults.{HasRisen, HasRisenBy};

@@ -3,9 +3,9 @@ use Rattle.std.proofs.Common.{◌+◌, Option, ◌≡◌, ◌≢◌, ℕ, ◌<�
 use mathlib.Core.Option.{some, none}
 use lib.ListN.{get_elem?, length-set}
 use Rattle.atomic_table.specs.Table.{Me, keeps, step, Allows}
-use Rattle.aio_model.specs.LoopHistory.{Sizes, History}
-use Rattle.aio_model.specs.LoopLists.{was_put, stack_of, out_of}
-use Rattle.aio_model.specs.InFlight.{Phase, AtRest, LotClaimed, Announced, HeadLoaded, Linked, ToStore, ToLoad, ToSet}
+use Rattle.aio_model.specs.Loop.History.{Sizes, History}
+use Rattle.aio_model.specs.Loop.Lists.{was_put, stack_of, out_of}
+use Rattle.aio_model.specs.Loop.InFlight.{Phase, AtRest, LotClaimed, Announced, HeadLoaded, Linked, ToStore, ToLoad, ToSet}
 use Rattle.aio_chain.specs.Chains.{IsChain}
 use Rattle.aio_chain.proofs.Chains.{each_of, chain_kept}
 use Rattle.aio_core.specs.Words.{head_at, notified_at, notify_me_at, notifier_at, next_at, index_count, next_in}

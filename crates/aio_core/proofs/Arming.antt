@@ -4,9 +4,9 @@ use Rattle.std.proofs.lemmas.Bool.{eqb-true}
 use mathlib.Core.Option.{some, none}
 use lib.ListN.{get_elem?}
 use Rattle.atomic_table.specs.Table.{Me, keeps, step, Allows}
-use Rattle.aio_model.specs.LoopHistory.{Sizes, History}
-use Rattle.aio_model.specs.LoopSeats.{owns, home}
-use Rattle.aio_model.specs.InFlight.{flight_of}
+use Rattle.aio_model.specs.Loop.History.{Sizes, History}
+use Rattle.aio_model.specs.Loop.Seats.{owns, home}
+use Rattle.aio_model.specs.Loop.InFlight.{flight_of}
 use Rattle.aio_core.specs.Words.{notified_at, notify_me_at, notifier_at, next_in}
 use Rattle.aio_core.specs.Known.{Done, ArmFetchAdd, TestLoad, DisarmFetchSub, AcceptStore, NotifierClearSwap, Stage, empty_stage, Scan, Sleep, Running, Scanning, Armed, ToDisarm, Committed, is_running, Known, numbers_of}
 use Rattle.aio_core.specs.Rule.{IsOut, store_of, AreCovered, IsScan, Sleeps, Stands, Kept}

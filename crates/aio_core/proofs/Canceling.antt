@@ -3,10 +3,10 @@ use Rattle.std.proofs.Common.{◌+◌, Option, ◌≡◌, ℕ, ◌<◌, List, �
 use mathlib.Core.Option.{some, none}
 use lib.ListN.{get_elem?, length-set}
 use Rattle.atomic_table.specs.Table.{Me, keeps, step, Allows}
-use Rattle.aio_model.specs.FlagsWord.{word_of}
-use Rattle.aio_model.specs.LoopHistory.{Sizes, Cancel, History}
-use Rattle.aio_model.specs.LoopFlags.{flags_of}
-use Rattle.aio_model.specs.LoopLists.{stack_of, out_of}
+use Rattle.aio_model.specs.Loop.FlagsWord.{word_of}
+use Rattle.aio_model.specs.Loop.History.{Sizes, Cancel, History}
+use Rattle.aio_model.specs.Loop.Flags.{flags_of}
+use Rattle.aio_model.specs.Loop.Lists.{stack_of, out_of}
 use Rattle.aio_chain.specs.Chains.{IsChain}
 use Rattle.aio_chain.proofs.Chains.{chain_kept}
 use Rattle.aio_core.specs.Words.{head_at, notified_at, notify_me_at, notifier_at, flags_at, index_count, flags_word, next_in}

@@ -6,11 +6,11 @@ use lib.ListN.{get_elem?, length-set}
 use prog.Atomic.{either}
 use Rattle.atomic_table.specs.Table.{State, Me, Act, keeps, takes, step, Allows, Valid, stepped, carried_after}
 use Rattle.atomic_table.proofs.Lists.{set_else}
-use Rattle.aio_model.specs.FlagsWord.{word_of}
-use Rattle.aio_model.specs.LoopHistory.{Sizes, New, History}
-use Rattle.aio_model.specs.LoopFlags.{has_life, lives, is_lot, is_pending, flags_of, are_urgent, is_urgent, ends_round}
-use Rattle.aio_model.specs.LoopLists.{was_put, is_announced, claimer_of, stack_of, out_of}
-use Rattle.aio_model.specs.InFlight.{Reason, ForIndex, ForEvent, ForNothing, AtRest, LotClaimed, flight_of}
+use Rattle.aio_model.specs.Loop.FlagsWord.{word_of}
+use Rattle.aio_model.specs.Loop.History.{Sizes, New, History}
+use Rattle.aio_model.specs.Loop.Flags.{has_life, lives, is_lot, is_pending, flags_of, are_urgent, is_urgent, ends_round}
+use Rattle.aio_model.specs.Loop.Lists.{was_put, is_announced, claimer_of, stack_of, out_of}
+use Rattle.aio_model.specs.Loop.InFlight.{Reason, ForIndex, ForEvent, ForNothing, AtRest, LotClaimed, flight_of}
 use Rattle.aio_model.proofs.AnnouncedOnce.{fits}
 use Rattle.aio_model.proofs.LotLives.{pending_lot_lives}
 use Rattle.aio_chain.specs.Chains.{IsChain}

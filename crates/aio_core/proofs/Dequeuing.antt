@@ -4,11 +4,11 @@ use Rattle.std.proofs.lemmas.Bool.{ne_eqb}
 use mathlib.Core.Option.{some, none}
 use lib.ListN.{get_elem?, length-set}
 use Rattle.atomic_table.specs.Table.{Me, keeps, step, Allows}
-use Rattle.aio_model.specs.FlagsWord.{word_of}
-use Rattle.aio_model.specs.LoopHistory.{Sizes, Entry, Dequeue, History}
-use Rattle.aio_model.specs.LoopFlags.{has_life, is_pending, flags_of, are_due, ends_round}
-use Rattle.aio_model.specs.LoopLists.{head_of, stack_of, out_of}
-use Rattle.aio_model.specs.LoopSeats.{owns, home}
+use Rattle.aio_model.specs.Loop.FlagsWord.{word_of}
+use Rattle.aio_model.specs.Loop.History.{Sizes, Entry, Dequeue, History}
+use Rattle.aio_model.specs.Loop.Flags.{has_life, is_pending, flags_of, are_due, ends_round}
+use Rattle.aio_model.specs.Loop.Lists.{head_of, stack_of, out_of}
+use Rattle.aio_model.specs.Loop.Seats.{owns, home}
 use Rattle.aio_model.proofs.AnnouncedOnce.{fits, head_is_pending, out_of-dequeue}
 use Rattle.aio_chain.specs.Chains.{IsChain, AreChains}
 use Rattle.aio_chain.proofs.Chains.{Each, chain_kept, chains_kept}

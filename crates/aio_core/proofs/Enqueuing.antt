@@ -4,12 +4,12 @@ use Rattle.std.proofs.lemmas.Bool.{eq-eqb, ne_eqb}
 use mathlib.Core.Option.{some, none}
 use lib.ListN.{get_elem?, length-set}
 use Rattle.atomic_table.specs.Table.{Me, keeps, step, Allows}
-use Rattle.aio_model.specs.FlagsWord.{word_of}
-use Rattle.aio_model.specs.LoopHistory.{Sizes, EnqueueAsks, Enqueue, History}
-use Rattle.aio_model.specs.LoopFlags.{has_life, is_lot, is_pending, flags_of, is_once}
-use Rattle.aio_model.specs.LoopLists.{stack_of, out_of}
-use Rattle.aio_model.specs.LoopLegal.{IsLegal, MayAsk}
-use Rattle.aio_model.specs.InFlight.{Phase, ForNothing, ForIndex, AtRest, Announced, ToStore, flight_of}
+use Rattle.aio_model.specs.Loop.FlagsWord.{word_of}
+use Rattle.aio_model.specs.Loop.History.{Sizes, EnqueueAsks, Enqueue, History}
+use Rattle.aio_model.specs.Loop.Flags.{has_life, is_lot, is_pending, flags_of, is_once}
+use Rattle.aio_model.specs.Loop.Lists.{stack_of, out_of}
+use Rattle.aio_model.specs.Loop.Legal.{IsLegal, MayAsk}
+use Rattle.aio_model.specs.Loop.InFlight.{Phase, ForNothing, ForIndex, AtRest, Announced, ToStore, flight_of}
 use Rattle.aio_model.proofs.AnnouncedOnce.{lot_is_no_handle}
 use Rattle.aio_chain.specs.Chains.{IsChain}
 use Rattle.aio_chain.proofs.Chains.{chain_kept}

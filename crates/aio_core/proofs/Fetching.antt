@@ -5,12 +5,12 @@ use mathlib.Core.Option.{some, none}
 use lib.ListN.{get_elem?}
 use Rattle.atomic_table.specs.Table.{Me, takes, gives, step, Allows}
 use Rattle.atomic_table.proofs.Lists.{set_else, set_here}
-use Rattle.aio_model.specs.FlagsWord.{word_of}
-use Rattle.aio_model.specs.LoopHistory.{Sizes, Dequeue, History}
-use Rattle.aio_model.specs.LoopFlags.{is_lot, was_dequeued, is_pending, flags_of, are_due, is_due}
-use Rattle.aio_model.specs.LoopLists.{claimer_of, job_of, out_of, head_of}
-use Rattle.aio_model.specs.LoopLegal.{IsLegal}
-use Rattle.aio_model.specs.LoopSeats.{owns, home}
+use Rattle.aio_model.specs.Loop.FlagsWord.{word_of}
+use Rattle.aio_model.specs.Loop.History.{Sizes, Dequeue, History}
+use Rattle.aio_model.specs.Loop.Flags.{is_lot, was_dequeued, is_pending, flags_of, are_due, is_due}
+use Rattle.aio_model.specs.Loop.Lists.{claimer_of, job_of, out_of, head_of}
+use Rattle.aio_model.specs.Loop.Legal.{IsLegal}
+use Rattle.aio_model.specs.Loop.Seats.{owns, home}
 use Rattle.aio_model.proofs.AnnouncedOnce.{fits, head_is_pending}
 use Rattle.aio_model.proofs.LotLives.{pending_lot_lives}
 use Rattle.aio_core.specs.Words.{flags_at, next_at, index_count, next_in}

@@ -1,12 +1,12 @@
 -- The rule's part on flags: what keeps it when a word changes.
 use Rattle.std.proofs.Common.{◌≡◌, ◌≢◌, ℕ, ◌<◌, Bool, true, false, cond, eqb, ltb, List, [], ◌∷◌, length, set, get_or-set_same, get_or-set_other, slice_index, refl, sym, ap, ◌∙◌, subst, ⊎_elim, arith}
 use Rattle.std.proofs.lemmas.Bool.{cond-true, cases_eq, and_parts, not-true, lt-ltb, eq-eqb, ne_eqb}
-use Rattle.aio_model.specs.declared.flags.Flags.{Flags}
-use Rattle.aio_model.specs.FlagsWord.{bit, word_of}
-use Rattle.aio_model.specs.LoopLists.{is_set}
-use Rattle.aio_model.specs.LoopHistory.{Sizes, EnqueueAsks, ToCall, ToCallIdle, ToDelete, ToCallOnce, Enqueue, Cancel, Dequeue, History}
-use Rattle.aio_model.specs.LoopFlags.{has_life, is_lot, flags_of, is_once}
-use Rattle.aio_model.specs.LoopLegal.{MayAsk}
+use Rattle.aio_model.specs.declared.loops.flags.Flags.{Flags}
+use Rattle.aio_model.specs.Loop.FlagsWord.{bit, word_of}
+use Rattle.aio_model.specs.Loop.Lists.{is_set}
+use Rattle.aio_model.specs.Loop.History.{Sizes, EnqueueAsks, ToCall, ToCallIdle, ToDelete, ToCallOnce, Enqueue, Cancel, Dequeue, History}
+use Rattle.aio_model.specs.Loop.Flags.{has_life, is_lot, flags_of, is_once}
+use Rattle.aio_model.specs.Loop.Legal.{MayAsk}
 use Rattle.aio_core.specs.Words.{event_at, flags_at, index_count, word_count, flags_word, free_word}
 use Rattle.aio_core.specs.Rule.{FlagsStand, EventsStand}
 use Rattle.aio_core.proofs.Masks.{enqueued_flags, canceled_flags, dequeued_flags}

@@ -4,13 +4,13 @@ use Rattle.std.proofs.lemmas.Bool.{and_parts, cases_eq, ne_eqb, eq-eqb, ltb-true
 use mathlib.Core.Option.{some, none}
 use lib.ListN.{get_elem?, length-set}
 use Rattle.atomic_table.specs.Table.{Me, keeps, step, Allows}
-use Rattle.aio_model.specs.FlagsWord.{word_of}
-use Rattle.aio_model.specs.LoopHistory.{Sizes, Entry, New, Enqueue, Put, Cancel, Take, Dequeue, Free, SetEvent, ClearEvent, History}
-use Rattle.aio_model.specs.LoopFlags.{lives, is_lot, was_dequeued, is_pending, flags_of, are_urgent, is_urgent, frees, ends_round}
-use Rattle.aio_model.specs.LoopLists.{seat_of, was_put, is_announced, claimer_of, stack_of, out_of}
-use Rattle.aio_model.specs.LoopLegal.{IsLegal, MayFollow}
-use Rattle.aio_model.specs.LoopSeats.{Numbers, owns, own_entries, home}
-use Rattle.aio_model.specs.InFlight.{Reason, ForIndex, ForEvent, ForNothing}
+use Rattle.aio_model.specs.Loop.FlagsWord.{word_of}
+use Rattle.aio_model.specs.Loop.History.{Sizes, Entry, New, Enqueue, Put, Cancel, Take, Dequeue, Free, SetEvent, ClearEvent, History}
+use Rattle.aio_model.specs.Loop.Flags.{lives, is_lot, was_dequeued, is_pending, flags_of, are_urgent, is_urgent, frees, ends_round}
+use Rattle.aio_model.specs.Loop.Lists.{seat_of, was_put, is_announced, claimer_of, stack_of, out_of}
+use Rattle.aio_model.specs.Loop.Legal.{IsLegal, MayFollow}
+use Rattle.aio_model.specs.Loop.Seats.{Numbers, owns, own_entries, home}
+use Rattle.aio_model.specs.Loop.InFlight.{Reason, ForIndex, ForEvent, ForNothing}
 use Rattle.aio_model.proofs.AnnouncedOnce.{fits}
 use Rattle.aio_model.proofs.LotLives.{may_free-after}
 use Rattle.aio_chain.specs.Chains.{IsChain}

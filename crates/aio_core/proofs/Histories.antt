@@ -1,12 +1,12 @@
 -- What a legal history tells of the lists of one index.
 use Rattle.std.proofs.Common.{◌≡◌, ◌≢◌, ℕ, ◌+◌, ◌<◌, ◌≤◌, Bool, true, false, not, cond, ◌&&◌, ◌||◌, eqb, ltb, Option, Some, None, List, [], ◌∷◌, refl, sym, ap, subst, ⊎_elim, arith}
 use Rattle.std.proofs.lemmas.Bool.{and_parts, or_cases, ltb-true, eqb-true, eq-eqb, false_from_ne_true}
-use Rattle.aio_model.specs.FlagsWord.{bit}
-use Rattle.aio_model.specs.LoopHistory.{Sizes, Entry, New, Enqueue, Put, Cancel, Take, Dequeue, Free, SetEvent, ClearEvent, History}
-use Rattle.aio_model.specs.LoopFlags.{has_life, lives, is_lot, is_pending, enqueues, puts, ends_round}
-use Rattle.aio_model.specs.LoopLists.{seat_of, was_put, is_announced, announcer_of, or_else, stack_of, out_of}
-use Rattle.aio_model.specs.LoopLegal.{IsLegal}
-use Rattle.aio_model.specs.LoopLaws.{times_of}
+use Rattle.aio_model.specs.Loop.FlagsWord.{bit}
+use Rattle.aio_model.specs.Loop.History.{Sizes, Entry, New, Enqueue, Put, Cancel, Take, Dequeue, Free, SetEvent, ClearEvent, History}
+use Rattle.aio_model.specs.Loop.Flags.{has_life, lives, is_lot, is_pending, enqueues, puts, ends_round}
+use Rattle.aio_model.specs.Loop.Lists.{seat_of, was_put, is_announced, announcer_of, or_else, stack_of, out_of}
+use Rattle.aio_model.specs.Loop.Legal.{IsLegal}
+use Rattle.aio_model.specs.Loop.Laws.{times_of}
 use Rattle.aio_model.proofs.AnnouncedOnce.{fits}
 use Rattle.aio_chain.proofs.Chains.{Each}
 use Rattle.aio_core.specs.Words.{index_count}

@@ -6,10 +6,10 @@ use Rattle.atomic_table.specs.Table.{Me, keeps, step, Joins, Allows}
 use Rattle.atomic_table.proofs.Lists.{set_else, set_again}
 use Rattle.table_seats.specs.Seats.{owns, home, longer_of, AreParts}
 use Rattle.table_seats.proofs.Joining.{both_owned, none_owned, each_joined, seats_join, joined_of}
-use Rattle.aio_model.specs.LoopHistory.{Sizes, History}
-use Rattle.aio_model.specs.LoopLists.{seat_of, out_of, job_of}
-use Rattle.aio_model.specs.LoopLegal.{IsLegal}
-use Rattle.aio_model.specs.InFlight.{Phase, AtRest}
+use Rattle.aio_model.specs.Loop.History.{Sizes, History}
+use Rattle.aio_model.specs.Loop.Lists.{seat_of, out_of, job_of}
+use Rattle.aio_model.specs.Loop.Legal.{IsLegal}
+use Rattle.aio_model.specs.Loop.InFlight.{Phase, AtRest}
 use Rattle.aio_model.proofs.Rounds.{legal_cut}
 use Rattle.aio_core.specs.Words.{head_at, next_in}
 use Rattle.aio_core.specs.Known.{Known, calmed, part_of, numbers_of}

@@ -3,7 +3,7 @@ use Rattle.std.proofs.Common.{◌≡◌, ℕ, ◌<◌, List, set, slice_index, r
 use Rattle.std.proofs.lemmas.List.{set-get_or}
 use mathlib.Core.Option.{some}
 use lib.ListN.{get_elem?}
-use Rattle.aio_model.specs.LoopHistory.{Sizes, History}
+use Rattle.aio_model.specs.Loop.History.{Sizes, History}
 use Rattle.aio_core.specs.Known.{Known}
 use Rattle.aio_core.specs.Rule.{SeatsStand, Owes, HasOut, SleepStands, Stands}
 use Rattle.aio_core.proofs.Seats.{IsSame, seats_keep}

@@ -2,9 +2,9 @@
 use Rattle.std.proofs.Common.{Option, ◌≡◌, ℕ, ◌+◌, ◌<◌, ◌≤◌, true, false, Some, None, List, ◌∷◌, refl, sym, ap, ◌∙◌, subst, arith}
 use mathlib.Core.Option.{none}
 use Rattle.atomic_table.specs.Table.{Me, keeps, step, Allows}
-use Rattle.aio_model.specs.LoopHistory.{Sizes}
-use Rattle.aio_model.specs.LoopLists.{out_of}
-use Rattle.aio_model.specs.LoopSeats.{owns, home}
+use Rattle.aio_model.specs.Loop.History.{Sizes}
+use Rattle.aio_model.specs.Loop.Lists.{out_of}
+use Rattle.aio_model.specs.Loop.Seats.{owns, home}
 use Rattle.aio_core.specs.Words.{next_at, index_count, next_in}
 use Rattle.aio_core.specs.Known.{NextLoad, Known, numbers_of}
 use Rattle.aio_core.specs.Rule.{is_at_hand, IsOut, NoneEmpty, HasOut, Kept}

@@ -1,11 +1,11 @@
 -- What the beginning of a life and its end make of the flags of a lot.
 use Rattle.std.proofs.Common.{◌≡◌, ◌≢◌, ℕ, ◌+◌, ◌<◌, Bool, true, false, cond, ◌||◌, eqb, ltb, Some, None, [], ◌∷◌, refl}
 use Rattle.std.proofs.lemmas.Bool.{and_parts, ne_eqb, eq-eqb, ltb-true}
-use Rattle.aio_model.specs.declared.flags.Flags.{Flags}
-use Rattle.aio_model.specs.FlagsWord.{word_of}
-use Rattle.aio_model.specs.LoopHistory.{Sizes, New, Enqueue, Put, Cancel, Take, Dequeue, Free, SetEvent, ClearEvent, History}
-use Rattle.aio_model.specs.LoopFlags.{has_life, lives, is_lot, flags_of}
-use Rattle.aio_model.specs.LoopLists.{claimer_of}
+use Rattle.aio_model.specs.declared.loops.flags.Flags.{Flags}
+use Rattle.aio_model.specs.Loop.FlagsWord.{word_of}
+use Rattle.aio_model.specs.Loop.History.{Sizes, New, Enqueue, Put, Cancel, Take, Dequeue, Free, SetEvent, ClearEvent, History}
+use Rattle.aio_model.specs.Loop.Flags.{has_life, lives, is_lot, flags_of}
+use Rattle.aio_model.specs.Loop.Lists.{claimer_of}
 use Rattle.aio_model.proofs.Lifeless.{lot_above}
 use Rattle.aio_core.specs.Words.{index_count}
 

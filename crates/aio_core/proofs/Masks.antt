@@ -1,10 +1,10 @@
 -- Flags words under the masks of the steps.
 use Rattle.std.proofs.Common.{◌≡◌, ℕ, ◌<◌, ◌≤◌, Bool, true, false, ◌||◌, eqb, bit_and, bit_or, refl, ap, ◌∙◌, arith}
 use Rattle.std.proofs.lemmas.Bool.{agree_below_at, eqb-true}
-use Rattle.aio_model.specs.declared.flags.Flags.{Flags}
-use Rattle.aio_model.specs.FlagsWord.{bit, flags_in, word_of}
-use Rattle.aio_model.specs.LoopHistory.{EnqueueAsks, ToCall, ToCallIdle, ToDelete, ToCallOnce}
-use Rattle.aio_model.specs.LoopFlags.{is_scheduling, is_idling, is_deleting, is_once}
+use Rattle.aio_model.specs.declared.loops.flags.Flags.{Flags}
+use Rattle.aio_model.specs.Loop.FlagsWord.{bit, flags_in, word_of}
+use Rattle.aio_model.specs.Loop.History.{EnqueueAsks, ToCall, ToCallIdle, ToDelete, ToCallOnce}
+use Rattle.aio_model.specs.Loop.Flags.{is_scheduling, is_idling, is_deleting, is_once}
 use Rattle.aio_model.proofs.FlagsWords.{flags_in-word_of}
 use Rattle.aio_core.specs.Standing.{mask_of, asked_with}
 

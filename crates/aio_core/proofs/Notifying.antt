@@ -4,10 +4,10 @@ use Rattle.std.proofs.lemmas.Bool.{ne_eqb}
 use mathlib.Core.Option.{some, none}
 use lib.ListN.{get_elem?, length-set}
 use Rattle.atomic_table.specs.Table.{Me, keeps, step, Allows}
-use Rattle.aio_model.specs.LoopHistory.{Sizes, History}
-use Rattle.aio_model.specs.LoopLists.{stack_of, out_of}
-use Rattle.aio_model.specs.LoopSeats.{owns, home}
-use Rattle.aio_model.specs.InFlight.{Reason, ForIndex, ForNothing, Phase, AtRest, LotClaimed, Announced, HeadLoaded, Linked, ToStore, ToLoad, ToSet, flight_of}
+use Rattle.aio_model.specs.Loop.History.{Sizes, History}
+use Rattle.aio_model.specs.Loop.Lists.{stack_of, out_of}
+use Rattle.aio_model.specs.Loop.Seats.{owns, home}
+use Rattle.aio_model.specs.Loop.InFlight.{Reason, ForIndex, ForNothing, Phase, AtRest, LotClaimed, Announced, HeadLoaded, Linked, ToStore, ToLoad, ToSet, flight_of}
 use Rattle.aio_chain.specs.Chains.{IsChain}
 use Rattle.aio_chain.proofs.Chains.{chain_kept}
 use Rattle.aio_core.specs.Words.{head_at, notified_at, notify_me_at, notifier_at, next_at, next_in}

@@ -1,12 +1,12 @@
 -- What the calls on lots say, from what their steps tell.
 use Rattle.std.proofs.Common.{◌≡◌, ℕ, ◌+◌, ◌<◌, ◌≤◌, Bool, true, false, not, cond, eqb, Option, Some, None, MatchOption, List, [], ◌∷◌, ◌++◌, refl, sym, ap, ◌∙◌, subst, arith}
 use Rattle.std.proofs.lemmas.Bool.{and_from, ne_eqb, lt-ltb, le-ltb, ltb-false, not-true}
-use Rattle.aio_model.specs.declared.flags.Flags.{Flags}
-use Rattle.aio_model.specs.LoopHistory.{Sizes, ToCallOnce, New, Enqueue, Put, Cancel, Take, Dequeue, Free, SetEvent, ClearEvent, History}
-use Rattle.aio_model.specs.FlagsWord.{flags_in}
-use Rattle.aio_model.specs.LoopFlags.{is_lot, are_due}
-use Rattle.aio_model.specs.LoopLists.{job_of}
-use Rattle.aio_model.specs.LoopLegal.{MayFollow, IsLegal}
+use Rattle.aio_model.specs.declared.loops.flags.Flags.{Flags}
+use Rattle.aio_model.specs.Loop.History.{Sizes, ToCallOnce, New, Enqueue, Put, Cancel, Take, Dequeue, Free, SetEvent, ClearEvent, History}
+use Rattle.aio_model.specs.Loop.FlagsWord.{flags_in}
+use Rattle.aio_model.specs.Loop.Flags.{is_lot, are_due}
+use Rattle.aio_model.specs.Loop.Lists.{job_of}
+use Rattle.aio_model.specs.Loop.Legal.{MayFollow, IsLegal}
 use Rattle.aio_model.proofs.AnnouncedOnce.{fits, lot_is_no_handle}
 use Rattle.aio_model.proofs.LotLives.{may_free-dequeued}
 use Rattle.aio_core.specs.Known.{Known}

@@ -2,9 +2,9 @@
 use Rattle.std.proofs.Common.{◌≡◌, ℕ, ◌+◌, ◌<◌, ◌≤◌, true, [], sym, ap, ◌∙◌, subst, arith}
 use Rattle.atomic_table.specs.Table.{Me}
 use Rattle.atomic_table.specs.Seated.{TableId}
-use Rattle.aio_model.specs.LoopHistory.{Sizes}
+use Rattle.aio_model.specs.Loop.History.{Sizes}
 use Rattle.aio_core.specs.Words.{event_at, flags_at, next_at, index_count, word_count}
-use Rattle.aio_model.specs.LoopSeats.{owns, home}
+use Rattle.aio_model.specs.Loop.Seats.{owns, home}
 use Rattle.aio_core.specs.Known.{Known, numbers_of}
 use Rattle.aio_core.specs.Calls.{TableState, SeatState, IsSeatOf}
 use Rattle.table_seats.proofs.Entries.{owns_first}

@@ -2,10 +2,10 @@
 use Rattle.std.proofs.Common.{Option, None, true, false, ◌+◌, map, replicate, ◌≡◌, ℕ, zero, suc, ◌<◌, ◌≤◌, List, [], ◌∷◌, length, slice_index, refl, arith}
 use mathlib.Core.Option.{some}
 use lib.ListN.{get_elem?}
-use Rattle.aio_model.specs.LoopLists.{seat_of, job_of}
+use Rattle.aio_model.specs.Loop.Lists.{seat_of, job_of}
 use Rattle.table_seats.specs.Seats.{owns, home}
 use Rattle.table_seats.proofs.Opening.{each_alone, seats_alone}
-use Rattle.aio_model.specs.LoopHistory.{Sizes}
+use Rattle.aio_model.specs.Loop.History.{Sizes}
 use Rattle.aio_core.specs.Words.{head_at, notified_at, notify_me_at, notifier_at, event_at, flags_at, index_count, word_count, flags_word}
 use Rattle.aio_core.specs.Known.{first_known, part_of, numbers_of}
 use Rattle.aio_core.specs.Opening.{AreFirst}

@@ -1,11 +1,11 @@
 -- What a scan has found, from what its steps tell.
 use Rattle.std.proofs.Common.{◌≡◌, ◌⊎◌, ℕ, ◌≤◌, Bool, true, false, not, cond, ◌&&◌, ◌||◌, eqb, Option, Some, None, MatchOption, MatchBool, List, [], ◌∷◌, ◌++◌, drop, length, inr, refl, sym, ap, ◌∙◌, subst, ⊎_elim, arith, append-nil, append_assoc}
 use Rattle.std.proofs.lemmas.Bool.{and_parts, and_from, lt-ltb, le-leb, eqb-false, not_from_false}
-use Rattle.aio_model.specs.declared.flags.Flags.{Flags}
-use Rattle.aio_model.specs.FlagsWord.{flags_in}
-use Rattle.aio_model.specs.LoopHistory.{Sizes}
-use Rattle.aio_model.specs.LoopFlags.{are_due, are_urgent, is_urgent}
-use Rattle.aio_model.specs.LoopLists.{stack_of, out_of}
+use Rattle.aio_model.specs.declared.loops.flags.Flags.{Flags}
+use Rattle.aio_model.specs.Loop.FlagsWord.{flags_in}
+use Rattle.aio_model.specs.Loop.History.{Sizes}
+use Rattle.aio_model.specs.Loop.Flags.{are_due, are_urgent, is_urgent}
+use Rattle.aio_model.specs.Loop.Lists.{stack_of, out_of}
 use Rattle.aio_model.proofs.FlagsWords.{flags_in-word_of}
 use Rattle.aio_core.specs.Words.{index_count}
 use Rattle.aio_core.specs.HomeState.{are_within}

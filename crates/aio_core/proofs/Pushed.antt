@@ -1,13 +1,13 @@
 -- Which indices are urgent, and that each of them is announced, in the stack or out.
 use Rattle.std.proofs.Common.{◌≡◌, ℕ, ◌+◌, ◌<◌, ◌≤◌, Bool, true, false, not, cond, ◌&&◌, ◌||◌, eqb, List, [], ◌∷◌, ◌++◌, refl, ap, arith}
 use Rattle.std.proofs.lemmas.Bool.{and_parts}
-use Rattle.aio_model.specs.FlagsWord.{bit}
-use Rattle.aio_model.specs.LoopHistory.{Sizes, History}
-use Rattle.aio_model.specs.LoopFlags.{is_pending, is_scheduled, is_urgent, enqueues, asks, is_scheduling, cancels, ends_round}
-use Rattle.aio_model.specs.LoopHistory.{Entry, New, Enqueue, Put, Cancel, Take, Dequeue, Free, SetEvent, ClearEvent}
-use Rattle.aio_model.specs.LoopLists.{was_put, is_announced, stack_of, out_of}
-use Rattle.aio_model.specs.LoopLegal.{IsLegal}
-use Rattle.aio_model.specs.LoopLaws.{times_of}
+use Rattle.aio_model.specs.Loop.FlagsWord.{bit}
+use Rattle.aio_model.specs.Loop.History.{Sizes, History}
+use Rattle.aio_model.specs.Loop.Flags.{is_pending, is_scheduled, is_urgent, enqueues, asks, is_scheduling, cancels, ends_round}
+use Rattle.aio_model.specs.Loop.History.{Entry, New, Enqueue, Put, Cancel, Take, Dequeue, Free, SetEvent, ClearEvent}
+use Rattle.aio_model.specs.Loop.Lists.{was_put, is_announced, stack_of, out_of}
+use Rattle.aio_model.specs.Loop.Legal.{IsLegal}
+use Rattle.aio_model.specs.Loop.Laws.{times_of}
 use Rattle.aio_model.proofs.AnnouncedOnce.{fits}
 use Rattle.aio_model.proofs.Indices.{times_of-append}
 use Rattle.aio_core.specs.Words.{index_count}

@@ -5,9 +5,9 @@ use mathlib.Core.Option.{some, none}
 use lib.ListN.{get_elem?, length-set}
 use prog.Atomic.{either}
 use Rattle.atomic_table.specs.Table.{State, Me, Act, keeps, step, Valid, carried_after, stepped, Allows}
-use Rattle.aio_model.specs.LoopHistory.{Sizes, Put, History}
-use Rattle.aio_model.specs.LoopLists.{stack_of, out_of}
-use Rattle.aio_model.specs.InFlight.{ForIndex, Announced, Linked, ToStore, flight_of}
+use Rattle.aio_model.specs.Loop.History.{Sizes, Put, History}
+use Rattle.aio_model.specs.Loop.Lists.{stack_of, out_of}
+use Rattle.aio_model.specs.Loop.InFlight.{ForIndex, Announced, Linked, ToStore, flight_of}
 use Rattle.aio_chain.specs.Chains.{IsChain}
 use Rattle.aio_chain.proofs.Chains.{chain_kept, pushed}
 use Rattle.aio_core.specs.Words.{head_at, notified_at, notify_me_at, notifier_at, next_at, next_in}

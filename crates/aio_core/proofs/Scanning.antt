@@ -4,13 +4,13 @@ use Rattle.std.proofs.lemmas.Bool.{cases_eq, ne_eqb, eqb-true, eqb-false, eq-eqb
 use mathlib.Core.Option.{some, none}
 use lib.ListN.{get_elem?}
 use Rattle.atomic_table.specs.Table.{Me, keeps, step, Allows}
-use Rattle.aio_model.specs.FlagsWord.{word_of}
-use Rattle.aio_model.specs.LoopHistory.{Sizes, History}
-use Rattle.aio_model.specs.LoopFlags.{flags_of, are_urgent, is_urgent}
-use Rattle.aio_model.specs.LoopLists.{seat_of, was_put, stack_of, out_of}
-use Rattle.aio_model.specs.LoopLegal.{IsLegal}
+use Rattle.aio_model.specs.Loop.FlagsWord.{word_of}
+use Rattle.aio_model.specs.Loop.History.{Sizes, History}
+use Rattle.aio_model.specs.Loop.Flags.{flags_of, are_urgent, is_urgent}
+use Rattle.aio_model.specs.Loop.Lists.{seat_of, was_put, stack_of, out_of}
+use Rattle.aio_model.specs.Loop.Legal.{IsLegal}
 use Rattle.table_seats.specs.Seats.{owns, home, IsSeat}
-use Rattle.aio_model.specs.InFlight.{ForIndex, ForEvent, ForNothing, Phase}
+use Rattle.aio_model.specs.Loop.InFlight.{ForIndex, ForEvent, ForNothing, Phase}
 use Rattle.aio_model.proofs.AnnouncedOnce.{fits}
 use Rattle.aio_chain.specs.Chains.{IsChain, AreChains}
 use Rattle.aio_chain.proofs.Chains.{none_taken}

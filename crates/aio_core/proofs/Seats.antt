@@ -4,9 +4,9 @@ use mathlib.Core.Option.{some}
 use lib.ListN.{get_elem?}
 use Rattle.table_seats.specs.Seats.{owns, EachView, IsSeat}
 use Rattle.table_seats.proofs.Seats.{each_set, IsSame as is_same_part, seats_make as parts_make, seats_keep as parts_keep, seats_see as parts_see, makes_of as part_makes}
-use Rattle.aio_model.specs.LoopHistory.{Sizes, Entry, History}
-use Rattle.aio_model.specs.LoopLists.{seat_of}
-use Rattle.aio_model.specs.LoopLegal.{IsLegal}
+use Rattle.aio_model.specs.Loop.History.{Sizes, Entry, History}
+use Rattle.aio_model.specs.Loop.Lists.{seat_of}
+use Rattle.aio_model.specs.Loop.Legal.{IsLegal}
 use Rattle.aio_core.specs.Known.{Known, part_of, numbers_of}
 use Rattle.aio_core.specs.Standing.{Makes}
 use Rattle.aio_core.specs.Rule.{IsOfTable, SeatsStand}

@@ -8,14 +8,14 @@ use Rattle.atomic_table.specs.Table.{Me, keeps, step, Allows}
 use Rattle.table_seats.specs.Seats.{owns, everyone}
 use Rattle.table_seats.proofs.Entries.{owns_first, owns_everyone}
 use Rattle.table_seats.proofs.Seats.{all_seen as sees_all}
-use Rattle.aio_model.specs.declared.flags.Flags.{Flags}
-use Rattle.aio_model.specs.FlagsWord.{bit, word_of, flags_in}
-use Rattle.aio_model.specs.LoopHistory.{Sizes, History}
-use Rattle.aio_model.specs.LoopFlags.{has_life, is_pending, flags_of}
-use Rattle.aio_model.specs.LoopLists.{seat_of, is_set}
-use Rattle.aio_model.specs.LoopLegal.{IsLegal}
-use Rattle.aio_model.specs.LoopSeats.{own_entries}
-use Rattle.aio_model.specs.InFlight.{Reason, Phase, AtRest, LotClaimed, Announced, HeadLoaded, Linked, ToStore, ToLoad, ToSet, is_at_rest, flight_of}
+use Rattle.aio_model.specs.declared.loops.flags.Flags.{Flags}
+use Rattle.aio_model.specs.Loop.FlagsWord.{bit, word_of, flags_in}
+use Rattle.aio_model.specs.Loop.History.{Sizes, History}
+use Rattle.aio_model.specs.Loop.Flags.{has_life, is_pending, flags_of}
+use Rattle.aio_model.specs.Loop.Lists.{seat_of, is_set}
+use Rattle.aio_model.specs.Loop.Legal.{IsLegal}
+use Rattle.aio_model.specs.Loop.Seats.{own_entries}
+use Rattle.aio_model.specs.Loop.InFlight.{Reason, Phase, AtRest, LotClaimed, Announced, HeadLoaded, Linked, ToStore, ToLoad, ToSet, is_at_rest, flight_of}
 use Rattle.aio_model.proofs.AnnouncedOnce.{fits}
 use Rattle.aio_model.proofs.FlagsWords.{flags_in-word_of}
 use Rattle.aio_core.specs.Words.{notifier_at, event_at, flags_at, index_count, flags_word, free_word}

@@ -4,11 +4,11 @@ use Rattle.std.proofs.lemmas.Bool.{cases_eq, eq-eqb}
 use mathlib.Core.Option.{some, some-injective}
 use lib.ListN.{get_elem?}
 use Rattle.atomic_table.proofs.Lists.{set_else}
-use Rattle.aio_model.specs.LoopHistory.{Sizes, History}
-use Rattle.aio_model.specs.LoopFlags.{is_pending}
-use Rattle.aio_model.specs.LoopLists.{was_put, is_announced}
-use Rattle.aio_model.specs.LoopSeats.{owns, home}
-use Rattle.aio_model.specs.InFlight.{Reason, ForIndex, ForNothing, Phase, AtRest, LotClaimed, Announced, HeadLoaded, Linked, ToStore, ToLoad, ToSet, flight_of}
+use Rattle.aio_model.specs.Loop.History.{Sizes, History}
+use Rattle.aio_model.specs.Loop.Flags.{is_pending}
+use Rattle.aio_model.specs.Loop.Lists.{was_put, is_announced}
+use Rattle.aio_model.specs.Loop.Seats.{owns, home}
+use Rattle.aio_model.specs.Loop.InFlight.{Reason, ForIndex, ForNothing, Phase, AtRest, LotClaimed, Announced, HeadLoaded, Linked, ToStore, ToLoad, ToSet, flight_of}
 use Rattle.aio_chain.proofs.Chains.{Each}
 use Rattle.aio_core.specs.Words.{notified_at, notify_me_at, notifier_at, next_in}
 use Rattle.aio_core.specs.Known.{Done, Sleep, Running, Scanning, Armed, ToDisarm, Committed, calmed, Known, numbers_of}

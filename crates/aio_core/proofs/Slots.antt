@@ -1,11 +1,11 @@
 -- The rule's part on slots: what keeps it when an entry, a view or one slot changes.
 use Rattle.std.proofs.Common.{◌≡◌, ◌≢◌, ℕ, ◌+◌, ◌<◌, Bool, true, false, eqb, Option, Some, None, MatchBool, List, ◌∷◌, set, refl, sym, ap, ◌∙◌, subst, ⊎_elim, arith}
 use Rattle.std.proofs.lemmas.Bool.{cases_eq, ne_eqb}
-use mathlib.Core.Option.{some, none}
+use mathlib.Core.Option.{some}
 use lib.ListN.{get_elem?}
-use Rattle.aio_model.specs.LoopHistory.{Sizes, Entry, New, Enqueue, Put, Cancel, Take, Dequeue, Free, SetEvent, ClearEvent, History}
-use Rattle.aio_model.specs.LoopFlags.{lives, was_dequeued, begins, frees, enqueues, dequeues}
-use Rattle.aio_model.specs.LoopLists.{claimer_of, job_of}
+use Rattle.aio_model.specs.Loop.History.{Sizes, Entry, New, Enqueue, Put, Cancel, Take, Dequeue, Free, SetEvent, ClearEvent, History}
+use Rattle.aio_model.specs.Loop.Flags.{lives, was_dequeued, begins, frees, enqueues, dequeues}
+use Rattle.aio_model.specs.Loop.Lists.{claimer_of, job_of}
 use Rattle.table_seats.specs.Seats.{owns, home, EachView}
 use Rattle.aio_core.specs.Known.{Stage, Known, numbers_of}
 use Rattle.aio_core.specs.Rule.{is_at_hand, IsFull, HasJob, SlotsStand, SlotOf}

@@ -6,9 +6,9 @@ use Rattle.atomic_table.specs.Table.{Splits}
 use Rattle.atomic_table.proofs.Lists.{at_longer}
 use Rattle.table_seats.specs.Seats.{owns, home}
 use Rattle.table_seats.proofs.Splitting.{front_owned, back_owned, each_split, seats_split}
-use Rattle.aio_model.specs.InFlight.{Phase, AtRest}
-use Rattle.aio_model.specs.LoopHistory.{Sizes, History}
-use Rattle.aio_model.specs.LoopLists.{seat_of, job_of}
+use Rattle.aio_model.specs.Loop.InFlight.{Phase, AtRest}
+use Rattle.aio_model.specs.Loop.History.{Sizes, History}
+use Rattle.aio_model.specs.Loop.Lists.{seat_of, job_of}
 use Rattle.aio_core.specs.Known.{Known, part_of, numbers_of}
 use Rattle.aio_core.specs.Rule.{IsOfTable, Owes, HasOut, SomeSeat, HasSleep, Stands, IsFull, HasJob, Kept, SlotOf}
 use Rattle.aio_core.specs.Splitting.{front_known, back_known}

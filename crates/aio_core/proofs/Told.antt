@@ -1,11 +1,11 @@
 -- From what a step tells to what a call says.
 use Rattle.std.proofs.Common.{◌≡◌, ℕ, false, refl, sym, ap, ◌∙◌, subst}
-use Rattle.aio_model.specs.declared.flags.Flags.{Flags}
-use Rattle.aio_model.specs.declared.kinds.Kind as asking
-use Rattle.aio_model.specs.declared.kinds.Kind.TheVariants.{Sched, Idle, Del}
-use Rattle.aio_model.specs.FlagsWord.{flags_in}
-use Rattle.aio_model.specs.LoopHistory.{EnqueueAsks}
-use Rattle.aio_model.specs.LoopFlags.{is_once}
+use Rattle.aio_model.specs.declared.loops.flags.Flags.{Flags}
+use Rattle.aio_model.specs.declared.loops.kinds.Kind as asking
+use Rattle.aio_model.specs.declared.loops.kinds.Kind.TheVariants.{Sched, Idle, Del}
+use Rattle.aio_model.specs.Loop.FlagsWord.{flags_in}
+use Rattle.aio_model.specs.Loop.History.{EnqueueAsks}
+use Rattle.aio_model.specs.Loop.Flags.{is_once}
 use Rattle.aio_model.proofs.FlagsWords.{flags_in-word_of}
 use Rattle.aio_core.specs.Known.{Known}
 use Rattle.aio_core.specs.Standing.{asked_by, mask_of, Enqueues, Dequeues}

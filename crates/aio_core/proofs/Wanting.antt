@@ -1,11 +1,11 @@
 -- What an entry makes of what is wanted, announced and pushed.
 use Rattle.std.proofs.Common.{◌≡◌, ◌≢◌, ◌⊎◌, ℕ, Bool, true, false, not, cond, ◌&&◌, ◌||◌, eqb, ◌∷◌, inl, inr, refl, sym, ap, ◌∙◌, subst, ⊎_elim}
 use Rattle.std.proofs.lemmas.Bool.{cases_eq, cases_Bool, eq-eqb, ne_eqb}
-use Rattle.aio_model.specs.declared.flags.Flags.{Flags}
-use Rattle.aio_model.specs.LoopHistory.{EnqueueAsks, Enqueue, Put, Cancel, Dequeue, History}
-use Rattle.aio_model.specs.LoopFlags.{is_pending, flags_of, are_urgent, is_urgent}
-use Rattle.aio_model.specs.LoopLists.{was_put, is_announced, is_set}
-use Rattle.aio_model.specs.InFlight.{Reason, ForIndex, ForEvent, ForNothing, Announced, ToStore}
+use Rattle.aio_model.specs.declared.loops.flags.Flags.{Flags}
+use Rattle.aio_model.specs.Loop.History.{EnqueueAsks, Enqueue, Put, Cancel, Dequeue, History}
+use Rattle.aio_model.specs.Loop.Flags.{is_pending, flags_of, are_urgent, is_urgent}
+use Rattle.aio_model.specs.Loop.Lists.{was_put, is_announced, is_set}
+use Rattle.aio_model.specs.Loop.InFlight.{Reason, ForIndex, ForEvent, ForNothing, Announced, ToStore}
 use Rattle.aio_core.specs.Rule.{push_of, store_of, is_wanted}
 use Rattle.aio_core.proofs.Masks.{canceled_flags, dequeued_flags}
 use Rattle.aio_core.proofs.Flags.{flags_of-cancel, flags_of-cancel_other, flags_of-dequeue, flags_of-dequeue_other, flags_of-enqueue_other}

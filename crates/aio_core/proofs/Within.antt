@@ -1,7 +1,7 @@
 -- What home has taken stays among the indices of the table.
 use Rattle.std.proofs.Common.{◌≡◌, ℕ, ◌<◌, ◌≤◌, Bool, true, false, cond, ◌&&◌, eqb, ltb, leb, List, [], ◌∷◌, ◌++◌, length, length-append, refl, sym, ap, ◌∙◌, subst, arith}
 use Rattle.std.proofs.lemmas.Bool.{and_parts, and_from, lt-ltb, le-leb, eqb-false}
-use Rattle.aio_model.specs.LoopHistory.{Sizes}
+use Rattle.aio_model.specs.Loop.History.{Sizes}
 use Rattle.aio_core.specs.Words.{index_count}
 use Rattle.aio_core.specs.Known.{Known}
 use Rattle.aio_core.specs.Standing.{with_slice, Takes}

@@ -1,10 +1,10 @@
 -- What contracts see of a table and of a seat.
 use Rattle.std.specs.Prelude.{◌≡◌, ◌≢◌, ℕ, ◌+◌, ◌<◌, not, nat_lt, Option, None, Some, is_some, List, [], ◌∷◌}
 use Rattle.atomic_table.specs.Seated.{TableId}
-use Rattle.aio_model.specs.declared.flags.Flags.{Flags}
-use Rattle.aio_model.specs.LoopHistory.{Sizes}
-use Rattle.aio_model.specs.LoopLists.{job_of}
-use Rattle.aio_model.specs.InFlight.{AtRest}
+use Rattle.aio_model.specs.declared.loops.flags.Flags.{Flags}
+use Rattle.aio_model.specs.Loop.History.{Sizes}
+use Rattle.aio_model.specs.Loop.Lists.{job_of}
+use Rattle.aio_model.specs.Loop.InFlight.{AtRest}
 use Rattle.aio_core.specs.Words.{flags_at, index_count, free_word}
 use Rattle.aio_core.specs.Known.{LotClaimCompare, Known, Running, empty_stage}
 use Rattle.aio_core.specs.Standing.{Misses, Looks, Takes, Lifts, Dequeues}

@@ -1,6 +1,6 @@
 -- What the home knows of the indices that it has taken: they are the table's.
 use Rattle.std.specs.Prelude.{ℕ, Bool, true, ◌&&◌, nat_lt, nat_le, Option, None, Some, List, [], ◌∷◌}
-use Rattle.aio_model.specs.LoopHistory.{Sizes}
+use Rattle.aio_model.specs.Loop.History.{Sizes}
 use Rattle.aio_core.specs.Words.{index_count}
 
 -- each word leads to an index of the table

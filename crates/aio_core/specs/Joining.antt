@@ -3,10 +3,10 @@ use Rattle.std.specs.Prelude.{if◌then◌else◌, None, []}
 use Rattle.table_seats.specs.Seats.{Told, owns, home}
 use Rattle.table_seats.specs.Dividing.{told_of as told_of_parts, joined_part}
 use Rattle.table_seats.specs.Calls as calls
-use Rattle.aio_model.specs.LoopHistory.{Sizes, Entry, History}
-use Rattle.aio_model.specs.LoopLists.{seat_of}
-use Rattle.aio_model.specs.LoopLegal.{IsLegal}
-use Rattle.aio_model.specs.InFlight.{AtRest}
+use Rattle.aio_model.specs.Loop.History.{Sizes, Entry, History}
+use Rattle.aio_model.specs.Loop.Lists.{seat_of}
+use Rattle.aio_model.specs.Loop.Legal.{IsLegal}
+use Rattle.aio_model.specs.Loop.InFlight.{AtRest}
 use Rattle.aio_core.specs.Known.{empty_stage, calmed, Running, Known, part_of, numbers_of}
 
 abbrev pub told_of : Known → Known → Told Entry

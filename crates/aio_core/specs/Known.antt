@@ -1,8 +1,8 @@
 -- What a seat of a loop's table knows.
 use Rattle.std.specs.Prelude.{ℕ, Bool, true, false, Option, None, List, []}
 use Rattle.table_seats.specs.Seats.{Numbers, Told, Part, numbers_in}
-use Rattle.aio_model.specs.LoopHistory.{Sizes, Entry, History}
-use Rattle.aio_model.specs.InFlight.{Phase, AtRest}
+use Rattle.aio_model.specs.Loop.History.{Sizes, Entry, History}
+use Rattle.aio_model.specs.Loop.InFlight.{Phase, AtRest}
 
 -- the kinds of atomic step on a word
 pub data Kind : Type 0 where

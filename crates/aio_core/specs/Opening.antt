@@ -1,6 +1,6 @@
 -- What a new table is.
 use Rattle.std.specs.Prelude.{◌≡◌, ℕ, ◌<◌, List, [], length, slice_index}
-use Rattle.aio_model.specs.LoopHistory.{Sizes}
+use Rattle.aio_model.specs.Loop.History.{Sizes}
 use Rattle.aio_core.specs.Calls.{TableState, SeatState, first_seat, first_home}
 use Rattle.aio_core.specs.Words.{head_at, notified_at, notify_me_at, notifier_at, event_at, flags_at, index_count, word_count, flags_word}
 

@@ -4,15 +4,15 @@ use Rattle.std.specs.Prelude.{◌≡◌, ℕ, ◌+◌, ◌<◌, ◌≤◌, ◌==
 use mathlib.Core.Option.{some}
 use Rattle.atomic_table.specs.Table.{Me, Step, rest}
 use Rattle.table_seats.specs.Seats.{Told, longer_of}
-use Rattle.aio_model.specs.declared.flags.Flags.{Flags}
-use Rattle.aio_model.specs.FlagsWord.{word_of, flags_in}
-use Rattle.aio_model.specs.InFlight.{Reason, AtRest, Announced, HeadLoaded, Linked, ToLoad, flight_of}
+use Rattle.aio_model.specs.declared.loops.flags.Flags.{Flags}
+use Rattle.aio_model.specs.Loop.FlagsWord.{word_of, flags_in}
+use Rattle.aio_model.specs.Loop.InFlight.{Reason, AtRest, Announced, HeadLoaded, Linked, ToLoad, flight_of}
 use Rattle.aio_core.specs.Words.{head_at, notifier_at, event_at, flags_at, next_at, index_count, free_word}
 use Rattle.aio_core.specs.Known.{LotClaimCompare, HeadLoad, NextStore, ScanFlagsLoad, EventLoad, NotifierLoad, Scan, Scanning, Committed, Armed, Known}
-use Rattle.aio_model.specs.LoopHistory.{Entry}
-use Rattle.aio_model.specs.LoopFlags.{is_pending}
-use Rattle.aio_model.specs.LoopLists.{job_of, is_set}
-use Rattle.aio_model.specs.LoopLegal.{IsLegal}
+use Rattle.aio_model.specs.Loop.History.{Entry}
+use Rattle.aio_model.specs.Loop.Flags.{is_pending}
+use Rattle.aio_model.specs.Loop.Lists.{job_of, is_set}
+use Rattle.aio_model.specs.Loop.Legal.{IsLegal}
 use Rattle.aio_core.specs.Rule.{is_wanted, is_open}
 use Rattle.aio_core.specs.Joining.{IsJoined}
 use Rattle.aio_core.specs.Standing.{may_notify, StoresNotified, LoadsNotifyMe, SetsNotifier, Claims, Frees, Looks, done, asked_with, Enqueues, Pushes, Misses, Cancels, Takes, Lifts, Dequeues}

@@ -1,6 +1,6 @@
 -- When a table is refused.
 use Rattle.std.specs.Prelude.{◌≡◌, ℕ, ◌+◌, nat_lt, if◌then◌else◌, Option, Some, None}
-use Rattle.aio_model.specs.LoopHistory.{Sizes}
+use Rattle.aio_model.specs.Loop.History.{Sizes}
 use Rattle.aio_core.specs.declared.refusal.BuildRefusal.{BuildRefusal}
 use Rattle.aio_core.specs.declared.refusal.BuildRefusal.TheVariants.{TooMany, NoMemory}
 

@@ -5,12 +5,12 @@ use mathlib.Core.Option.{some}
 use lib.ListN.{get_elem?}
 use Rattle.atomic_table.specs.Table.{State}
 use Rattle.table_seats.specs.Seats.{owns, home, EachView, SeatsStand as parts_stand}
-use Rattle.aio_model.specs.FlagsWord.{bit}
-use Rattle.aio_model.specs.LoopHistory.{Sizes, History}
-use Rattle.aio_model.specs.LoopFlags.{is_lot, lives, was_dequeued, is_urgent}
-use Rattle.aio_model.specs.LoopLists.{seat_of, was_put, is_announced, announcer_of, claimer_of, job_of, stack_of, out_of, is_set}
-use Rattle.aio_model.specs.LoopLegal.{IsLegal}
-use Rattle.aio_model.specs.InFlight.{Reason, ForIndex, ForEvent, ForNothing, Phase, AtRest, LotClaimed, Announced, HeadLoaded, Linked, ToStore, ToLoad, ToSet, is_at_rest, flight_of}
+use Rattle.aio_model.specs.Loop.FlagsWord.{bit}
+use Rattle.aio_model.specs.Loop.History.{Sizes, History}
+use Rattle.aio_model.specs.Loop.Flags.{is_lot, lives, was_dequeued, is_urgent}
+use Rattle.aio_model.specs.Loop.Lists.{seat_of, was_put, is_announced, announcer_of, claimer_of, job_of, stack_of, out_of, is_set}
+use Rattle.aio_model.specs.Loop.Legal.{IsLegal}
+use Rattle.aio_model.specs.Loop.InFlight.{Reason, ForIndex, ForEvent, ForNothing, Phase, AtRest, LotClaimed, Announced, HeadLoaded, Linked, ToStore, ToLoad, ToSet, is_at_rest, flight_of}
 use Rattle.aio_chain.specs.Chains.{IsChain, AreChains}
 use Rattle.aio_core.specs.Words.{head_at, notified_at, notify_me_at, notifier_at, event_at, flags_at, index_count, word_count, flags_word, next_in}
 use Rattle.aio_core.specs.Known.{Done, Stage, Scan, Sleep, Running, Scanning, Armed, ToDisarm, Committed, Known, part_of, numbers_of}

@@ -1,8 +1,8 @@
 -- What a scan does: the home loads all that was pushed and not dequeued, up to the first that is urgent.
 use Rattle.std.specs.Prelude.{◌≡◌, ℕ, Bool, true, false, not, ◌&&◌, ◌||◌, Option, None, Some, MatchOption, List, [], ◌∷◌, ◌++◌, length, drop}
-use Rattle.aio_model.specs.declared.flags.Flags.{Flags}
-use Rattle.aio_model.specs.LoopFlags.{are_due, are_urgent, is_urgent}
-use Rattle.aio_model.specs.LoopLists.{stack_of, out_of}
+use Rattle.aio_model.specs.declared.loops.flags.Flags.{Flags}
+use Rattle.aio_model.specs.Loop.Flags.{are_due, are_urgent, is_urgent}
+use Rattle.aio_model.specs.Loop.Lists.{stack_of, out_of}
 use Rattle.aio_core.specs.HomeState.{are_within}
 use Rattle.aio_core.specs.Known.{Running, Scanning, Known}
 use Rattle.aio_core.specs.Standing.{is_empty}

@@ -1,13 +1,13 @@
 -- What the steps of a home on its way to sleep, and those on events, make of what a seat knows.
 use Rattle.std.specs.Prelude.{◌≡◌, ℕ, suc, ◌≤◌, Bool, true, false, ◌==◌, if◌then◌else◌, None, Some, List, [], ◌∷◌, ◌++◌, length, drop}
-use Rattle.aio_model.specs.declared.flags.Flags.{Flags}
-use Rattle.aio_model.specs.FlagsWord.{word_of}
-use Rattle.aio_model.specs.LoopHistory.{SetEvent, ClearEvent, History}
-use Rattle.aio_model.specs.LoopFlags.{flags_of, are_urgent}
-use Rattle.aio_model.specs.LoopLists.{stack_of, out_of}
-use Rattle.aio_model.specs.LoopLegal.{IsLegal}
-use Rattle.aio_model.specs.LoopSeats.{own_entries}
-use Rattle.aio_model.specs.InFlight.{ForEvent, ToStore}
+use Rattle.aio_model.specs.declared.loops.flags.Flags.{Flags}
+use Rattle.aio_model.specs.Loop.FlagsWord.{word_of}
+use Rattle.aio_model.specs.Loop.History.{SetEvent, ClearEvent, History}
+use Rattle.aio_model.specs.Loop.Flags.{flags_of, are_urgent}
+use Rattle.aio_model.specs.Loop.Lists.{stack_of, out_of}
+use Rattle.aio_model.specs.Loop.Legal.{IsLegal}
+use Rattle.aio_model.specs.Loop.Seats.{own_entries}
+use Rattle.aio_model.specs.Loop.InFlight.{ForEvent, ToStore}
 use Rattle.aio_core.specs.Words.{head_at, notified_at, notify_me_at, notifier_at, event_at, flags_at, next_at, index_count}
 use Rattle.aio_core.specs.Known.{ScanHeadLoad, ScanNextLoad, ScanFlagsLoad, ArmFetchAdd, TestLoad, DisarmFetchSub, AcceptStore, NotifierClearSwap, EventSetSwap, EventClearSwap, EventLoad, Stage, empty_stage, Scan, Sleep, Running, Scanning, Armed, ToDisarm, Committed, Known, numbers_of}
 use Rattle.aio_core.specs.Standing.{is_empty, done, Makes, without_first}

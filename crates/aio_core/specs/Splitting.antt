@@ -1,8 +1,8 @@
 -- How what a seat knows is cut in two.
 use Rattle.std.specs.Prelude.{ℕ, ◌+◌, ◌-◌, [], None}
 use Rattle.table_seats.specs.Dividing.{front_part, back_part, half_of}
-use Rattle.aio_model.specs.LoopLists.{seat_of}
-use Rattle.aio_model.specs.InFlight.{AtRest}
+use Rattle.aio_model.specs.Loop.Lists.{seat_of}
+use Rattle.aio_model.specs.Loop.InFlight.{AtRest}
 use Rattle.aio_core.specs.Known.{Known, calmed, part_of}
 
 -- the seat that stays has the first numbers

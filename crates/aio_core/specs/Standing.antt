@@ -1,15 +1,15 @@
 -- What one step, or one call, makes of what a seat knows.
 use Rattle.std.specs.Prelude.{◌≡◌, ℕ, ◌≤◌, ◌<◌, Bool, true, false, ◌==◌, if◌then◌else◌, Option, None, Some, List, [], ◌∷◌, ◌++◌}
 use Rattle.table_seats.specs.Seats.{Makes as makes_part}
-use Rattle.aio_model.specs.declared.flags.Flags.{Flags}
-use Rattle.aio_model.specs.declared.kinds.Kind as asking
-use Rattle.aio_model.specs.declared.kinds.Kind.TheVariants.{Sched, Idle, Del}
-use Rattle.aio_model.specs.FlagsWord.{word_of}
-use Rattle.aio_model.specs.LoopHistory.{EnqueueAsks, ToCall, ToCallIdle, ToDelete, ToCallOnce, Entry, New, Free, Enqueue, Put, Cancel, Take, Dequeue}
-use Rattle.aio_model.specs.LoopFlags.{flags_of, are_due}
-use Rattle.aio_model.specs.LoopLists.{seat_of, out_of}
-use Rattle.aio_model.specs.LoopLegal.{IsLegal}
-use Rattle.aio_model.specs.InFlight.{Reason, ForIndex, Phase, AtRest, LotClaimed, Announced, HeadLoaded, Linked, ToStore, ToLoad, ToSet}
+use Rattle.aio_model.specs.declared.loops.flags.Flags.{Flags}
+use Rattle.aio_model.specs.declared.loops.kinds.Kind as asking
+use Rattle.aio_model.specs.declared.loops.kinds.Kind.TheVariants.{Sched, Idle, Del}
+use Rattle.aio_model.specs.Loop.FlagsWord.{word_of}
+use Rattle.aio_model.specs.Loop.History.{EnqueueAsks, ToCall, ToCallIdle, ToDelete, ToCallOnce, Entry, New, Free, Enqueue, Put, Cancel, Take, Dequeue}
+use Rattle.aio_model.specs.Loop.Flags.{flags_of, are_due}
+use Rattle.aio_model.specs.Loop.Lists.{seat_of, out_of}
+use Rattle.aio_model.specs.Loop.Legal.{IsLegal}
+use Rattle.aio_model.specs.Loop.InFlight.{Reason, ForIndex, Phase, AtRest, LotClaimed, Announced, HeadLoaded, Linked, ToStore, ToLoad, ToSet}
 use Rattle.aio_core.specs.Words.{head_at, notified_at, notify_me_at, notifier_at, flags_at, next_at, index_count, free_word}
 use Rattle.aio_core.specs.Known.{Kind, EnqueueFetchOr, HeadLoad, NextStore, HeadCompare, TakeSwap, NextLoad, DequeueFetchAnd, CancelFetchAnd, NotifiedStore, NotifyMeLoad, NotifierSwap, LotClaimCompare, LotFreeStore, Done, Known, part_of}
 

@@ -1,8 +1,8 @@
 -- Where the words of a loop's table stand: at places that no size moves.
 use Rattle.std.specs.Prelude.{ℕ, ◌+◌, ◌*◌, List, if◌then◌else◌, slice_index}
-use Rattle.aio_model.specs.LoopHistory.{Sizes, History}
-use Rattle.aio_model.specs.LoopFlags.{has_life, flags_of}
-use Rattle.aio_model.specs.FlagsWord.{word_of}
+use Rattle.aio_model.specs.Loop.History.{Sizes, History}
+use Rattle.aio_model.specs.Loop.Flags.{has_life, flags_of}
+use Rattle.aio_model.specs.Loop.FlagsWord.{word_of}
 
 -- the first of the list of what was pushed: 0 where there is none, else one more than its index
 abbrev pub head_at : ℕ

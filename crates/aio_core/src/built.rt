@@ -1,6 +1,6 @@
 //! A new table, with the home's seat and one that has all other numbers.
 ghost use Rattle.std.specs.Prelude.{◌≡◌, ◌≤◌, ◌+◌, Some, None, [], IfOk, MatchResult, MatchOption};
-ghost use Rattle.aio_model.specs.LoopHistory.{Sizes};
+ghost use Rattle.aio_model.specs.Loop.History.{Sizes};
 ghost use Rattle.aio_core.specs.Words.{word_count};
 ghost use Rattle.aio_core.specs.Known.{first_known};
 ghost use Rattle.aio_core.specs.Calls.{IsSeatOf, first_seat, first_home};

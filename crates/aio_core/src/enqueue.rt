@@ -1,9 +1,9 @@
 //! An enqueue from any thread, step by step, after aio_bh_enqueue of QEMU's util/async.c: set the flags, and where the index
 //! was not pending, push it in front of the list.
 ghost use Rattle.std.specs.Prelude.{◌≡◌, ◌<◌, ◌==◌, ℕ, [], ◌∷◌, MatchOption, MatchResult, MatchBool, true, false};
-ghost use Rattle.aio_model.specs.FlagsWord.{word_of};
-ghost use Rattle.aio_model.specs.InFlight.{AtRest, Announced as announced, HeadLoaded, Linked};
-ghost use Rattle.aio_model.specs.LoopFlags.{is_once};
+ghost use Rattle.aio_model.specs.Loop.FlagsWord.{word_of};
+ghost use Rattle.aio_model.specs.Loop.InFlight.{AtRest, Announced as announced, HeadLoaded, Linked};
+ghost use Rattle.aio_model.specs.Loop.Flags.{is_once};
 ghost use Rattle.aio_core.specs.Words.{index_count};
 ghost use Rattle.aio_core.specs.Standing.{asked_by, mask_of, Enqueues, Aims, Pushes, Misses};
 ghost use Rattle.aio_core.specs.Plays.{Enqueued, HeadIsLoaded, NextIsStored};

@@ -1,7 +1,7 @@
 //! The steps on events, after event_notifier_set and event_notifier_test_and_clear of QEMU. An event is set by any thread, with a
 //! notify behind it, and looked at and cleared by home.
 ghost use Rattle.std.specs.Prelude.{◌≡◌, ◌<◌, ◌==◌, ℕ};
-ghost use Rattle.aio_model.specs.InFlight.{AtRest};
+ghost use Rattle.aio_model.specs.Loop.InFlight.{AtRest};
 ghost use Rattle.aio_core.specs.SleepSteps.{SetsEvent, ClearsEvent, LoadsEvent};
 ghost use Rattle.aio_core.specs.Calls.{IsSeatOf};
 

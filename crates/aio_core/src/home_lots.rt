@@ -1,9 +1,9 @@
 //! What home does with lots: it lifts one, moves its job out, dequeues it, and in the end sets it free. The place of the job is
 //! home's from the lift to the dequeue.
 ghost use Rattle.std.specs.Prelude.{◌≡◌, ◌≤◌, ◌<◌, ◌+◌, [], ◌∷◌, drop, None, Some, MatchOption};
-ghost use Rattle.aio_model.specs.LoopHistory.{Free};
-ghost use Rattle.aio_model.specs.LoopLists.{job_of};
-ghost use Rattle.aio_model.specs.LoopLegal.{MayFollow};
+ghost use Rattle.aio_model.specs.Loop.History.{Free};
+ghost use Rattle.aio_model.specs.Loop.Lists.{job_of};
+ghost use Rattle.aio_model.specs.Loop.Legal.{MayFollow};
 ghost use Rattle.aio_core.specs.Known.{Known};
 ghost use Rattle.aio_core.specs.Words.{index_count};
 ghost use Rattle.aio_core.specs.Standing.{Lifts, Dequeues, Frees};

@@ -1,7 +1,7 @@
 //! The steps of a notify from any thread, after aio_notify of QEMU's util/async.c: mark that there is work, look whether home is
 //! about to sleep, and wake it where it is.
 ghost use Rattle.std.specs.Prelude.{◌≡◌, ◌==◌, ℕ, not, true};
-ghost use Rattle.aio_model.specs.InFlight.{ToLoad, ToSet, flight_of};
+ghost use Rattle.aio_model.specs.Loop.InFlight.{ToLoad, ToSet, flight_of};
 ghost use Rattle.aio_core.specs.Standing.{may_notify, StoresNotified, LoadsNotifyMe, SetsNotifier};
 ghost use Rattle.aio_core.specs.Calls.{IsSeatOf};
 

@@ -1,7 +1,7 @@
 //! A one-shot from any thread, after aio_bh_schedule_oneshot of QEMU's util/async.c, but with a place for its job in the table in
 //! place of memory: a life of a free lot is begun for the job, the job is moved in, and the lot is enqueued.
 ghost use Rattle.std.specs.Prelude.{◌≡◌, ◌≤◌, ◌<◌, ◌+◌, ◌==◌, ℕ, [], ◌∷◌, None, Some, MatchBool, MatchOption, MatchResult};
-ghost use Rattle.aio_model.specs.InFlight.{AtRest, LotClaimed};
+ghost use Rattle.aio_model.specs.Loop.InFlight.{AtRest, LotClaimed};
 ghost use Rattle.aio_core.specs.Known.{LotClaimCompare};
 ghost use Rattle.aio_core.specs.Words.{free_word, flags_at, index_count};
 ghost use Rattle.aio_core.specs.Standing.{Claims, Looks, PlacesJob};

@@ -1,6 +1,6 @@
 //! A home on its way to sleep looks at all that was pushed and not dequeued, after aio_compute_bh_timeout of QEMU's util/async.c.
 ghost use Rattle.std.specs.Prelude.{◌≡◌, ◌<◌, ◌+◌, ◌∷◌, drop, length, Some, None, true, false, not, ◌&&◌, ◌||◌, if◌then◌else◌, MatchOption, MatchBool, [], ◌⊎◌};
-ghost use Rattle.aio_model.specs.LoopFlags.{are_due, are_urgent};
+ghost use Rattle.aio_model.specs.Loop.Flags.{are_due, are_urgent};
 ghost use Rattle.aio_core.specs.Known.{Scanning, is_running};
 ghost use Rattle.aio_core.specs.Words.{index_count};
 ghost use Rattle.aio_core.specs.HomeState.{are_within};

@@ -10,7 +10,7 @@ pub struct Counts {
 }
 
 impl Model for Counts {
-    ghost use Rattle.aio_model.specs.LoopHistory.{Sizes};
+    ghost use Rattle.aio_model.specs.Loop.History.{Sizes};
 
     ghost Value = { Sizes };
 

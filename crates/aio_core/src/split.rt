@@ -1,6 +1,6 @@
 //! Seats for more threads: the numbers of one are divided, and united again.
 ghost use Rattle.std.specs.Prelude.{◌≡◌, ◌<◌, ◌+◌, ◌-◌, ◌/◌, MatchOption};
-ghost use Rattle.aio_model.specs.InFlight.{AtRest};
+ghost use Rattle.aio_model.specs.Loop.InFlight.{AtRest};
 ghost use Rattle.table_seats.specs.Seats.{longer_of};
 ghost use Rattle.table_seats.specs.Dividing.{half_of};
 ghost use Rattle.aio_core.specs.Splitting.{front_known, back_known};

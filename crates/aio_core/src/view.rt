@@ -7,7 +7,7 @@ pub struct View {
 }
 
 impl Model for View {
-    ghost use Rattle.aio_model.specs.LoopHistory.{Sizes};
+    ghost use Rattle.aio_model.specs.Loop.History.{Sizes};
     ghost use Rattle.aio_core.specs.Known.{Known, first_known};
 
     ghost Value = { Known };

@@ -1,11 +1,11 @@
 //! All numbers of a loop in one seat, the home's among them. Who has it has seen the loop's whole history, and nobody else can be
 //! under way: so what it finds in a word is what the history says.
 ghost use Rattle.std.specs.Prelude.{◌≡◌, ◌<◌, ◌≤◌, ◌==◌, ℕ, List, [], length, true, false};
-ghost use Rattle.aio_model.specs.InFlight.{AtRest, Reason};
-ghost use Rattle.aio_model.specs.FlagsWord.{flags_in};
-ghost use Rattle.aio_model.specs.LoopFlags.{is_pending};
-ghost use Rattle.aio_model.specs.LoopLists.{is_set};
-ghost use Rattle.aio_model.specs.LoopLegal.{IsLegal};
+ghost use Rattle.aio_model.specs.Loop.InFlight.{AtRest, Reason};
+ghost use Rattle.aio_model.specs.Loop.FlagsWord.{flags_in};
+ghost use Rattle.aio_model.specs.Loop.Flags.{is_pending};
+ghost use Rattle.aio_model.specs.Loop.Lists.{is_set};
+ghost use Rattle.aio_model.specs.Loop.Legal.{IsLegal};
 ghost use Rattle.aio_core.specs.Known.{calmed, Committed, NotifierLoad, ScanFlagsLoad, EventLoad};
 ghost use Rattle.aio_core.specs.Words.{notifier_at, flags_at, event_at, index_count};
 ghost use Rattle.aio_core.specs.Rule.{is_wanted, is_open};

@@ -2,7 +2,7 @@
 use Rattle.std.proofs.Common.{◌≡◌, ℕ, ◌+◌, ◌<◌, ◌≤◌, true, false, cond, eqb, List, length, Some, None, Ok, Err, refl, sym, ◌∙◌, ap, inl, inr}
 use Rattle.std.proofs.lemmas.Bool.{cases_Bool, eq-eqb, ne_eqb, eqb-true, eqb-false, le-leb, lt-leb}
 use Rattle.aio_chain.specs.LinkList.{contains}
-use Rattle.aio_model.specs.HandlerCalls.{on_event}
+use Rattle.aio_model.specs.Handlers.Calls.{on_event}
 use Rattle.aio_handlers.specs.declared.places.Slot.{Slot}
 use Rattle.aio_handlers.specs.declared.answers.AddRefusal.TheVariants.{Taken, Full, Worn}
 use Rattle.aio_handlers.specs.Slots.{id_at, handler_at, handlers_at}

@@ -3,7 +3,7 @@ use Rattle.std.proofs.Common.{◌≡◌, ℕ, true, false, eqb, List, Some, None
 use Rattle.std.proofs.lemmas.Bool.{cases_Bool, both_ways, eqb-true}
 use Rattle.aio_chain.specs.LinkList.{contains, without}
 use Rattle.aio_chain.proofs.Steps.{contains-without_same, contains-without_other, contains-from_without}
-use Rattle.aio_model.specs.HandlerCalls.{named, others}
+use Rattle.aio_model.specs.Handlers.Calls.{named, others}
 use Rattle.aio_handlers.specs.declared.places.Slot.{Slot}
 use Rattle.aio_handlers.specs.Slots.{id_at, handler_at, handlers_at, event_named}
 use Rattle.aio_handlers.proofs.Told.{handlers_at-without, named-handlers_at, IsNamed, is_named, none_named, others-absent}

@@ -6,7 +6,7 @@ use Rattle.std.proofs.lemmas.List.Elements.{filter-append}
 use Rattle.aio_chain.specs.LinkList.{contains, first_of, next_after, IsEachOnce, rest_at, rest_from}
 use Rattle.aio_chain.proofs.Contained.{once_middle}
 use Rattle.aio_chain.proofs.Walks.{rest_from-first, first_in, Stepped, stepped}
-use Rattle.aio_model.specs.HandlerCalls.{has_event}
+use Rattle.aio_model.specs.Handlers.Calls.{has_event}
 use Rattle.aio_handlers.specs.declared.places.Slot.{Slot}
 use Rattle.aio_handlers.specs.Slots.{id_at, event_named}
 

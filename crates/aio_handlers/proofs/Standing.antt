@@ -1,9 +1,9 @@
 -- What each call of a set of handlers leaves stands for the list of calls with that call more.
 use Rattle.std.proofs.Common.{◌≡◌, ℕ, ◌+◌, Bool, true, false, ◌&&◌, cond, List, [], ◌∷◌, ◌++◌, filter, Option, None, is_some, refl, ◌∙◌, ap}
-use Rattle.aio_model.specs.declared.handler_calls.HandlerCall.{HandlerCall}
-use Rattle.aio_model.specs.declared.handler_calls.HandlerCall.TheVariants.{Add, Remove, WalkBegin, Give}
-use Rattle.aio_model.specs.declared.handler_calls.Handler.{Handler}
-use Rattle.aio_model.specs.HandlerCalls.{named, others, has_event, live, marked, is_walking}
+use Rattle.aio_model.specs.declared.handlers.calls.HandlerCall.{HandlerCall}
+use Rattle.aio_model.specs.declared.handlers.calls.HandlerCall.TheVariants.{Add, Remove, WalkBegin, Give}
+use Rattle.aio_model.specs.declared.handlers.calls.Handler.{Handler}
+use Rattle.aio_model.specs.Handlers.Calls.{named, others, has_event, live, marked, is_walking}
 use Rattle.aio_handlers.specs.StandsFor.{HandlerList, StandsFor}
 
 -- how many are marked after a removal

@@ -4,8 +4,8 @@ use Rattle.std.proofs.lemmas.Bool.{false≢true, cases_Bool, eq-eqb, ne_eqb, eqb
 use Rattle.aio_chain.specs.LinkList.{contains, without, IsEachOnce}
 use Rattle.aio_chain.proofs.Contained.{split_at, once_middle}
 use Rattle.aio_chain.proofs.Steps.{without-split}
-use Rattle.aio_model.specs.declared.handler_calls.Handler.{Handler}
-use Rattle.aio_model.specs.HandlerCalls.{named, others, on_event, has_event}
+use Rattle.aio_model.specs.declared.handlers.calls.Handler.{Handler}
+use Rattle.aio_model.specs.Handlers.Calls.{named, others, on_event, has_event}
 use Rattle.aio_handlers.specs.declared.places.Slot.{Slot}
 use Rattle.aio_handlers.specs.Slots.{id_at, handler_at, handlers_at, event_named}
 

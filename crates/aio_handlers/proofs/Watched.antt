@@ -4,7 +4,7 @@ use Rattle.std.proofs.lemmas.Bool.{cases_eq, ne_eqb}
 use Rattle.aio_chain.specs.LinkList.{contains, without}
 use Rattle.aio_chain.proofs.Contained.{contains-append, contains-middle}
 use Rattle.aio_chain.proofs.Steps.{contains-without_same, contains-without_other}
-use Rattle.aio_model.specs.HandlerCalls.{has_event}
+use Rattle.aio_model.specs.Handlers.Calls.{has_event}
 use Rattle.aio_handlers.specs.Kept.{AreWatched}
 
 or_none : (b : Bool) → (b || (false || false)) ≡ b

@@ -1,7 +1,7 @@
 -- What the calls of a set of handlers answer.
 use Rattle.std.specs.Prelude.{ℕ, ◌+◌, ◌==◌, nat_le, Bool, if◌then◌else◌, List, [], ◌∷◌, length, Option, Some, None, Result, Ok, Err}
-use Rattle.aio_model.specs.declared.handler_calls.Handler.{Handler}
-use Rattle.aio_model.specs.HandlerCalls.{named, on_event}
+use Rattle.aio_model.specs.declared.handlers.calls.Handler.{Handler}
+use Rattle.aio_model.specs.Handlers.Calls.{named, on_event}
 use Rattle.aio_handlers.specs.declared.answers.HandlerId.{HandlerId}
 use Rattle.aio_handlers.specs.declared.answers.AddRefusal.{AddRefusal}
 use Rattle.aio_handlers.specs.declared.answers.AddRefusal.TheVariants.{Taken, Full, Worn}

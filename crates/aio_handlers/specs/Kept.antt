@@ -2,7 +2,7 @@
 use Rattle.std.specs.Prelude.{◌≡◌, ℕ, ◌+◌, ◌<◌, ◌≤◌, IsTrue, IsFalse, List, [], length}
 use Rattle.slab.specs.Slab.{slab_len}
 use Rattle.aio_chain.specs.LinkList.{contains}
-use Rattle.aio_model.specs.HandlerCalls.{has_event}
+use Rattle.aio_model.specs.Handlers.Calls.{has_event}
 use Rattle.aio_handlers.specs.declared.handlers.Handlers.TheInside.{Inside}
 use Rattle.aio_handlers.specs.Slots.{slot_of, id_at, handlers_at}
 use Rattle.aio_handlers.specs.Placing.{AllHaveSlots}

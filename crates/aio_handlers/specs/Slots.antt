@@ -1,7 +1,7 @@
 -- The handlers of the events that a list names.
 use Rattle.std.specs.Prelude.{ℕ, ◌==◌, if◌then◌else◌, List, [], ◌∷◌, map, Option, Some, None, slice_index}
 use Rattle.slab.specs.Slab.{get}
-use Rattle.aio_model.specs.declared.handler_calls.Handler.{Handler}
+use Rattle.aio_model.specs.declared.handlers.calls.Handler.{Handler}
 use Rattle.aio_handlers.specs.declared.places.Slot.{Slot}
 use Rattle.aio_handlers.specs.declared.places.Places.{Places}
 

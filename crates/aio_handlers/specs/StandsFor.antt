@@ -1,8 +1,8 @@
 -- What a contract sees of a set of handlers, and the lists of calls for which it stands.
 use Rattle.std.specs.Prelude.{◌≡◌, ℕ, Bool, List}
-use Rattle.aio_model.specs.declared.handler_calls.HandlerCall.{HandlerCall}
-use Rattle.aio_model.specs.declared.handler_calls.Handler.{Handler}
-use Rattle.aio_model.specs.HandlerCalls.{added, live, waiting, marked, is_walking}
+use Rattle.aio_model.specs.declared.handlers.calls.HandlerCall.{HandlerCall}
+use Rattle.aio_model.specs.declared.handlers.calls.Handler.{Handler}
+use Rattle.aio_model.specs.Handlers.Calls.{added, live, waiting, marked, is_walking}
 
 -- how many handlers there may be and how many were added, those that are live, in order of adding, and of the walk
 -- those that it has yet to give, and how many were removed in it

@@ -1,7 +1,7 @@
 ghost use Rattle.std.specs.Prelude.{◌≡◌, ◌<◌, ℕ, ◌∷◌, [], List, IfOk, OnErr, IfSome, IfNone, IsTrue, IsFalse, is_some};
-ghost use Rattle.aio_model.specs.declared.handler_calls.HandlerCall.{HandlerCall};
-ghost use Rattle.aio_model.specs.declared.handler_calls.HandlerCall.TheVariants.{Add, Remove, WalkBegin, Give, WalkEnd};
-ghost use Rattle.aio_model.specs.HandlerCalls.{has_event, on_event};
+ghost use Rattle.aio_model.specs.declared.handlers.calls.HandlerCall.{HandlerCall};
+ghost use Rattle.aio_model.specs.declared.handlers.calls.HandlerCall.TheVariants.{Add, Remove, WalkBegin, Give, WalkEnd};
+ghost use Rattle.aio_model.specs.Handlers.Calls.{has_event, on_event};
 ghost use Rattle.aio_handlers.specs.Answers.{add_answer, remove_answer, first_ready};
 ghost use Rattle.aio_handlers.specs.StandsFor.{StandsFor};
 

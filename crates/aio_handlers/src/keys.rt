@@ -1,7 +1,7 @@
 //! Handlers by their events: an event has one live handler at most.
 ghost use Rattle.std.specs.Prelude.{◌≡◌, ◌<◌, [], filter, IfSome};
 ghost use Rattle.aio_chain.specs.LinkList.{without, IsLinked};
-ghost use Rattle.aio_model.specs.HandlerCalls.{has_event};
+ghost use Rattle.aio_model.specs.Handlers.Calls.{has_event};
 ghost use Rattle.aio_handlers.specs.Slots.{slot_of, event_named};
 ghost use Rattle.aio_handlers.specs.Placing.{AllHaveSlots};
 

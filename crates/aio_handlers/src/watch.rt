@@ -1,6 +1,6 @@
 //! Events as bits of a word.
 ghost use Rattle.std.specs.Prelude.{◌≡◌, ◌≢◌, ◌<◌, ℕ, IsTrue, IsFalse};
-ghost use Rattle.aio_model.specs.HandlerCalls.{has_event};
+ghost use Rattle.aio_model.specs.Handlers.Calls.{has_event};
 
 /// Whether the bit of an event is set.
 pub(crate) fn has_event(events: u64, event: u32) -> bool

@@ -1,8 +1,8 @@
 -- What the parts of a turn leave of home.
 use Rattle.std.proofs.Common.{◌≡◌, ℕ, zero, suc, Bool, true, false, cond, eqb, MatchBool, ◌∷◌, length, refl, sym, ap, ◌∙◌, subst}
 use Rattle.std.proofs.lemmas.Bool.{false≢true}
-use Rattle.aio_model.specs.LoopHistory.{History}
-use Rattle.aio_model.specs.LoopLegal.{IsLegal}
+use Rattle.aio_model.specs.Loop.History.{History}
+use Rattle.aio_model.specs.Loop.Legal.{IsLegal}
 use Rattle.aio_core.specs.Known.{Known, Sleep, Running, Scanning, Armed, ToDisarm, Committed, is_running}
 use Rattle.aio_core.specs.SleepSteps.{LoadsEvent, after_any_load}
 use Rattle.aio_core.specs.Calls.{TableState, SeatState, IsSeatOf}

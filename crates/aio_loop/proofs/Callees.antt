@@ -1,9 +1,9 @@
 -- For those who write a runner: from what a callee did to what it owes.
 use Rattle.std.proofs.Common.{◌≡◌, List, [], ◌++◌, refl, sym, ap, subst}
-use Rattle.aio_model.specs.LoopHistory.{Sizes, History}
-use Rattle.aio_model.specs.LoopLegal.{IsLegal}
-use Rattle.aio_model.specs.declared.handler_calls.HandlerCall.{HandlerCall}
-use Rattle.aio_model.specs.declared.timer_calls.TimerCall.{TimerCall}
+use Rattle.aio_model.specs.Loop.History.{Sizes, History}
+use Rattle.aio_model.specs.Loop.Legal.{IsLegal}
+use Rattle.aio_model.specs.declared.handlers.calls.HandlerCall.{HandlerCall}
+use Rattle.aio_model.specs.declared.timers.calls.TimerCall.{TimerCall}
 use Rattle.aio_handlers.specs.StandsFor as handlers_as
 use Rattle.aio_timers.specs.StandsFor as timers_as
 use Rattle.aio_core.specs.Known.{Known}

@@ -1,6 +1,6 @@
 -- What a turn does to its runner, as one list of entries.
 use Rattle.std.proofs.Common.{ℕ, zero, suc, Bool, List, [], ◌∷◌, ◌++◌, refl, sym, ap, subst}
-use Rattle.aio_model.specs.LoopFrame.{Entered, DoesEntries}
+use Rattle.aio_model.specs.Loop.Frame.{Entered, DoesEntries}
 use Rattle.lot_pool.specs.Pools.{PoolState, PassState}
 use Rattle.aio_loop.specs.declared.turned.Turned.{Turned}
 use Rattle.aio_loop.specs.Entering.{LoopEntered, ForBottom, ForReady, ForExpired, WithSide, does_bottom, EachPasses}

@@ -1,6 +1,6 @@
 -- A poll with a runner and a side in one.
 use Rattle.std.proofs.Common.{◌≡◌, List, [], ◌∷◌, ap, ◌∙◌}
-use Rattle.aio_model.specs.LoopFrame.{Entered, DoesEntries}
+use Rattle.aio_model.specs.Loop.Frame.{Entered, DoesEntries}
 use Rattle.aio_core.specs.Known.{Known}
 use Rattle.aio_bh.specs.declared.polled.Polled.{Polled}
 use Rattle.aio_bh.specs.Polling.{Polls}

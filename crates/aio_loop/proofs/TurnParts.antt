@@ -1,8 +1,8 @@
 -- How far the calls of handlers, and of timers, have come.
 use Rattle.std.proofs.Common.{◌≡◌, ℕ, suc, Bool, true, false, ltb, None, List, refl, sym, subst, arith}
 use Rattle.std.proofs.lemmas.Bool.{lt-ltb}
-use Rattle.aio_model.specs.declared.timer_calls.TimerCall.{TimerCall}
-use Rattle.aio_model.specs.TimerCalls.{is_marked, IsNone}
+use Rattle.aio_model.specs.declared.timers.calls.TimerCall.{TimerCall}
+use Rattle.aio_model.specs.Timers.Calls.{is_marked, IsNone}
 use Rattle.aio_handlers.specs.declared.answers.Ready.{Ready}
 use Rattle.aio_handlers.specs.Answers.{first_ready}
 use Rattle.aio_timers.specs.declared.timers.TimerId.{TimerId}

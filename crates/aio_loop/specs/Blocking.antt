@@ -1,10 +1,10 @@
 -- The part of a turn in which home may sleep.
 use Rattle.std.specs.Prelude.{◌≡◌, ℕ, ◌<◌, ◌≤◌, Bool, true, false, Option, MatchOption, is_some, List}
-use Rattle.aio_model.specs.declared.commits.Commit.{Commit}
-use Rattle.aio_model.specs.declared.commits.Commit.TheVariants.{Sleep, Awake}
-use Rattle.aio_model.specs.declared.timer_calls.TimerCall.{TimerCall}
-use Rattle.aio_model.specs.HandlerCalls.{has_event, on_event}
-use Rattle.aio_model.specs.TimerCalls.{is_armed, IsNone, IsEarliest}
+use Rattle.aio_model.specs.declared.loops.commits.Commit.{Commit}
+use Rattle.aio_model.specs.declared.loops.commits.Commit.TheVariants.{Sleep, Awake}
+use Rattle.aio_model.specs.declared.timers.calls.TimerCall.{TimerCall}
+use Rattle.aio_model.specs.Handlers.Calls.{has_event, on_event}
+use Rattle.aio_model.specs.Timers.Calls.{is_armed, IsNone, IsEarliest}
 use Rattle.aio_handlers.specs.StandsFor.{HandlerList}
 use Rattle.aio_timers.specs.StandsFor.{TimerList, StandsFor}
 use Rattle.aio_core.specs.Known.{Known}

@@ -1,11 +1,11 @@
 -- One entry into a loop's runner, and what it does to the loop's side.
 use Rattle.std.specs.Prelude.{◌≡◌, Bool, true, false, List, [], ◌∷◌, ◌++◌}
-use Rattle.aio_model.specs.LoopHistory.{History}
-use Rattle.aio_model.specs.LoopFrame.{Lent, Answer, Entered}
-use Rattle.aio_model.specs.declared.handler_calls.HandlerCall.{HandlerCall}
-use Rattle.aio_model.specs.declared.handler_calls.HandlerCall.TheVariants as of_handlers
-use Rattle.aio_model.specs.declared.timer_calls.TimerCall.{TimerCall}
-use Rattle.aio_model.specs.declared.timer_calls.TimerCall.TheVariants as of_timers
+use Rattle.aio_model.specs.Loop.History.{History}
+use Rattle.aio_model.specs.Loop.Frame.{Lent, Answer, Entered}
+use Rattle.aio_model.specs.declared.handlers.calls.HandlerCall.{HandlerCall}
+use Rattle.aio_model.specs.declared.handlers.calls.HandlerCall.TheVariants as of_handlers
+use Rattle.aio_model.specs.declared.timers.calls.TimerCall.{TimerCall}
+use Rattle.aio_model.specs.declared.timers.calls.TimerCall.TheVariants as of_timers
 use Rattle.aio_handlers.specs.declared.answers.Ready.{Ready}
 use Rattle.aio_handlers.specs.StandsFor as handlers_as
 use Rattle.aio_timers.specs.declared.timers.TimerId.{TimerId}

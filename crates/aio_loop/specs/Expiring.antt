@@ -1,8 +1,8 @@
 -- The part of a turn that calls timers.
 use Rattle.std.specs.Prelude.{◌≡◌, ℕ, zero, suc, ◌≤◌, nat_lt, Bool, List, ◌∷◌}
-use Rattle.aio_model.specs.declared.timer_calls.TimerCall.{TimerCall}
-use Rattle.aio_model.specs.declared.timer_calls.TimerCall.TheVariants.{RunBegin, Give}
-use Rattle.aio_model.specs.TimerCalls.{is_marked, IsFirstOfKind, IsNone}
+use Rattle.aio_model.specs.declared.timers.calls.TimerCall.{TimerCall}
+use Rattle.aio_model.specs.declared.timers.calls.TimerCall.TheVariants.{RunBegin, Give}
+use Rattle.aio_model.specs.Timers.Calls.{is_marked, IsFirstOfKind, IsNone}
 use Rattle.aio_timers.specs.declared.timers.TimerId.{TimerId}
 use Rattle.aio_timers.specs.StandsFor.{StandsFor}
 use Rattle.aio_loop.specs.declared.side.Side.{Side}

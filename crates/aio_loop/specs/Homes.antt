@@ -1,6 +1,6 @@
 -- A home between the parts of a turn.
 use Rattle.std.specs.Prelude.{◌≡◌, true}
-use Rattle.aio_model.specs.InFlight.{AtRest}
+use Rattle.aio_model.specs.Loop.InFlight.{AtRest}
 use Rattle.aio_core.specs.Known.{empty_stage, is_running}
 use Rattle.aio_core.specs.Calls.{TableState, SeatState, IsSeatOf}
 

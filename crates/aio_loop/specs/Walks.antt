@@ -1,7 +1,7 @@
 -- The part of a turn that calls handlers.
 use Rattle.std.specs.Prelude.{◌≡◌, ℕ, zero, suc, Bool, nat_lt, MatchBool, None, Some, List, ◌∷◌}
-use Rattle.aio_model.specs.declared.handler_calls.HandlerCall.{HandlerCall}
-use Rattle.aio_model.specs.declared.handler_calls.HandlerCall.TheVariants.{WalkBegin, Give, WalkEnd}
+use Rattle.aio_model.specs.declared.handlers.calls.HandlerCall.{HandlerCall}
+use Rattle.aio_model.specs.declared.handlers.calls.HandlerCall.TheVariants.{WalkBegin, Give, WalkEnd}
 use Rattle.aio_handlers.specs.declared.answers.Ready.{Ready}
 use Rattle.aio_handlers.specs.Answers.{first_ready}
 use Rattle.aio_handlers.specs.StandsFor.{StandsFor}

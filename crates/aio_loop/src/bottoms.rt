@@ -1,6 +1,6 @@
 //! A poll with a loop's runner.
 ghost use Rattle.std.specs.Prelude.{◌≡◌};
-ghost use Rattle.aio_model.specs.LoopLegal.{IsLegal};
+ghost use Rattle.aio_model.specs.Loop.Legal.{IsLegal};
 ghost use Rattle.aio_bh.specs.OneShots.{ServesHome, ReturnsLots};
 ghost use Rattle.aio_bh.specs.Polling.{Polls};
 ghost use Rattle.aio_loop.specs.Homes.{IsHomeFree};

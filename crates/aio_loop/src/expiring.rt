@@ -1,8 +1,8 @@
 //! The timers that have expired.
 ghost use Rattle.std.specs.Prelude.{◌≡◌, MatchBool, IsFalse, List};
-ghost use Rattle.aio_model.specs.LoopLegal.{IsLegal};
-ghost use Rattle.aio_model.specs.declared.timer_calls.TimerCall.{TimerCall};
-ghost use Rattle.aio_model.specs.TimerCalls.{is_marked, IsNone};
+ghost use Rattle.aio_model.specs.Loop.Legal.{IsLegal};
+ghost use Rattle.aio_model.specs.declared.timers.calls.TimerCall.{TimerCall};
+ghost use Rattle.aio_model.specs.Timers.Calls.{is_marked, IsNone};
 ghost use Rattle.aio_timers.specs.StandsFor.{StandsFor};
 ghost use Rattle.aio_timers.specs.declared.timers.TimerId.{TimerId as Given};
 ghost use Rattle.aio_loop.specs.Homes.{IsHomeFree};

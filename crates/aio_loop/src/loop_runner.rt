@@ -1,7 +1,7 @@
 ghost use Rattle.std.specs.Prelude.{◌≡◌, ◌<◌, None, true, option_map};
-ghost use Rattle.aio_model.specs.InFlight.{AtRest};
-ghost use Rattle.aio_model.specs.LoopLegal.{IsLegal};
-ghost use Rattle.aio_model.specs.LoopFrame.{lent_of};
+ghost use Rattle.aio_model.specs.Loop.InFlight.{AtRest};
+ghost use Rattle.aio_model.specs.Loop.Legal.{IsLegal};
+ghost use Rattle.aio_model.specs.Loop.Frame.{lent_of};
 ghost use Rattle.aio_core.specs.Words.{index_count};
 ghost use Rattle.aio_core.specs.Calls.{IsSeatOf};
 ghost use Rattle.aio_bh.specs.Running.{answer_by};
@@ -18,7 +18,7 @@ use aio_timers::TimerId;
 /// add, arm and disarm timers.
 pub trait LoopRunner<J: Job> {
     ghost use Rattle.std.specs.Prelude.{ℕ};
-    ghost use Rattle.aio_model.specs.LoopHistory.{Sizes};
+    ghost use Rattle.aio_model.specs.Loop.History.{Sizes};
     ghost use Rattle.aio_loop.specs.Entering.{LoopEntered};
 
     /// What it needs of the sizes of the loop, and of how many timers there are.

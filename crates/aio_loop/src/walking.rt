@@ -1,6 +1,6 @@
 //! The handlers of the events that are set.
 ghost use Rattle.std.specs.Prelude.{◌≡◌, MatchBool, IsTrue, IsFalse, None};
-ghost use Rattle.aio_model.specs.LoopLegal.{IsLegal};
+ghost use Rattle.aio_model.specs.Loop.Legal.{IsLegal};
 ghost use Rattle.aio_handlers.specs.Answers.{first_ready};
 ghost use Rattle.aio_handlers.specs.declared.answers.Ready.{Ready as Given};
 ghost use Rattle.aio_loop.specs.Homes.{IsHomeFree};

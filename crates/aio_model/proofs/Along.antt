@@ -2,15 +2,15 @@
 use Rattle.std.proofs.Common.{◌≡◌, ℕ, ◌+◌, ◌≤◌, List, [], ◌∷◌, ◌++◌, length, map, take, drop, replicate, Option, Some, None, option_map, IsPermutation, refl, sym, ◌∙◌, ap, subst, arith}
 use Rattle.std.proofs.lemmas.List.{length-take, length-replicate}
 use Rattle.std.proofs.lemmas.List.Sorted.{IsPermutation-refl}
-use Rattle.aio_model.specs.declared.requests.Request.{Request}
-use Rattle.aio_model.specs.declared.requests.Request.TheVariants.{Write, Zero}
-use Rattle.aio_model.specs.declared.replies.Reply.{Reply}
-use Rattle.aio_model.specs.declared.replies.Reply.TheVariants.{Put, Zeroed, Eio}
-use Rattle.aio_model.specs.declared.replies.Placed.{Placed}
-use Rattle.aio_model.specs.declared.scripts.Step.{Step}
-use Rattle.aio_model.specs.Asked.{Asked, asked, request_named}
+use Rattle.aio_model.specs.declared.serving.requests.Request.{Request}
+use Rattle.aio_model.specs.declared.serving.requests.Request.TheVariants.{Write, Zero}
+use Rattle.aio_model.specs.declared.serving.replies.Reply.{Reply}
+use Rattle.aio_model.specs.declared.serving.replies.Reply.TheVariants.{Put, Zeroed, Eio}
+use Rattle.aio_model.specs.declared.serving.replies.Placed.{Placed}
+use Rattle.aio_model.specs.declared.scripts.image_scripts.Step.{Step}
+use Rattle.aio_model.specs.Serving.Asked.{Asked, asked, request_named}
 use Rattle.aio_model.specs.Serving.{put_at, MayAnswer, Fits, bytes_after}
-use Rattle.aio_model.specs.SerialHistory.{asked_name, placed_name, bytes_behind, bytes_left, FitAlong, IsSerialHistory}
+use Rattle.aio_model.specs.Serving.SerialHistory.{asked_name, placed_name, bytes_behind, bytes_left, FitAlong, IsSerialHistory}
 use Rattle.aio_model.proofs.PutAt.{length-put_at, drop-put_at}
 use Rattle.aio_model.proofs.Names.{CountsFrom-asked}
 

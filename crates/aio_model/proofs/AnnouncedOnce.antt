@@ -1,12 +1,12 @@
 -- In a legal history what is pending stands once among the announced, the stack and out.
 use Rattle.std.proofs.Common.{◌≡◌, ℕ, ◌+◌, ◌<◌, ◌≤◌, Bool, true, false, not, ◌&&◌, ◌||◌, eqb, ltb, [], ◌∷◌, ◌++◌, length, length-append, Some, refl, arith}
 use Rattle.std.proofs.lemmas.Bool.{eq-eqb, lt-ltb}
-use Rattle.aio_model.specs.FlagsWord.{bit}
-use Rattle.aio_model.specs.LoopHistory.{Sizes, EnqueueAsks, ToCall, ToCallIdle, ToDelete, ToCallOnce, New, Enqueue, Put, Cancel, Take, Dequeue, Free, SetEvent, ClearEvent, History}
-use Rattle.aio_model.specs.LoopFlags.{has_life, lives, is_lot, was_dequeued, is_pending}
-use Rattle.aio_model.specs.LoopLists.{was_put, is_announced, claimer_of, stack_of, taken_of, dequeue_count, out_of, head_of}
-use Rattle.aio_model.specs.LoopLegal.{MayFollow, MayAsk, IsLegal}
-use Rattle.aio_model.specs.LoopLaws.{times_of, IsAnnouncedOnce}
+use Rattle.aio_model.specs.Loop.FlagsWord.{bit}
+use Rattle.aio_model.specs.Loop.History.{Sizes, EnqueueAsks, ToCall, ToCallIdle, ToDelete, ToCallOnce, New, Enqueue, Put, Cancel, Take, Dequeue, Free, SetEvent, ClearEvent, History}
+use Rattle.aio_model.specs.Loop.Flags.{has_life, lives, is_lot, was_dequeued, is_pending}
+use Rattle.aio_model.specs.Loop.Lists.{was_put, is_announced, claimer_of, stack_of, taken_of, dequeue_count, out_of, head_of}
+use Rattle.aio_model.specs.Loop.Legal.{MayFollow, MayAsk, IsLegal}
+use Rattle.aio_model.specs.Loop.Laws.{times_of, IsAnnouncedOnce}
 use Rattle.aio_model.proofs.Indices.{by_index, times_of-append, drop-head, head-below}
 use Rattle.std.proofs.lemmas.List.{drop-append-le}
 

@@ -1,16 +1,16 @@
 -- What awaits its call goes on so until its dequeue, unless it is canceled or deleted; and that dequeue calls it.
 use Rattle.std.proofs.Common.{◌≡◌, ℕ, ◌+◌, ◌≤◌, ◌<◌, Bool, true, false, not, ◌&&◌, ◌||◌, cond, eqb, [], ◌∷◌, ◌++◌, refl, sym, ap, ◌∙◌, subst, arith, inl, inr, ◌⊎◌, eqb-true}
 use Rattle.std.proofs.lemmas.Bool.{and_parts, false≢true, eq-eqb}
-use Rattle.aio_model.specs.declared.flags.Flags.{Flags}
-use Rattle.aio_model.specs.FlagsWord.{bit}
-use Rattle.aio_model.specs.LoopHistory.{Sizes, ToCall, Entry, New, Enqueue, Put, Cancel, Take, Dequeue, Free, SetEvent, ClearEvent, History}
-use Rattle.aio_model.specs.LoopFlags.{is_lot, is_pending, is_scheduled, is_deleted, is_due, ends_round, ends_life, puts, cancels, asks, is_deleting, is_scheduling, dequeues}
-use Rattle.aio_model.specs.LoopLists.{out_of, stack_of, was_put, seat_of}
-use Rattle.aio_model.specs.LoopLegal.{IsLegal, MayFollow}
-use Rattle.aio_model.specs.LoopLaws.{times_of, some_entry}
-use Rattle.aio_model.specs.LoopSeats.{home, entries_by, entries_of}
-use Rattle.aio_model.specs.LoopFrame.{are_of_callback}
-use Rattle.aio_model.specs.LoopCalls.{dequeue_times, call_times, stops, AwaitsCall}
+use Rattle.aio_model.specs.declared.loops.flags.Flags.{Flags}
+use Rattle.aio_model.specs.Loop.FlagsWord.{bit}
+use Rattle.aio_model.specs.Loop.History.{Sizes, ToCall, Entry, New, Enqueue, Put, Cancel, Take, Dequeue, Free, SetEvent, ClearEvent, History}
+use Rattle.aio_model.specs.Loop.Flags.{is_lot, is_pending, is_scheduled, is_deleted, is_due, ends_round, ends_life, puts, cancels, asks, is_deleting, is_scheduling, dequeues}
+use Rattle.aio_model.specs.Loop.Lists.{out_of, stack_of, was_put, seat_of}
+use Rattle.aio_model.specs.Loop.Legal.{IsLegal, MayFollow}
+use Rattle.aio_model.specs.Loop.Laws.{times_of, some_entry}
+use Rattle.aio_model.specs.Loop.Seats.{home, entries_by, entries_of}
+use Rattle.aio_model.specs.Loop.Frame.{are_of_callback}
+use Rattle.aio_model.specs.Loop.Calls.{dequeue_times, call_times, stops, AwaitsCall}
 use Rattle.aio_model.proofs.AnnouncedOnce.{out_of-take, lot_is_no_handle, fits, announced_once}
 use Rattle.aio_model.proofs.Indices.{times_of-append}
 

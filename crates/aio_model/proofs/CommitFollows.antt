@@ -2,10 +2,10 @@
 use Rattle.std.proofs.Common.{◌≡◌, ℕ, ◌+◌, false, get_or, refl, ap, ◌∙◌}
 use Rattle.std.specs.List.{find}
 use Rattle.std.specs.Option.{is_some}
-use Rattle.aio_model.specs.LoopFlags.{are_due, are_urgent, is_due, is_urgent}
-use Rattle.aio_model.specs.LoopLists.{is_set, stack_of}
-use Rattle.aio_model.specs.LoopLog.{Log, history_of, first_from, commit_from, commit_of, committed_log}
-use Rattle.aio_model.specs.LoopState.{LoopState, half_at, StandsFor}
+use Rattle.aio_model.specs.Loop.Flags.{are_due, are_urgent, is_due, is_urgent}
+use Rattle.aio_model.specs.Loop.Lists.{is_set, stack_of}
+use Rattle.aio_model.specs.Loop.Log.{Log, history_of, first_from, commit_from, commit_of, committed_log}
+use Rattle.aio_model.specs.Loop.State.{LoopState, half_at, StandsFor}
 use Rattle.aio_model.proofs.Searches.{first_from-agree, find-agree}
 
 module _ (st : LoopState) (log : Log) (stands : StandsFor st log) where

@@ -1,11 +1,11 @@
 -- The first entries of a frame, of any depth, are the dequeues that called.
 use Rattle.std.proofs.Common.{◌≡◌, ℕ, zero, suc, ◌+◌, Bool, true, false, cond, eqb, Option, None, MatchBool, [], ◌∷◌, ◌++◌, refl, sym, ap, ◌∙◌, subst, arith, inl, inr}
-use Rattle.aio_model.specs.FlagsWord.{bit}
-use Rattle.aio_model.specs.LoopHistory.{Sizes, Take, Dequeue, Free, History}
-use Rattle.aio_model.specs.LoopFlags.{is_lot}
-use Rattle.aio_model.specs.LoopSeats.{home, entries_of}
-use Rattle.aio_model.specs.LoopFrame.{Lent, Answer, PollPlace, Makes, EntersRunner, Body, Turn, Turns, nests_above, Frame, are_of_callback, lent_of}
-use Rattle.aio_model.specs.LoopCalls.{call_times, entry_time, entry_times}
+use Rattle.aio_model.specs.Loop.FlagsWord.{bit}
+use Rattle.aio_model.specs.Loop.History.{Sizes, Take, Dequeue, Free, History}
+use Rattle.aio_model.specs.Loop.Flags.{is_lot}
+use Rattle.aio_model.specs.Loop.Seats.{home, entries_of}
+use Rattle.aio_model.specs.Loop.Frame.{Lent, Answer, PollPlace, Makes, EntersRunner, Body, Turn, Turns, nests_above, Frame, are_of_callback, lent_of}
+use Rattle.aio_model.specs.Loop.Calls.{call_times, entry_time, entry_times}
 use Rattle.aio_model.proofs.Awaiting.{call_times-append, none_dequeued, calls_most}
 
 -- as many first entries of the index as dequeues of it that called

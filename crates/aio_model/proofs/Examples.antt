@@ -1,17 +1,17 @@
 -- The definitions at small scripts, computed: what stands here was worked out by hand.
 use Rattle.std.specs.Fmt.{digits}
 use Rattle.std.proofs.Common.{◌≡◌, ℕ, List, [], ◌∷◌, refl, replicate, codes}
-use Rattle.aio_model.specs.declared.requests.Request.{Request}
-use Rattle.aio_model.specs.declared.requests.Request.TheVariants.{Read, Write, Flush}
-use Rattle.aio_model.specs.declared.replies.Reply.{Reply}
-use Rattle.aio_model.specs.declared.replies.Reply.TheVariants.{Put, Got, Flushed, Eio, Einval}
-use Rattle.aio_model.specs.declared.replies.Placed.{Placed}
-use Rattle.aio_model.specs.declared.scripts.Step.{Step}
-use Rattle.aio_model.specs.declared.scripts.What.TheVariants.{Ask, Delay, Move}
-use Rattle.aio_model.specs.Asked.{asked}
+use Rattle.aio_model.specs.declared.serving.requests.Request.{Request}
+use Rattle.aio_model.specs.declared.serving.requests.Request.TheVariants.{Read, Write, Flush}
+use Rattle.aio_model.specs.declared.serving.replies.Reply.{Reply}
+use Rattle.aio_model.specs.declared.serving.replies.Reply.TheVariants.{Put, Got, Flushed, Eio, Einval}
+use Rattle.aio_model.specs.declared.serving.replies.Placed.{Placed}
+use Rattle.aio_model.specs.declared.scripts.image_scripts.Step.{Step}
+use Rattle.aio_model.specs.declared.scripts.image_scripts.What.TheVariants.{Ask, Delay, Move}
+use Rattle.aio_model.specs.Serving.Asked.{asked}
 use Rattle.aio_model.specs.Serving.{bytes_after}
-use Rattle.aio_model.specs.SerialHistory.{bytes_left}
-use Rattle.aio_model.specs.PrintedText.{printed_text}
+use Rattle.aio_model.specs.Serving.SerialHistory.{bytes_left}
+use Rattle.aio_model.specs.Scripts.PrintedText.{printed_text}
 
 abbrev ask : ℕ → Request → Step
 ask stream request = record { stream = stream; what = Ask request }

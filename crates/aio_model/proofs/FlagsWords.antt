@@ -2,8 +2,8 @@
 use Rattle.std.proofs.Common.{◌≡◌, ℕ, ◌+◌, ◌*◌, ◌<◌, Bool, true, false, eqb, refl, ◌∙◌}
 use Rattle.std.proofs.lemmas.Bool.{agree_below_at, eqb-true}
 use mir.Val.{bool_byte}
-use Rattle.aio_model.specs.FlagsWord.{bit, flags_in, word_of}
-use Rattle.aio_model.specs.declared.flags.Flags.{Flags}
+use Rattle.aio_model.specs.Loop.FlagsWord.{bit, flags_in, word_of}
+use Rattle.aio_model.specs.declared.loops.flags.Flags.{Flags}
 
 pub word_of-flags_in : (word : ℕ) → word < 32 → word_of (flags_in word) ≡ word
 word_of-flags_in word h =

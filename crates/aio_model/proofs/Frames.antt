@@ -1,7 +1,7 @@
 -- Polls, part by part.
 use Rattle.std.proofs.Common.{ℕ, zero, suc, List, [], ◌∷◌, ◌++◌, refl, sym, subst}
-use Rattle.aio_model.specs.LoopHistory.{Sizes}
-use Rattle.aio_model.specs.LoopFrame.{PollPlace, Entered, Turn, Turns, TakesAndTurns, nests_above, Frame, DoesEntries}
+use Rattle.aio_model.specs.Loop.History.{Sizes}
+use Rattle.aio_model.specs.Loop.Frame.{PollPlace, Entered, Turn, Turns, TakesAndTurns, nests_above, Frame, DoesEntries}
 
 -- what a runner does in one part of a log and then in the next
 pub DoesEntries-append : {R : Type 0} (does : R → Entered → R → Type 0) (before mid after : R) (newer older : List Entered) → DoesEntries does before older mid → DoesEntries does mid newer after → DoesEntries does before (newer ++ older) after

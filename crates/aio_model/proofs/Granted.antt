@@ -1,16 +1,13 @@
 -- What the table of readers and a writer does to everybody's hold.
-use Rattle.std.proofs.Common.{◌≡◌, ◌≢◌, ℕ, ◌<◌, ◌||◌, ◌&&◌, ◌⊎◌, inl, inr, Bool, true, false, not, cond, eqb, List, [], ◌∷◌, ◌++◌, Option, Some, None, refl, sym, ap, subst, ◌∙◌}
-use Rattle.std.specs.List.{list_any, filter, IsDistinct, AllByRecursion}
+use Rattle.std.proofs.Common.{◌≡◌, ◌≢◌, ℕ, ◌<◌, ◌||◌, ◌&&◌, ◌⊎◌, inl, inr, Bool, true, false, cond, eqb, List, [], ◌∷◌, ◌++◌, Option, Some, None, refl, sym, ap, subst, ◌∙◌}
 use Rattle.std.proofs.lemmas.Bool.{cases_eq, cases_Bool, eqb-true, eq-eqb, ne_eqb}
-use Rattle.std.proofs.lemmas.List.Folds.{list_any-append}
 use Rattle.aio_model.specs.declared.holds.Hold.{Hold}
-use Rattle.aio_model.specs.declared.holds.Hold.TheVariants.{Free, Reads, Writes, WaitsRead, WaitsWrite}
-use Rattle.aio_model.specs.declared.holds.RwAnswer.TheVariants.{Got, Queued}
+use Rattle.aio_model.specs.declared.holds.Hold.TheVariants.{Free, Reads, Writes}
 use Rattle.aio_model.specs.declared.holds.Wish.{Wish}
 use Rattle.aio_model.specs.declared.holds.Wish.TheVariants as wish
-use Rattle.aio_model.specs.Readers.{Holders, Readers, Writer, Ticket, ReadersWriter, is_reader, other_readers, waits_by, waiting, hold_in, hold_of}
-use Rattle.aio_model.specs.Holds.{Has, granted, after_wake, OnlyGranted, answered, WriterIsAlone, ReadersAreOnce, IsSettled}
-use Rattle.aio_model.specs.RwTable.{Woke, with_ticket, read_by, read_locked, written_by, write_locked, granted_to, wake_first, wake_one, without_holder, released, unlocked, with_reader, downgraded, stepped_back, upgraded_by, upgraded}
+use Rattle.aio_model.specs.Holds.Readers.{Holders, Readers, Writer, Ticket, ReadersWriter, is_reader, other_readers, waits_by, waiting, hold_in, hold_of}
+use Rattle.aio_model.specs.Holds.{Has, granted, after_wake, OnlyGranted, WriterIsAlone}
+use Rattle.aio_model.specs.Holds.Table.{Woke, granted_to, wake_first, wake_one}
 
 -- Who writes is alone.
 

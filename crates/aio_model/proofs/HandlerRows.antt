@@ -1,9 +1,9 @@
 -- The definitions of handler calls at small lists of calls, computed: what stands here was worked out by hand.
 use Rattle.std.proofs.Common.{◌≡◌, ℕ, List, [], ◌∷◌, Some, None, refl}
-use Rattle.aio_model.specs.declared.handler_calls.HandlerCall.{HandlerCall}
-use Rattle.aio_model.specs.declared.handler_calls.HandlerCall.TheVariants.{Add, Remove, WalkBegin, Give, WalkEnd}
-use Rattle.aio_model.specs.declared.handler_calls.Handler.{Handler}
-use Rattle.aio_model.specs.HandlerCalls.{named, on_event, live, waiting, marked}
+use Rattle.aio_model.specs.declared.handlers.calls.HandlerCall.{HandlerCall}
+use Rattle.aio_model.specs.declared.handlers.calls.HandlerCall.TheVariants.{Add, Remove, WalkBegin, Give, WalkEnd}
+use Rattle.aio_model.specs.declared.handlers.calls.Handler.{Handler}
+use Rattle.aio_model.specs.Handlers.Calls.{named, on_event, live, waiting, marked}
 
 abbrev handler : ℕ → ℕ → ℕ → Handler
 handler id event tag = record { id = id; event = event; tag = tag }

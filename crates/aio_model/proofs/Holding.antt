@@ -1,17 +1,17 @@
 -- What each call on readers and a writer does to everybody's hold.
 use Rattle.std.proofs.Common.{◌≡◌, ◌≢◌, ℕ, ◌<◌, Bool, true, false, cond, eqb, List, [], ◌∷◌, ◌++◌, Option, Some, None, IfSome, refl, sym, ap, subst, ◌∙◌, inl, inr}
-use Rattle.std.specs.List.{IsDistinct, AllByRecursion}
-use Rattle.std.proofs.lemmas.Bool.{cases_eq, cases_Bool, eqb-true, eq-eqb, ne_eqb}
+use Rattle.std.specs.List.{IsDistinct}
+use Rattle.std.proofs.lemmas.Bool.{cases_Bool, eqb-true, eq-eqb, ne_eqb}
 use Rattle.aio_model.specs.declared.holds.Hold.{Hold}
 use Rattle.aio_model.specs.declared.holds.Hold.TheVariants.{Free, Reads, Writes, WaitsRead, WaitsWrite}
-use Rattle.aio_model.specs.declared.holds.RwAnswer.TheVariants.{Got, Queued}
+use Rattle.aio_model.specs.declared.holds.RwAnswer.TheVariants.{Got}
 use Rattle.aio_model.specs.declared.holds.Wish.{Wish}
 use Rattle.aio_model.specs.declared.holds.Wish.TheVariants as wish
-use Rattle.aio_model.specs.Readers.{Holders, Readers, Writer, Ticket, ReadersWriter, is_reader, other_readers, waits_by, waiting, hold_in, hold_of}
-use Rattle.aio_model.specs.Holds.{Has, HasTicket, granted, after_wake, answered, ReadersAreOnce, IsOrderly, IsSettled}
-use Rattle.aio_model.specs.RwTable.{Woke, Exchanged, queued_again, with_ticket, read_by, read_locked, written_by, write_locked, granted_to, wake_first, wake_one, without_holder, released, unlocked, with_reader, downgraded, stepped_back, upgraded_by, upgraded}
+use Rattle.aio_model.specs.Holds.Readers.{Holders, Readers, Writer, Ticket, ReadersWriter, is_reader, other_readers, waits_by, waiting, hold_in, hold_of}
+use Rattle.aio_model.specs.Holds.{Has, HasTicket, after_wake, answered, IsOrderly, IsSettled}
+use Rattle.aio_model.specs.Holds.Table.{Woke, Exchanged, queued_again, read_by, read_locked, written_by, write_locked, granted_to, wake_first, wake_one, without_holder, released, unlocked, with_reader, downgraded, stepped_back, upgraded_by, upgraded}
 use Rattle.aio_model.proofs.Granted.{waits-nonfree, waits_only, not_written, test_writes, reader_added-same, reader_added-other, reader_gone-same, reader_gone-other, ticket_added-same, ticket_added-other, granted_no_more, wakes}
-use Rattle.aio_model.proofs.Orderly.{free_parts, free_no_reader, admits_reader, admits_writer, queues, releases, wake_keeps, wake_settles}
+use Rattle.aio_model.proofs.Orderly.{free_parts, free_no_reader, admits_reader, admits_writer, queues, releases, wake_settles}
 
 -- Holds when somebody is let in, waits or goes.
 

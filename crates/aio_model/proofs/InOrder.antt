@@ -1,11 +1,11 @@
 -- Requests that are served in the order of a script's lines: what one line more asks, and what is printed of it.
 use Rattle.std.proofs.Common.{◌≡◌, ℕ, ◌+◌, ◌<◌, List, [], ◌∷◌, ◌++◌, length, map, take, drop, get_or, Some, sym, ◌∙◌, ap, arith, length-append}
 use Rattle.std.proofs.lemmas.List.{append-nil, take_more, drop_more, take-append-drop, length-take-le, get_or-map, get_or_at, map-append, length-map}
-use Rattle.aio_model.specs.declared.replies.Placed.{Placed}
-use Rattle.aio_model.specs.declared.scripts.Step.{Step}
-use Rattle.aio_model.specs.Asked.{Asked, requests_of, asked_by, asked_below, asked}
-use Rattle.aio_model.specs.SerialHistory.{asked_name, placed_name}
-use Rattle.aio_model.specs.PrintedText.{line_standing, line_of, line_for, standing_from}
+use Rattle.aio_model.specs.declared.serving.replies.Placed.{Placed}
+use Rattle.aio_model.specs.declared.scripts.image_scripts.Step.{Step}
+use Rattle.aio_model.specs.Serving.Asked.{Asked, requests_of, asked_by, asked_below, asked}
+use Rattle.aio_model.specs.Serving.SerialHistory.{asked_name, placed_name}
+use Rattle.aio_model.specs.Scripts.PrintedText.{line_standing, line_of, line_for, standing_from}
 use Rattle.aio_model.proofs.Names.{asked_below-append, standing_from-asked}
 
 -- what is asked by the line at k, as it stands among all

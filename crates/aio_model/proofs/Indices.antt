@@ -1,8 +1,8 @@
 -- Lists of indices: how often one stands there, the first, and what is left after some.
 use Rattle.std.proofs.Common.{◌≡◌, ◌≢◌, ℕ, zero, suc, ◌+◌, ◌<◌, false, eqb, List, [], ◌∷◌, ◌++◌, length, drop, Some, sym, subst, inl, inr, arith}
 use Rattle.std.proofs.lemmas.Bool.{cases_eq, ne_eqb}
-use Rattle.aio_model.specs.LoopLists.{head_of}
-use Rattle.aio_model.specs.LoopLaws.{times_of}
+use Rattle.aio_model.specs.Loop.Lists.{head_of}
+use Rattle.aio_model.specs.Loop.Laws.{times_of}
 
 -- a fact of every index, from the one at hand and any other
 pub by_index : (i j : ℕ) (Q : ℕ → Type 0) → Q i → (eqb i j ≡ false → Q j) → Q j

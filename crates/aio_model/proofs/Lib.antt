@@ -27,4 +27,4 @@ pub mod Orderly
 pub mod Holding
 pub mod Settling
 mod RwRows
-pub mod Coroutines
+pub mod CoroutineHistories

@@ -1,10 +1,10 @@
 -- A lot without a life has no flags, and was not dequeued.
 use Rattle.std.proofs.Common.{◌≡◌, ℕ, true, false, eqb, ltb, [], ◌∷◌, refl, ap}
 use Rattle.std.proofs.lemmas.Bool.{eq-eqb, or_parts, and_parts, not-true}
-use Rattle.aio_model.specs.LoopHistory.{Sizes, New, Enqueue, Put, Cancel, Take, Dequeue, Free, SetEvent, ClearEvent, History}
-use Rattle.aio_model.specs.LoopFlags.{has_life, lives, is_lot, is_pending}
-use Rattle.aio_model.specs.LoopLegal.{MayFollow, IsLegal}
-use Rattle.aio_model.specs.LoopState.{blank, half_of}
+use Rattle.aio_model.specs.Loop.History.{Sizes, New, Enqueue, Put, Cancel, Take, Dequeue, Free, SetEvent, ClearEvent, History}
+use Rattle.aio_model.specs.Loop.Flags.{has_life, lives, is_lot, is_pending}
+use Rattle.aio_model.specs.Loop.Legal.{MayFollow, IsLegal}
+use Rattle.aio_model.specs.Loop.State.{blank, half_of}
 use Rattle.aio_model.proofs.Indices.{by_index}
 use Rattle.aio_model.proofs.AnnouncedOnce.{fits, lot_is_no_handle, head_is_pending}
 

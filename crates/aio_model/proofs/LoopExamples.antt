@@ -1,10 +1,10 @@
 -- The definitions of the loop at short lists of calls, computed: what stands here was worked out by hand.
 use Rattle.std.proofs.Common.{◌≡◌, ℕ, true, false, [], Some, None, refl}
-use Rattle.aio_model.specs.declared.flags.Flags.{Flags}
-use Rattle.aio_model.specs.declared.commits.Commit.TheVariants.{Sleep, Awake}
-use Rattle.aio_model.specs.declared.commits.Why.TheVariants.{Urgent, Event, Notified}
-use Rattle.aio_model.specs.LoopHistory.{ToCall, ToCallIdle, ToDelete, Sizes}
-use Rattle.aio_model.specs.LoopLog.{Log, flags_before, enqueued_log, canceled_log, taken_log, taken_count, next_of, dequeued_log, vacant_of, once_log, set_log, cleared_log, commit_of, committed_log}
+use Rattle.aio_model.specs.declared.loops.flags.Flags.{Flags}
+use Rattle.aio_model.specs.declared.loops.commits.Commit.TheVariants.{Sleep, Awake}
+use Rattle.aio_model.specs.declared.loops.commits.Why.TheVariants.{Urgent, Event, Notified}
+use Rattle.aio_model.specs.Loop.History.{ToCall, ToCallIdle, ToDelete, Sizes}
+use Rattle.aio_model.specs.Loop.Log.{Log, flags_before, enqueued_log, canceled_log, taken_log, taken_count, next_of, dequeued_log, vacant_of, once_log, set_log, cleared_log, commit_of, committed_log}
 
 abbrev sizes : ℕ → ℕ → ℕ → Sizes
 sizes handles lots events = record { handles = handles; lots = lots; events = events }

@@ -1,15 +1,15 @@
 -- The steps of a loop of one thread follow its log.
 use Rattle.std.proofs.Common.{◌≡◌, ℕ, ◌<◌, Bool, true, false, cond, ◌||◌, eqb, ltb, List, [], ◌∷◌, ◌++◌, length, get_or, set, get_or-set_same, get_or-set_other, Option, Some, None, refl, sym, ap, ◌∙◌, subst}
 use Rattle.std.proofs.lemmas.Bool.{eq-eqb, lt-ltb, false_from_ne_true}
-use Rattle.aio_model.specs.declared.flags.Flags.{Flags}
-use Rattle.aio_model.specs.declared.bottom_halves.BottomHalf.{BottomHalf}
-use Rattle.aio_model.specs.LoopHistory.{Sizes, EnqueueAsks, ToCall, ToCallIdle, ToDelete, ToCallOnce, Enqueue, Put, Dequeue, History}
-use Rattle.aio_model.specs.LoopFlags.{has_life, lives, is_pending, flags_of, is_due, ends_round, enqueues}
-use Rattle.aio_model.specs.LoopLists.{was_put, announcer_of, or_else, out_of, head_of, seat_of}
-use Rattle.aio_model.specs.LoopLegal.{MayFollow}
-use Rattle.aio_model.specs.LoopLog.{Made, Log, history_of, flags_before, asked_log, enqueued_log, next_of, dequeued_log, taken_count, taken_log}
-use Rattle.aio_model.specs.LoopState.{LoopState, blank, half_at, half_of, StandsFor}
-use Rattle.aio_model.specs.LoopSteps.{added_by, asked_half, enqueued_state, after_dequeue}
+use Rattle.aio_model.specs.declared.loops.flags.Flags.{Flags}
+use Rattle.aio_model.specs.declared.loops.bottom_halves.BottomHalf.{BottomHalf}
+use Rattle.aio_model.specs.Loop.History.{Sizes, EnqueueAsks, ToCall, ToCallIdle, ToDelete, ToCallOnce, Enqueue, Put, Dequeue, History}
+use Rattle.aio_model.specs.Loop.Flags.{has_life, lives, is_pending, flags_of, is_due, ends_round, enqueues}
+use Rattle.aio_model.specs.Loop.Lists.{was_put, announcer_of, or_else, out_of, head_of, seat_of}
+use Rattle.aio_model.specs.Loop.Legal.{MayFollow}
+use Rattle.aio_model.specs.Loop.Log.{Made, Log, history_of, flags_before, asked_log, enqueued_log, next_of, dequeued_log, taken_count, taken_log}
+use Rattle.aio_model.specs.Loop.State.{LoopState, blank, half_at, half_of, StandsFor}
+use Rattle.aio_model.specs.Loop.Steps.{added_by, asked_half, enqueued_state, after_dequeue}
 use Rattle.aio_model.proofs.Indices.{by_query}
 use Rattle.aio_model.proofs.AnnouncedOnce.{fits, out_of-take, out_of-dequeue}
 

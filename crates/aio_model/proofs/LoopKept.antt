@@ -4,11 +4,11 @@ use Rattle.std.specs.List.{sum_by}
 use Rattle.std.proofs.lemmas.List.{get_or_past, get_or_read}
 use Rattle.std.proofs.lemmas.List.Sums.{sum_by-set, sum_by-le}
 use Rattle.std.proofs.lemmas.Bool.{eq-eqb, cases_lt}
-use Rattle.aio_model.specs.FlagsWord.{bit}
-use Rattle.aio_model.specs.LoopLaws.{times_of}
-use Rattle.aio_model.specs.LoopState.{blank}
-use Rattle.aio_model.specs.LoopInside.{pending_bit, PendingIsListed}
-use Rattle.aio_model.specs.declared.bottom_halves.BottomHalf.{BottomHalf}
+use Rattle.aio_model.specs.Loop.FlagsWord.{bit}
+use Rattle.aio_model.specs.Loop.Laws.{times_of}
+use Rattle.aio_model.specs.Loop.State.{blank}
+use Rattle.aio_model.specs.Loop.Inside.{pending_bit, PendingIsListed}
+use Rattle.aio_model.specs.declared.loops.bottom_halves.BottomHalf.{BottomHalf}
 use Rattle.aio_model.proofs.Indices.{by_query, times_of-append}
 
 bit-le-one : (b : Bool) → bit b ≤ 1

@@ -1,12 +1,12 @@
 -- The lines of replies, computed: what stands here was worked out by hand.
 use Rattle.std.specs.Fmt.{digits}
 use Rattle.std.proofs.Common.{◌≡◌, true, false, [], ◌∷◌, Some, None, refl, codes}
-use Rattle.aio_model.specs.declared.commits.Commit.TheVariants.{Sleep, Awake}
-use Rattle.aio_model.specs.declared.commits.Why.TheVariants.{Urgent, Event, Notified}
-use Rattle.aio_model.specs.declared.loop_scripts.Command.TheVariants.{Schedule, Cancel}
-use Rattle.aio_model.specs.declared.ran_lists.Called.TheVariants.{Handle, Once}
-use Rattle.aio_model.specs.declared.loop_replies.LoopReply.TheVariants.{Flagged, Placed, Ran, Committed, WasSet, Cleared}
-use Rattle.aio_model.specs.LoopLines.{ran_reply, reply_text}
+use Rattle.aio_model.specs.declared.loops.commits.Commit.TheVariants.{Sleep, Awake}
+use Rattle.aio_model.specs.declared.loops.commits.Why.TheVariants.{Urgent, Event, Notified}
+use Rattle.aio_model.specs.declared.scripts.loop_scripts.Command.TheVariants.{Schedule, Cancel}
+use Rattle.aio_model.specs.declared.loops.ran_lists.Called.TheVariants.{Handle, Once}
+use Rattle.aio_model.specs.declared.scripts.loop_replies.LoopReply.TheVariants.{Flagged, Placed, Ran, Committed, WasSet, Cleared}
+use Rattle.aio_model.specs.Scripts.LoopLines.{ran_reply, reply_text}
 
 pending_and_deleted : reply_text (Flagged (Schedule 0) (record { pending = true; scheduled = false; deleted = true; oneshot = false; idle = false }))
     ≡ codes "schedule 0 was P-D--\n"

@@ -1,12 +1,12 @@
 -- A one-shot follows the log: a life of the lot begins, and it is enqueued.
 use Rattle.std.proofs.Common.{◌≡◌, ℕ, ◌<◌, true, false, eqb, ◌∷◌, length, get_or, set, length-set, get_or-set_same, get_or-set_other, refl, ◌∙◌}
 use Rattle.std.proofs.lemmas.Bool.{eq-eqb, or_right}
-use Rattle.aio_model.specs.LoopHistory.{ToCallOnce, New, Enqueue, History}
-use Rattle.aio_model.specs.LoopFlags.{lives, is_lot}
-use Rattle.aio_model.specs.LoopLegal.{MayFollow}
-use Rattle.aio_model.specs.LoopLog.{Made, Log, history_of, flags_before, begun_log}
-use Rattle.aio_model.specs.LoopState.{LoopState, blank, half_at, half_of, StandsFor}
-use Rattle.aio_model.specs.LoopSteps.{added_by, enqueued_state, begun_state}
+use Rattle.aio_model.specs.Loop.History.{ToCallOnce, New, Enqueue, History}
+use Rattle.aio_model.specs.Loop.Flags.{lives, is_lot}
+use Rattle.aio_model.specs.Loop.Legal.{MayFollow}
+use Rattle.aio_model.specs.Loop.Log.{Made, Log, history_of, flags_before, begun_log}
+use Rattle.aio_model.specs.Loop.State.{LoopState, blank, half_at, half_of, StandsFor}
+use Rattle.aio_model.specs.Loop.Steps.{added_by, enqueued_state, begun_state}
 use Rattle.aio_model.proofs.Indices.{by_query}
 use Rattle.aio_model.proofs.Lifeless.{half_of-lifeless}
 use Rattle.aio_model.proofs.LoopFollows.{enqueue_follows}

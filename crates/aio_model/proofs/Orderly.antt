@@ -1,17 +1,17 @@
 -- Each step on readers and a writer keeps them orderly.
 use Rattle.std.proofs.Common.{◌≡◌, ◌≢◌, ℕ, ◌<◌, Bool, true, false, cond, eqb, List, [], ◌∷◌, ◌++◌, refl, sym, ap, subst, ◌∙◌, inl, inr}
-use Rattle.std.specs.List.{list_any, filter, IsDistinct, AllByRecursion}
-use Rattle.std.proofs.lemmas.Bool.{cases_eq, cases_Bool, eqb-true, eq-eqb, ne_eqb}
+use Rattle.std.specs.List.{IsDistinct, AllByRecursion}
+use Rattle.std.proofs.lemmas.Bool.{cases_eq, cases_Bool, eq-eqb, ne_eqb}
 use Rattle.std.proofs.lemmas.Map.Keys.{IsDistinct-push}
 use Rattle.std.proofs.lemmas.Cmp.{nat_eq_equiv}
 use Rattle.aio_model.specs.declared.holds.Hold.{Hold}
-use Rattle.aio_model.specs.declared.holds.Hold.TheVariants.{Free, Reads, Writes, WaitsRead, WaitsWrite}
+use Rattle.aio_model.specs.declared.holds.Hold.TheVariants.{Free, Reads, Writes}
 use Rattle.aio_model.specs.declared.holds.Wish.{Wish}
 use Rattle.aio_model.specs.declared.holds.Wish.TheVariants as wish
-use Rattle.aio_model.specs.Readers.{Holders, Readers, Writer, Ticket, ReadersWriter, is_reader, other_readers, waits_by, waiting, hold_in, hold_of}
-use Rattle.aio_model.specs.Holds.{Has, ReadersAreOnce, WaitOnce, IsOrderly, IsSettled}
-use Rattle.aio_model.specs.RwTable.{Woke, with_ticket, granted_to, wake_first, wake_one, without_holder, released, with_reader}
-use Rattle.aio_model.proofs.Granted.{waits-nonfree, reader_added-same, reader_added-other, reader_gone-same, reader_gone-other, ticket_added-same, ticket_added-other, not_reader}
+use Rattle.aio_model.specs.Holds.Readers.{Holders, Readers, Writer, Ticket, ReadersWriter, is_reader, other_readers, waits_by, waiting, hold_in}
+use Rattle.aio_model.specs.Holds.{Has, WaitOnce, IsOrderly, IsSettled}
+use Rattle.aio_model.specs.Holds.Table.{granted_to, wake_first, wake_one, without_holder}
+use Rattle.aio_model.proofs.Granted.{waits-nonfree, reader_added-other, reader_gone-same, reader_gone-other, ticket_added-other, not_reader}
 
 free_reader : (b : Bool) (waits : Hold) → cond b Reads waits ≡ Free → (b ≡ false) × (waits ≡ Free)
 free_reader true waits e = absurd (cc e)

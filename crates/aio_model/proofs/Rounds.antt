@@ -1,10 +1,10 @@
 -- What stands between the entries of one index in a legal history.
 use Rattle.std.proofs.Common.{◌≡◌, ℕ, Bool, true, false, not, cond, ◌&&◌, ◌||◌, eqb, [], ◌∷◌, ◌++◌, refl, sym, ◌∙◌}
 use Rattle.std.proofs.lemmas.Bool.{eq-eqb, or_parts, and_parts}
-use Rattle.aio_model.specs.declared.flags.Flags.{Flags}
-use Rattle.aio_model.specs.LoopHistory.{ToDelete, Enqueue, Dequeue, History}
-use Rattle.aio_model.specs.LoopFlags.{is_pending, is_scheduled, was_scheduled, is_deleted, is_scheduling, is_deleting, cancels, enqueues, asks, ends_life, ends_round}
-use Rattle.aio_model.specs.LoopLaws.{some_entry, IsEnqueuedBetween, IsNeverCalledDeleted, IsLegalCutAnywhere}
+use Rattle.aio_model.specs.declared.loops.flags.Flags.{Flags}
+use Rattle.aio_model.specs.Loop.History.{ToDelete, Enqueue, Dequeue, History}
+use Rattle.aio_model.specs.Loop.Flags.{is_pending, is_scheduled, was_scheduled, is_deleted, is_scheduling, is_deleting, cancels, enqueues, asks, ends_life, ends_round}
+use Rattle.aio_model.specs.Loop.Laws.{some_entry, IsEnqueuedBetween, IsNeverCalledDeleted, IsLegalCutAnywhere}
 use Rattle.aio_model.proofs.AnnouncedOnce.{fits, head_is_pending}
 
 pub legal_cut : IsLegalCutAnywhere

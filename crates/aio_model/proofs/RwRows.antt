@@ -1,9 +1,9 @@
 -- The definitions of readers and a writer, on examples worked by hand.
-use Rattle.std.proofs.Common.{◌≡◌, ℕ, refl, [], ◌∷◌, Some, None}
-use Rattle.aio_model.specs.declared.holds.RwAnswer.TheVariants.{Got, Queued}
+use Rattle.std.proofs.Common.{◌≡◌, refl, [], ◌∷◌, Some, None}
+use Rattle.aio_model.specs.declared.holds.RwAnswer.TheVariants.{Queued}
 use Rattle.aio_model.specs.declared.holds.Wish.TheVariants as wish
-use Rattle.aio_model.specs.Readers.{Holders, Readers, Writer, Ticket, ReadersWriter}
-use Rattle.aio_model.specs.RwTable.{Woke, Exchanged, read_locked, write_locked, unlocked, downgraded, upgraded, wake_one}
+use Rattle.aio_model.specs.Holds.Readers.{Readers, Writer, ReadersWriter}
+use Rattle.aio_model.specs.Holds.Table.{Woke, Exchanged, read_locked, write_locked, unlocked, downgraded, upgraded, wake_one}
 
 abbrev begun : ReadersWriter
 begun = record { room = 4; holders = Readers []; tickets = [] }

@@ -1,7 +1,7 @@
 -- The first number that passes, and the first of a list.
 use Rattle.std.proofs.Common.{◌≡◌, ℕ, zero, suc, ◌+◌, ◌-◌, ◌<◌, ◌≤◌, Bool, true, false, cond, List, [], ◌∷◌, Some, refl, sym, arith}
 use Rattle.std.specs.List.{find}
-use Rattle.aio_model.specs.LoopLog.{first_from}
+use Rattle.aio_model.specs.Loop.Log.{first_from}
 
 module _ (t : ℕ → Bool) where
   pub first_from-next : (i n : ℕ) → i < n → t i ≡ false → first_from t (i + 1) (n - (i + 1)) ≡ first_from t i (n - i)

@@ -2,9 +2,9 @@
 use Rattle.std.proofs.Common.{◌≡◌, ℕ, zero, suc, pos, negsuc, true, false, List, [], ◌∷◌, map, ◌<◌, refl, sym, ◌∙◌, arith}
 use Rattle.std.proofs.lemmas.Bool.{false≢true}
 use Rattle.std.proofs.lemmas.Bool.Decides.{nat_tests}
-use Rattle.aio_model.specs.declared.timer_calls.TimerCall.{TimerCall}
-use Rattle.aio_model.specs.declared.timer_calls.TimerCall.TheVariants.{Add, Arm, RunBegin, Give}
-use Rattle.aio_model.specs.TimerCalls.{made, is_armed, expiry, place, is_marked, StandsBefore, IsFirstOfKind}
+use Rattle.aio_model.specs.declared.timers.calls.TimerCall.{TimerCall}
+use Rattle.aio_model.specs.declared.timers.calls.TimerCall.TheVariants.{Add, Arm, RunBegin, Give}
+use Rattle.aio_model.specs.Timers.Calls.{made, is_armed, expiry, place, is_marked, StandsBefore, IsFirstOfKind}
 
 -- what the three timers have
 abbrev of_three : {A : Type 0} → (ℕ → List TimerCall → A) → List TimerCall → List A

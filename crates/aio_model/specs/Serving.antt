@@ -1,11 +1,15 @@
 -- Serving one request: which replies it may get on an image of a size, and which bytes stand there afterwards.
 -- Places and lengths are whole numbers, so that nothing wraps. The bytes are those of the whole device: an image is
 -- its first bytes, `size` of them.
+
+pub mod Asked
+pub mod SerialHistory
+
 use Rattle.std.specs.Prelude.{◌≡◌, ℕ, ◌+◌, ◌%◌, ◌<◌, ◌≤◌, List, ◌++◌, length, take, drop, replicate, Option, IfSome}
-use Rattle.aio_model.specs.declared.requests.Request.{Request}
-use Rattle.aio_model.specs.declared.requests.Request.TheVariants.{Read, Write, Zero, Flush}
-use Rattle.aio_model.specs.declared.replies.Reply.{Reply}
-use Rattle.aio_model.specs.declared.replies.Reply.TheVariants.{Put, Got, Zeroed, Flushed, Eio, Einval}
+use Rattle.aio_model.specs.declared.serving.requests.Request.{Request}
+use Rattle.aio_model.specs.declared.serving.requests.Request.TheVariants.{Read, Write, Zero, Flush}
+use Rattle.aio_model.specs.declared.serving.replies.Reply.{Reply}
+use Rattle.aio_model.specs.declared.serving.replies.Reply.TheVariants.{Put, Got, Zeroed, Flushed, Eio, Einval}
 
 -- the bytes with this piece at this place
 abbrev pub put_at : ℕ → List ℕ → List ℕ → List ℕ

@@ -1,6 +1,6 @@
 -- Searches over indices and events by looks.
 use Rattle.std.proofs.Common.{Some, None, ◌≡◌, ℕ, zero, suc, ◌+◌, ◌<◌, ◌≤◌, Bool, true, false, cond, List, ◌∷◌, refl, sym, ap, ◌∙◌, subst, arith}
-use Rattle.aio_model.specs.LoopLog.{first_from}
+use Rattle.aio_model.specs.Loop.Log.{first_from}
 use Rattle.aio_core.specs.Words.{flags_at, event_at}
 use Rattle.aio_core.specs.Known.{ScanFlagsLoad, EventLoad, Kind, Done, Known}
 use Rattle.aio_core.specs.Standing.{done, Looks}

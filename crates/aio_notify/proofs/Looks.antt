@@ -1,7 +1,7 @@
 -- What the way to sleep leaves: a home that has scanned has still scanned after it looked at an event that wasn't set.
 use Rattle.std.proofs.Common.{◌≡◌, ℕ, zero, suc, ◌≤◌, ◌==◌, Bool, true, false, cond, eqb, Option, None, List, [], ◌∷◌, length, drop, refl, sym, ap, ◌∙◌, subst, arith, MatchBool, MatchOption}
 use Rattle.std.proofs.lemmas.Bool.{eq-eqb}
-use Rattle.aio_model.specs.LoopFlags.{are_urgent}
+use Rattle.aio_model.specs.Loop.Flags.{are_urgent}
 use Rattle.aio_core.specs.Known.{Known, Sleep, Running, Scanning, Scan}
 use Rattle.aio_core.specs.Standing.{is_empty}
 use Rattle.aio_core.specs.SleepSteps.{LoadsEvent, Disarms, after_any_load, made_after, scan_in}

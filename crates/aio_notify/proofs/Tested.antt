@@ -1,8 +1,8 @@
 -- What a commit says once it has tested.
 use Rattle.std.proofs.Common.{◌≡◌, ℕ, Bool, false, Option, None, MatchBool, MatchOption, sym, subst}
-use Rattle.aio_model.specs.declared.commits.Commit.{Commit}
-use Rattle.aio_model.specs.declared.commits.Commit.TheVariants.{Sleep, Awake}
-use Rattle.aio_model.specs.declared.commits.Why.TheVariants.{Urgent, Deadline, Notified}
+use Rattle.aio_model.specs.declared.loops.commits.Commit.{Commit}
+use Rattle.aio_model.specs.declared.loops.commits.Commit.TheVariants.{Sleep, Awake}
+use Rattle.aio_model.specs.declared.loops.commits.Why.TheVariants.{Urgent, Deadline, Notified}
 use Rattle.aio_core.specs.Known.{Known}
 use Rattle.aio_core.specs.Scans.{Scans}
 use Rattle.aio_notify.specs.Watching.{LooksOn}

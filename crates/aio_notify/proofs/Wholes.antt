@@ -1,11 +1,11 @@
 -- All numbers in one seat: what it knows, and what comes of it.
 use Rattle.std.proofs.Common.{Some, None, ◌≡◌, ℕ, zero, suc, Bool, true, false, eqb, cond, List, [], refl, sym, ap, ◌∙◌, subst, ⊎_elim}
 use Rattle.std.proofs.lemmas.Bool.{cases_Bool}
-use Rattle.aio_model.specs.LoopHistory.{Sizes}
-use Rattle.aio_model.specs.LoopLists.{is_set}
-use Rattle.aio_model.specs.LoopLegal.{IsLegal}
-use Rattle.aio_model.specs.LoopLog.{first_from}
-use Rattle.aio_model.specs.InFlight.{Reason, ForIndex, ForEvent, AtRest}
+use Rattle.aio_model.specs.Loop.History.{Sizes}
+use Rattle.aio_model.specs.Loop.Lists.{is_set}
+use Rattle.aio_model.specs.Loop.Legal.{IsLegal}
+use Rattle.aio_model.specs.Loop.Log.{first_from}
+use Rattle.aio_model.specs.Loop.InFlight.{Reason, ForIndex, ForEvent, AtRest}
 use Rattle.aio_core.specs.Words.{notifier_at, index_count}
 use Rattle.aio_core.specs.Known.{NotifierLoad, Sleep, Running, Scanning, Armed, ToDisarm, Committed, Known, calmed}
 use Rattle.aio_core.specs.Rule.{is_wanted, is_open}

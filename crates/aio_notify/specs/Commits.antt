@@ -1,8 +1,8 @@
 -- A commit of a home, as a run of the steps of the table.
 use Rattle.std.specs.Prelude.{◌≡◌, ℕ, ◌-◌, ◌==◌, min, nat_le, Bool, true, false, if◌then◌else◌, Option, None, Some, option_map, MatchOption, MatchBool}
-use Rattle.aio_model.specs.declared.commits.Commit.{Commit}
-use Rattle.aio_model.specs.declared.commits.Commit.TheVariants.{Sleep, Awake}
-use Rattle.aio_model.specs.declared.commits.Why.TheVariants.{Urgent, Deadline, Event, Notified}
+use Rattle.aio_model.specs.declared.loops.commits.Commit.{Commit}
+use Rattle.aio_model.specs.declared.loops.commits.Commit.TheVariants.{Sleep, Awake}
+use Rattle.aio_model.specs.declared.loops.commits.Why.TheVariants.{Urgent, Deadline, Event, Notified}
 use Rattle.aio_core.specs.Known.{Known, Committed, is_running}
 use Rattle.aio_core.specs.SleepSteps.{Arms, Tests, Disarms, ClearsNotifier, Accepts, scan_in, watched_in}
 use Rattle.aio_core.specs.Scans.{Scans}

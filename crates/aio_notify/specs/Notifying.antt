@@ -1,6 +1,6 @@
 -- A notify from any thread, as a run of the steps of the table.
 use Rattle.std.specs.Prelude.{◌≡◌, ℕ, ◌==◌, MatchBool}
-use Rattle.aio_model.specs.InFlight.{flight_of}
+use Rattle.aio_model.specs.Loop.InFlight.{flight_of}
 use Rattle.aio_core.specs.Known.{Known}
 use Rattle.aio_core.specs.Standing.{StoresNotified, LoadsNotifyMe, SetsNotifier}
 

@@ -1,11 +1,11 @@
 -- What a loop is settled by: home and the seat of all other numbers become one, and it looks at what the whole history says.
 use Rattle.std.specs.Prelude.{◌≡◌, ℕ, zero, suc, ◌==◌, Bool, true, false, Option, None, Some, []}
-use Rattle.aio_model.specs.LoopHistory.{Sizes, History}
-use Rattle.aio_model.specs.LoopFlags.{is_pending, is_urgent}
-use Rattle.aio_model.specs.LoopLists.{is_set}
-use Rattle.aio_model.specs.LoopLegal.{IsLegal}
-use Rattle.aio_model.specs.LoopLog.{first_from}
-use Rattle.aio_model.specs.InFlight.{Reason, AtRest}
+use Rattle.aio_model.specs.Loop.History.{Sizes, History}
+use Rattle.aio_model.specs.Loop.Flags.{is_pending, is_urgent}
+use Rattle.aio_model.specs.Loop.Lists.{is_set}
+use Rattle.aio_model.specs.Loop.Legal.{IsLegal}
+use Rattle.aio_model.specs.Loop.Log.{first_from}
+use Rattle.aio_model.specs.Loop.InFlight.{Reason, AtRest}
 use Rattle.aio_core.specs.Words.{notifier_at, flags_at, event_at, index_count}
 use Rattle.aio_core.specs.Known.{NotifierLoad, ScanFlagsLoad, EventLoad, Sleep, Committed, Known}
 use Rattle.aio_core.specs.Rule.{is_among, is_wanted, is_open}

@@ -1,7 +1,7 @@
 //! Events, after event_notifier_set of QEMU: any thread sets one and wakes home, and home looks which are set.
 ghost use Rattle.std.specs.Prelude.{◌≡◌, ◌<◌, ◌+◌, ◌^◌, if◌then◌else◌};
-ghost use Rattle.aio_model.specs.InFlight.{AtRest};
-ghost use Rattle.aio_model.specs.LoopHistory.{SetEvent};
+ghost use Rattle.aio_model.specs.Loop.InFlight.{AtRest};
+ghost use Rattle.aio_model.specs.Loop.History.{SetEvent};
 ghost use Rattle.aio_core.specs.Standing.{Makes};
 ghost use Rattle.aio_core.specs.Scans.{SameButSleep};
 ghost use Rattle.aio_core.specs.Calls.{IsSeatOf};

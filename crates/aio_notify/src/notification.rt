@@ -1,6 +1,6 @@
 //! A notify from any thread, after aio_notify of QEMU's util/async.c.
 ghost use Rattle.std.specs.Prelude.{◌≡◌, true};
-ghost use Rattle.aio_model.specs.InFlight.{AtRest};
+ghost use Rattle.aio_model.specs.Loop.InFlight.{AtRest};
 ghost use Rattle.aio_core.specs.Standing.{may_notify};
 ghost use Rattle.aio_core.specs.Calls.{IsSeatOf};
 ghost use Rattle.aio_notify.specs.Notifying.{Notifies};

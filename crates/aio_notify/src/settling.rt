@@ -1,7 +1,7 @@
 //! The end of a loop. Whoever has its table, its home and the seat of all other numbers knows that nobody else can step on it: home takes
 //! in all numbers, and looks once at each index and each event.
 ghost use Rattle.std.specs.Prelude.{◌≡◌, true, MatchOption};
-ghost use Rattle.aio_model.specs.InFlight.{AtRest};
+ghost use Rattle.aio_model.specs.Loop.InFlight.{AtRest};
 ghost use Rattle.aio_core.specs.Words.{index_count};
 ghost use Rattle.aio_core.specs.Splitting.{front_known, back_known};
 ghost use Rattle.aio_core.specs.Calls.{IsSeatOf};

@@ -2,7 +2,7 @@
 //! keep it awake, then says that it is about to sleep, and then looks whether anybody has notified it since its last accept. Who
 //! enqueues goes the other way round, so one of the two sees the other.
 ghost use Rattle.std.specs.Prelude.{◌≡◌, ◌-◌, [], None, Some, IfSome, option_map, if◌then◌else◌, true, false};
-ghost use Rattle.aio_model.specs.LoopFlags.{is_urgent};
+ghost use Rattle.aio_model.specs.Loop.Flags.{is_urgent};
 ghost use Rattle.aio_core.specs.Known.{is_running};
 ghost use Rattle.aio_core.specs.Scans.{IsAhead, SameButSleep};
 ghost use Rattle.aio_core.specs.Calls.{IsSeatOf};

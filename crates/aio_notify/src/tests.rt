@@ -1,6 +1,6 @@
 //! How a home commits and what keeps it awake, step by step on one thread.
 ghost use Rattle.std.specs.Prelude.{◌≡◌, ◌<◌, true, [], None};
-ghost use Rattle.aio_model.specs.InFlight.{AtRest, Announced as announced};
+ghost use Rattle.aio_model.specs.Loop.InFlight.{AtRest, Announced as announced};
 ghost use Rattle.aio_core.specs.Standing.{may_notify};
 ghost use Rattle.aio_core.specs.Known.{is_running};
 ghost use Rattle.aio_core.specs.Scans.{IsAhead};

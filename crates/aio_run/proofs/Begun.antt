@@ -3,9 +3,9 @@ use Rattle.std.proofs.Common.{◌≡◌, ◌≢◌, ℕ, zero, suc, ◌<◌, ◌
 use Rattle.std.proofs.lemmas.Bool.{eqb-true, eqb-false, ne_eqb}
 use mathlib.Core.Option.{some}
 use lib.ListN.{get_elem?}
-use Rattle.aio_model.specs.declared.causes.Cause.TheVariants.{Begin}
-use Rattle.aio_model.specs.declared.scripts.Stream.{Stream as StreamLine}
-use Rattle.aio_model.specs.CoroutineHistory.{Schedule, Push, History}
+use Rattle.aio_model.specs.declared.coroutines.causes.Cause.TheVariants.{Begin}
+use Rattle.aio_model.specs.declared.scripts.image_scripts.Stream.{Stream as StreamLine}
+use Rattle.aio_model.specs.Coroutines.History.{Schedule, Push, History}
 use Rattle.co_schedule.specs.Standing.{was_scheduled}
 use Rattle.loop_rows.specs.declared.seats.Seats.{Seats}
 use Rattle.co_schedule.proofs.Unmarked.{unmarked}

@@ -4,8 +4,8 @@ use Rattle.std.proofs.lemmas.Bool.{cases_lt, cases_Bool, false≢true, and_from,
 use mathlib.Core.Logic.{⊎_elim}
 use Rattle.table_seats.specs.Seats.{Numbers, owns, own_entries}
 use Rattle.table_seats.proofs.Entries.{own-here, own-other}
-use Rattle.aio_model.specs.declared.causes.Cause.TheVariants.{Begin, Wake, Move}
-use Rattle.aio_model.specs.CoroutineHistory.{Entry, Schedule, Push, Enter, History, seat_of, IsLegal}
+use Rattle.aio_model.specs.declared.coroutines.causes.Cause.TheVariants.{Begin, Wake, Move}
+use Rattle.aio_model.specs.Coroutines.History.{Entry, Schedule, Push, Enter, History, seat_of, IsLegal}
 use Rattle.loop_threads.proofs.Holding.{fewer}
 use Rattle.aio_run.specs.Posting.{all_numbers, begun_on}
 use Rattle.aio_run.specs.Serving.{begins_of, beginning_on}

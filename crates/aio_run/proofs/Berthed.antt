@@ -3,7 +3,7 @@ use Rattle.std.proofs.Common.{◌≡◌, ◌≢◌, ℕ, zero, suc, ◌<◌, Opt
 use Rattle.std.proofs.lemmas.Bool.{cases_eq}
 use Rattle.std.proofs.lemmas.List.{get_or-set_same, get_or-set_other, length-replicate}
 use mathlib.Core.Logic.{⊎_elim}
-use Rattle.aio_model.specs.declared.scripts.Script.{Script}
+use Rattle.aio_model.specs.declared.scripts.image_scripts.Script.{Script}
 use Rattle.co_mutex.specs.declared.lock.CoMutex.{CoMutex}
 use Rattle.img_shared.specs.Images.{ImageState}
 use Rattle.img_shared.specs.Notes.{Note}

@@ -3,10 +3,10 @@ use Rattle.std.proofs.Common.{◌≡◌, ◌≢◌, ℕ, zero, suc, ◌+◌, ◌
 use Rattle.std.proofs.lemmas.Bool.{false≢true, eq-eqb, ne_eqb}
 use Rattle.std.proofs.lemmas.List.Sums.{sum_by-cons, sum-map}
 use Rattle.std.specs.List.{AllByRecursion}
-use Rattle.aio_model.specs.declared.causes.Cause.TheVariants.{Begin, Wake, Move}
-use Rattle.aio_model.specs.declared.scripts.Script.{Script}
-use Rattle.aio_model.specs.declared.scripts.Stream.{Stream as StreamLine}
-use Rattle.aio_model.specs.CoroutineHistory.{Schedule, Push, Enter, History}
+use Rattle.aio_model.specs.declared.coroutines.causes.Cause.TheVariants.{Begin, Wake, Move}
+use Rattle.aio_model.specs.declared.scripts.image_scripts.Script.{Script}
+use Rattle.aio_model.specs.declared.scripts.image_scripts.Stream.{Stream as StreamLine}
+use Rattle.aio_model.specs.Coroutines.History.{Schedule, Push, Enter, History}
 use Rattle.aio_script.specs.Bounds.{IsAtHome, IsBounded}
 use Rattle.co_schedule.specs.States.{counted as held, states_given}
 use Rattle.stream_ends.specs.Images.{homes_of}

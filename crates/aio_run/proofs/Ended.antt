@@ -2,7 +2,7 @@
 use Rattle.std.proofs.Common.{◌≡◌, ℕ, suc, ◌-◌, ◌<◌, Bool, None, Some, List, [], ◌∷◌, length, slice_index_or, sym, ap, ◌∙◌, subst, arith}
 use Rattle.std.specs.List.{AllByRecursion}
 use Rattle.aio_core.specs.Known.{Known}
-use Rattle.aio_model.specs.CoroutineHistory.{IsLegal}
+use Rattle.aio_model.specs.Coroutines.History.{IsLegal}
 use Rattle.co_schedule.specs.Calls.{AreFree}
 use Rattle.co_loop.specs.declared.working.CoWork.{CoWork}
 use Rattle.co_loop.specs.Rows.{AreOfOrigin}

@@ -2,8 +2,8 @@
 use Rattle.std.proofs.Common.{◌≡◌, ℕ, ◌<◌, ◌≤◌, Bool, true, false, cond, eqb, [], ◌∷◌, refl, sym, ap, ◌∙◌, subst, arith}
 use Rattle.std.proofs.lemmas.Bool.{eqb-true, ne_eqb, cases_lt}
 use mathlib.Core.Logic.{⊎_elim}
-use Rattle.aio_model.specs.declared.causes.Cause.{Cause}
-use Rattle.aio_model.specs.CoroutineHistory.{Schedule, Push, Enter, History, CoPlace, Free, Scheduled, Pushed, pushed, place_of, IsLegal}
+use Rattle.aio_model.specs.declared.coroutines.causes.Cause.{Cause}
+use Rattle.aio_model.specs.Coroutines.History.{Schedule, Push, Enter, History, CoPlace, Free, Scheduled, Pushed, pushed, place_of, IsLegal}
 use Rattle.co_schedule.proofs.Histories.{first_is_pushed}
 use Rattle.aio_run.specs.Serving.{entries_for, AreEntered}
 

@@ -1,7 +1,7 @@
 -- What the history of an ended loop tells: handle 0 was called where home entered a coroutine, and event 0 was cleared.
 use Rattle.std.proofs.Common.{◌≡◌, ℕ, ◌<◌, ◌-◌, true, false, inl, List, length, slice_index_or, refl, sym, ap, ◌∙◌, arith}
 use Rattle.std.proofs.lemmas.Bool.{false≢true}
-use Rattle.aio_model.specs.LoopLaws.{some_entry}
+use Rattle.aio_model.specs.Loop.Laws.{some_entry}
 use Rattle.aio_core.specs.Known.{Known}
 use Rattle.co_state.specs.Wants.{Wants}
 use Rattle.co_state.specs.declared.co.CoStep.{CoStep}

@@ -1,10 +1,10 @@
 -- In a poll each entry into the runner for an index stands behind a dequeue of it that called.
 use Rattle.std.proofs.Common.{◌≡◌, ℕ, zero, suc, Bool, true, false, ◌==◌, ◌||◌, Option, None, MatchBool, List, [], ◌∷◌, ◌++◌, refl, sym, ap, ◌∙◌, subst, inl, inr}
 use Rattle.std.proofs.lemmas.Bool.{false≢true}
-use Rattle.aio_model.specs.LoopHistory.{Sizes, Take, Dequeue, Free, History}
-use Rattle.aio_model.specs.LoopFlags.{is_lot}
-use Rattle.aio_model.specs.LoopFrame.{Lent, Answer, Entered, PollPlace, Makes, EntersRunner, Body, Turn, Turns, nests_above, Frame, lent_of, start_of}
-use Rattle.aio_model.specs.LoopLaws.{some_entry}
+use Rattle.aio_model.specs.Loop.History.{Sizes, Take, Dequeue, Free, History}
+use Rattle.aio_model.specs.Loop.Flags.{is_lot}
+use Rattle.aio_model.specs.Loop.Frame.{Lent, Answer, Entered, PollPlace, Makes, EntersRunner, Body, Turn, Turns, nests_above, Frame, lent_of, start_of}
+use Rattle.aio_model.specs.Loop.Laws.{some_entry}
 use Rattle.aio_run.specs.Turned.{calls}
 use Rattle.aio_run.proofs.HomeGrows.{StandsOn, by_more}
 

@@ -2,11 +2,11 @@
 use Rattle.std.proofs.Common.{◌≡◌, ℕ, zero, suc, Bool, true, false, ◌==◌, nat_lt, Option, Some, None, MatchBool, MatchOption, List, [], ◌∷◌, ◌++◌, sym, ap, ◌∙◌, subst}
 use Rattle.std.proofs.lemmas.Bool.{or_right}
 use mathlib.Core.Logic.{⊎_elim}
-use Rattle.aio_model.specs.declared.commits.Commit.{Commit}
-use Rattle.aio_model.specs.declared.commits.Commit.TheVariants.{Sleep, Awake}
-use Rattle.aio_model.specs.declared.commits.Why.TheVariants.{Urgent, Deadline, Event}
-use Rattle.aio_model.specs.LoopHistory.{Entry, History}
-use Rattle.aio_model.specs.LoopLaws.{some_entry}
+use Rattle.aio_model.specs.declared.loops.commits.Commit.{Commit}
+use Rattle.aio_model.specs.declared.loops.commits.Commit.TheVariants.{Sleep, Awake}
+use Rattle.aio_model.specs.declared.loops.commits.Why.TheVariants.{Urgent, Deadline, Event}
+use Rattle.aio_model.specs.Loop.History.{Entry, History}
+use Rattle.aio_model.specs.Loop.Laws.{some_entry}
 use Rattle.aio_core.specs.Known.{Known}
 use Rattle.aio_core.specs.Scans.{LookedAt, Passes, PassesAll, Scans}
 use Rattle.aio_core.specs.SleepSteps.{Learns, Disarms, LoadsEvent, ClearsEvent}

@@ -2,9 +2,9 @@
 use Rattle.std.proofs.Common.{◌≡◌, ℕ, zero, suc, ◌<◌, Bool, true, false, ◌==◌, ◌||◌, nat_lt, MatchBool, List, [], ◌∷◌, ◌⊎◌, inl, inr, refl, sym, ap, ◌∙◌, subst, length, arith}
 use Rattle.std.proofs.lemmas.Bool.{false≢true, eq-eqb, eqb-true, and_parts, or_parts, lt-ltb}
 use mathlib.Core.Logic.{⊎_elim}
-use Rattle.aio_model.specs.LoopFrame.{Entered, DoesEntries}
-use Rattle.aio_model.specs.LoopHistory.{History, Sizes}
-use Rattle.aio_model.specs.LoopLaws.{some_entry}
+use Rattle.aio_model.specs.Loop.Frame.{Entered, DoesEntries}
+use Rattle.aio_model.specs.Loop.History.{History, Sizes}
+use Rattle.aio_model.specs.Loop.Laws.{some_entry}
 use Rattle.aio_core.specs.Known.{Known}
 use Rattle.aio_core.specs.SleepSteps.{ClearsEvent}
 use Rattle.lot_pool.specs.Pools.{PoolState, PassState}

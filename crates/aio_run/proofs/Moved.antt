@@ -1,6 +1,6 @@
 -- Who moves to a loop in a run goes there by an answer of its own.
 use Rattle.std.proofs.Common.{◌≡◌, ℕ, ◌-◌, ◌*◌, ◌<◌, ◌≤◌, true, false, MatchOption, Option, None, List, [], ◌∷◌, length, slice_index_or, refl, sym, ap, ◌∙◌, subst, arith}
-use Rattle.aio_model.specs.declared.causes.Cause.TheVariants.{Wake, Move}
+use Rattle.aio_model.specs.declared.coroutines.causes.Cause.TheVariants.{Wake, Move}
 use Rattle.co_state.specs.Wants.{Wants}
 use Rattle.co_state.specs.declared.co.CoStep.{CoStep}
 use Rattle.co_state.specs.declared.co.CoStep.TheVariants as step

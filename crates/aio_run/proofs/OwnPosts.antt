@@ -4,8 +4,8 @@ use Rattle.std.proofs.lemmas.Bool.{cases_eq}
 use mathlib.Core.Logic.{⊎_elim}
 use Rattle.table_seats.specs.Seats.{Numbers, owns, own_entries}
 use Rattle.table_seats.proofs.Entries.{own-append, own-here, owns_first}
-use Rattle.aio_model.specs.declared.causes.Cause.{Cause}
-use Rattle.aio_model.specs.CoroutineHistory.{Entry, Schedule, Push, History, seat_of}
+use Rattle.aio_model.specs.declared.coroutines.causes.Cause.{Cause}
+use Rattle.aio_model.specs.Coroutines.History.{Entry, Schedule, Push, History, seat_of}
 use Rattle.co_schedule.specs.Known.{Known, numbers_of}
 use Rattle.co_schedule.specs.Standing.{Makes, Missed, SchedulesAtLast}
 use Rattle.loop_rows.specs.declared.seats.Seats.{Seats}

@@ -2,8 +2,8 @@
 use Rattle.std.proofs.Common.{◌≡◌, ℕ, ◌+◌, ◌-◌, ◌*◌, ◌<◌, ◌≤◌, true, false, List, [], ◌∷◌, length, map, slice_index_or, sym, ap, ◌∙◌, arith}
 use Rattle.std.proofs.Math.ListN.{get_or-map}
 use Rattle.table_seats.specs.Seats.{Numbers, own_entries}
-use Rattle.aio_model.specs.declared.causes.Cause.TheVariants.{Wake, Move}
-use Rattle.aio_model.specs.CoroutineHistory.{History, seat_of}
+use Rattle.aio_model.specs.declared.coroutines.causes.Cause.TheVariants.{Wake, Move}
+use Rattle.aio_model.specs.Coroutines.History.{History, seat_of}
 use Rattle.co_state.specs.Wants.{Wants}
 use Rattle.co_state.specs.declared.co.CoStep.{CoStep}
 use Rattle.co_schedule.specs.Known.{Known, numbers_of}

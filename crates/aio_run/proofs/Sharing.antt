@@ -5,8 +5,8 @@ use denote.Ref.{NamedLft, ShrRef}
 use denote.Param.Send.{IsSend, IsSync, sendable, shr_sync, view_send}
 use denote.Param.SendFields.{declared_send, declared_sync, as_row_send, as_row_sync}
 use denote.Struct.Field.{row_field, shr_ref_field}
-use Rattle.aio_model.proofs.scripts.Script.TheSendSync.{the_sync as script_sync}
-use Rattle.aio_model.specs.contracts.scripts.Script as Script
+use Rattle.aio_model.proofs.scripts.image_scripts.Script.TheSendSync.{the_sync as script_sync}
+use Rattle.aio_model.specs.contracts.scripts.image_scripts.Script as Script
 use Rattle.aio_words.specs.declared.traits.Device.{Ghosts}
 use Rattle.co_mutex.proofs.lock.CoMutex.TheSendSync.{the_sync as lock_sync}
 use Rattle.co_mutex.specs.contracts.lock.CoMutex as CoMutex

@@ -4,9 +4,9 @@ use Rattle.std.proofs.lemmas.Bool.{false≢true, cases_eq, eq-eqb, or_left, or_r
 use mathlib.Core.Logic.{⊎_elim}
 use Rattle.table_seats.specs.Seats.{Numbers, owns, own_entries}
 use Rattle.aio_chain.specs.LinkList.{contains}
-use Rattle.aio_model.specs.declared.causes.Cause.TheVariants.{Begin, Wake, Move}
-use Rattle.aio_model.specs.CoroutineHistory.{Entry, Schedule, Push, Enter, History, seat_of}
-use Rattle.aio_model.specs.LoopLaws.{some_entry}
+use Rattle.aio_model.specs.declared.coroutines.causes.Cause.TheVariants.{Begin, Wake, Move}
+use Rattle.aio_model.specs.Coroutines.History.{Entry, Schedule, Push, Enter, History, seat_of}
+use Rattle.aio_model.specs.Loop.Laws.{some_entry}
 use Rattle.co_state.specs.Wants.{Wants}
 use Rattle.co_state.specs.declared.co.CoStep.{CoStep}
 use Rattle.co_schedule.specs.Known.{Known as CoKnown, numbers_of}

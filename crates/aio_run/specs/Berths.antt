@@ -1,6 +1,6 @@
 -- The places of the streams that have ended.
 use Rattle.std.specs.Prelude.{◌≡◌, ℕ, Option, None, Some, List, length, slice_index_or}
-use Rattle.aio_model.specs.declared.scripts.Script.{Script}
+use Rattle.aio_model.specs.declared.scripts.image_scripts.Script.{Script}
 use Rattle.co_mutex.specs.declared.lock.CoMutex.{CoMutex}
 use Rattle.img_shared.specs.Images.{ImageState}
 use Rattle.img_shared.specs.Notes.{Note}

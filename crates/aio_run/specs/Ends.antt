@@ -1,7 +1,7 @@
 -- Loops whose run is over.
 use Rattle.std.specs.Prelude.{◌≡◌, ℕ, Bool, List}
 use Rattle.std.specs.List.{list_any}
-use Rattle.aio_model.specs.CoroutineHistory.{IsLegal}
+use Rattle.aio_model.specs.Coroutines.History.{IsLegal}
 use Rattle.aio_core.specs.Known.{Known}
 use Rattle.aio_notify.specs.Settling.{IsEnd}
 use Rattle.co_loop.specs.declared.working.CoWork.{CoWork}

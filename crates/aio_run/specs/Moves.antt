@@ -1,6 +1,6 @@
 -- How often coroutines began and moved in a run, over all of its loops.
 use Rattle.std.specs.Prelude.{◌≡◌, ℕ, ◌-◌, ◌^◌, ◌<◌, min, List, length, map, sum, slice_index_or}
-use Rattle.aio_model.specs.declared.scripts.Script.{Script}
+use Rattle.aio_model.specs.declared.scripts.image_scripts.Script.{Script}
 use Rattle.co_schedule.specs.States.{states_given}
 use Rattle.aio_run.specs.declared.running.RunEnd.{RunEnd}
 use Rattle.aio_run.specs.Serving.{begins_of, moves_of, HasServed}

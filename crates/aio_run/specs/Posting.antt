@@ -1,10 +1,10 @@
 -- What the posts of a script's streams make on its loops.
 use Rattle.std.specs.Prelude.{◌≡◌, ℕ, zero, suc, ◌<◌, ◌==◌, true, if◌then◌else◌, List, [], ◌∷◌, length, slice_index, slice_index_or}
-use Rattle.aio_model.specs.declared.causes.Cause.TheVariants.{Begin}
+use Rattle.aio_model.specs.declared.coroutines.causes.Cause.TheVariants.{Begin}
 use Rattle.table_seats.specs.Seats.{Numbers, own_entries}
-use Rattle.aio_model.specs.CoroutineHistory.{Schedule, Push, History, seat_of}
+use Rattle.aio_model.specs.Coroutines.History.{Schedule, Push, History, seat_of}
 use Rattle.co_schedule.specs.Known.{numbers_of}
-use Rattle.aio_model.specs.LoopLaws.{some_entry}
+use Rattle.aio_model.specs.Loop.Laws.{some_entry}
 use Rattle.loop_rows.specs.Opening.{loop_sizes}
 use Rattle.loop_rows.specs.declared.seats.Seats.{Seats}
 use Rattle.loop_rows.specs.declared.shared.LoopShared.{LoopShared}

@@ -1,6 +1,6 @@
 -- What a run of a script begins with.
 use Rattle.std.specs.Prelude.{◌≡◌, ℕ, ◌<◌, ◌≤◌, max, false, List, [], None, length, replicate, slice_index_or, vec_len, vec_capacity}
-use Rattle.aio_model.specs.declared.scripts.Script.{Script}
+use Rattle.aio_model.specs.declared.scripts.image_scripts.Script.{Script}
 use Rattle.co_loop.specs.declared.working.CoWork.{CoWork}
 use Rattle.co_loop.specs.Rows.{AreOfOrigin}
 use Rattle.co_mutex.specs.declared.lock.CoMutex.{CoMutex}

@@ -1,13 +1,13 @@
 -- What stands in the history of the coroutines of a loop that served a script.
 use Rattle.std.specs.Prelude.{◌≡◌, ℕ, zero, suc, ◌==◌, ◌&&◌, Bool, true, false, not, if◌then◌else◌, List, [], ◌∷◌, length, map, slice_index}
 use Rattle.std.specs.List.{AllByRecursion, list_any}
-use Rattle.aio_model.specs.declared.causes.Cause.{Cause}
-use Rattle.aio_model.specs.declared.causes.Cause.TheVariants.{Begin, Wake, Move}
-use Rattle.aio_model.specs.declared.scripts.Script.{Script}
-use Rattle.aio_model.specs.declared.scripts.Step.{Step}
-use Rattle.aio_model.specs.declared.scripts.What.{What}
-use Rattle.aio_model.specs.declared.scripts.What.TheVariants as what
-use Rattle.aio_model.specs.CoroutineHistory.{Schedule, Push, Enter, History}
+use Rattle.aio_model.specs.declared.coroutines.causes.Cause.{Cause}
+use Rattle.aio_model.specs.declared.coroutines.causes.Cause.TheVariants.{Begin, Wake, Move}
+use Rattle.aio_model.specs.declared.scripts.image_scripts.Script.{Script}
+use Rattle.aio_model.specs.declared.scripts.image_scripts.Step.{Step}
+use Rattle.aio_model.specs.declared.scripts.image_scripts.What.{What}
+use Rattle.aio_model.specs.declared.scripts.image_scripts.What.TheVariants as what
+use Rattle.aio_model.specs.Coroutines.History.{Schedule, Push, Enter, History}
 use Rattle.stream_ends.specs.Images.{homes_of}
 
 -- which coroutines were scheduled to begin, the last one first

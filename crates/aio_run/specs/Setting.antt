@@ -1,6 +1,6 @@
 -- Entries of a loop's history by which an event is set and cleared.
 use Rattle.std.specs.Prelude.{ℕ, Bool, false, ◌&&◌, ◌==◌}
-use Rattle.aio_model.specs.LoopHistory.{Entry, SetEvent, ClearEvent}
+use Rattle.aio_model.specs.Loop.History.{Entry, SetEvent, ClearEvent}
 
 -- the entry sets the event
 abbrev pub sets : ℕ → Entry → Bool

@@ -1,8 +1,8 @@
 -- What stands in the history of a loop that served a script: that its coroutines were called, and that its run was ended.
 use Rattle.std.specs.Prelude.{◌≡◌, ℕ, ◌<◌, Bool, true, false, ◌&&◌, ◌==◌, length, slice_index}
-use Rattle.aio_model.specs.declared.scripts.Script.{Script}
-use Rattle.aio_model.specs.LoopHistory.{Entry, Dequeue, History}
-use Rattle.aio_model.specs.LoopLaws.{some_entry}
+use Rattle.aio_model.specs.declared.scripts.image_scripts.Script.{Script}
+use Rattle.aio_model.specs.Loop.History.{Entry, Dequeue, History}
+use Rattle.aio_model.specs.Loop.Laws.{some_entry}
 use Rattle.stream_ends.specs.Images.{homes_of}
 use Rattle.aio_run.specs.Setting.{clears, finds_set}
 

@@ -63,7 +63,7 @@ fn coroutines_for(script: &Script) -> u32
 
 /// What the coroutines of a script's streams are made over: the tables of its loops take states of that alone.
 pub(crate) trait Sourced<C: Origin> {
-    ghost use Rattle.aio_model.specs.declared.scripts.Script.{Script};
+    ghost use Rattle.aio_model.specs.declared.scripts.image_scripts.Script.{Script};
 
     ghost source: { Self → Script → C.Source };
 }

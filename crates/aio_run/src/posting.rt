@@ -1,7 +1,7 @@
 //! Each stream is posted to its home.
 ghost use Rattle.std.specs.Prelude.{◌≡◌, ◌<◌, ◌≤◌, ◌+◌, ◌∷◌, ℕ, true, false, length, slice_index, slice_index_or};
-ghost use Rattle.aio_model.specs.declared.causes.Cause.TheVariants.{Begin};
-ghost use Rattle.aio_model.specs.CoroutineHistory.{Schedule, Push};
+ghost use Rattle.aio_model.specs.declared.coroutines.causes.Cause.TheVariants.{Begin};
+ghost use Rattle.aio_model.specs.Coroutines.History.{Schedule, Push};
 ghost use Rattle.co_loop.specs.Rows.{AreOfOrigin};
 ghost use Rattle.co_schedule.specs.Standing.{was_scheduled};
 ghost use Rattle.img_streams.specs.Streams.{IsStreamAt, source};

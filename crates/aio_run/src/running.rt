@@ -1,7 +1,7 @@
 //! The run of a script.
 ghost use Rattle.std.specs.Prelude.{◌≡◌, ◌+◌, ◌<◌, ◌≤◌, ℕ, None, length, map, replicate, slice_index_or, vec_len, vec_capacity, []};
 ghost use Rattle.std.specs.List.{AllByRecursion};
-ghost use Rattle.aio_model.specs.SerialHistory.{eios_of};
+ghost use Rattle.aio_model.specs.Serving.SerialHistory.{eios_of};
 ghost use Rattle.aio_script.specs.Bounds.{IsBounded};
 ghost use Rattle.aio_words.specs.Called.{failures_in, sizes_asked};
 ghost use Rattle.aio_words.specs.Faults.{HasRisenBy};

@@ -1,12 +1,12 @@
 -- Each loop script that the grammar gives is within the limits.
 use Rattle.std.proofs.Common.{◌≡◌, ℕ, ◌+◌, ◌<◌, ◌≤◌, ◌==◌, ◌&&◌, Bool, true, false, inl, inr, nat_le, nat_lt, if◌then◌else◌, List, [], ◌∷◌, ◌++◌, length, length-append, codes, refl, ap, ◌∙◌, subst, arith, Result, Ok, Err, IfOk}
 use Rattle.std.proofs.lemmas.Bool.{cases_Bool, leb-true, ltb-true, and_parts, eqb-true}
-use Rattle.aio_model.specs.declared.loop_scripts.Act.{Act}
-use Rattle.aio_model.specs.declared.loop_scripts.ActKind.{ActKind}
-use Rattle.aio_model.specs.declared.loop_scripts.ActKind.TheVariants as act
-use Rattle.aio_model.specs.declared.loop_scripts.Command.{Command}
-use Rattle.aio_model.specs.declared.loop_scripts.Command.TheVariants as command
-use Rattle.aio_model.specs.declared.loop_scripts.LoopScript.{LoopScript}
+use Rattle.aio_model.specs.declared.scripts.loop_scripts.Act.{Act}
+use Rattle.aio_model.specs.declared.scripts.loop_scripts.ActKind.{ActKind}
+use Rattle.aio_model.specs.declared.scripts.loop_scripts.ActKind.TheVariants as act
+use Rattle.aio_model.specs.declared.scripts.loop_scripts.Command.{Command}
+use Rattle.aio_model.specs.declared.scripts.loop_scripts.Command.TheVariants as command
+use Rattle.aio_model.specs.declared.scripts.loop_scripts.LoopScript.{LoopScript}
 use Rattle.aio_script.specs.declared.refusals.ScriptRefusal.{ScriptRefusal}
 use Rattle.aio_script.specs.declared.refusals.ScriptFail.{ScriptFail}
 use Rattle.aio_script.specs.declared.loop_form.Verb.{Verb}

@@ -1,7 +1,7 @@
 -- The grammar of loop scripts at small texts, computed: what stands here was worked out by hand.
 use Rattle.std.proofs.Common.{◌≡◌, [], ◌∷◌, refl, codes, Ok, Err}
-use Rattle.aio_model.specs.declared.loop_scripts.ActKind.TheVariants as act
-use Rattle.aio_model.specs.declared.loop_scripts.Command.TheVariants as command
+use Rattle.aio_model.specs.declared.scripts.loop_scripts.ActKind.TheVariants as act
+use Rattle.aio_model.specs.declared.scripts.loop_scripts.Command.TheVariants as command
 use Rattle.aio_script.specs.declared.refusals.ScriptRefusal.TheVariants.{BadLine, BadNumber, OutOfLimit, NoHeader}
 use Rattle.aio_script.specs.LoopGrammar.{loop_script_said}
 

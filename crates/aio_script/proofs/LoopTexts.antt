@@ -1,8 +1,8 @@
 -- The text of a commit, where it is known which one it is.
 use Rattle.std.proofs.Common.{◌≡◌, ℕ, List, Option, Result, ap, sym}
-use Rattle.aio_model.specs.declared.commits.Commit.{Commit}
-use Rattle.aio_model.specs.declared.loop_replies.LoopReply.TheVariants.{Committed}
-use Rattle.aio_model.specs.LoopLines.{reply_text}
+use Rattle.aio_model.specs.declared.loops.commits.Commit.{Commit}
+use Rattle.aio_model.specs.declared.scripts.loop_replies.LoopReply.TheVariants.{Committed}
+use Rattle.aio_model.specs.Scripts.LoopLines.{reply_text}
 use Rattle.aio_script.specs.declared.print.WriteFault.{WriteFault}
 use Rattle.aio_script.specs.Printing.{PutsOnPage}
 use Rattle.aio_script.proofs.Gathered.{PutsOnPage-same}

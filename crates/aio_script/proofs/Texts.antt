@@ -6,7 +6,7 @@ use Rattle.std.proofs.lemmas.List.{take-append-drop, take_more}
 use Rattle.std.proofs.lemmas.List.Concat.{flat_map-append}
 use Rattle.std.proofs.Math.Seq.{take-add}
 use Rattle.hex.specs.Hex.{encode_lower, encode_with}
-use Rattle.aio_model.specs.PrintedText.{hex_of, data_text}
+use Rattle.aio_model.specs.Scripts.PrintedText.{hex_of, data_text}
 
 -- the parts up to one of them, and the parts behind it
 pub flat_map_around : {X A : Type 0} (f : X → List A) (xs : List X) (i : ℕ) (d : X) → i < length xs

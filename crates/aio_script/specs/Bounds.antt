@@ -1,11 +1,11 @@
 -- What holds of each script.
 use Rattle.std.specs.Prelude.{◌≡◌, ℕ, ◌<◌, ◌≤◌, nat_eq, true, List, length, map}
 use Rattle.std.specs.List.{AllByRecursion, IsDistinct}
-use Rattle.aio_model.specs.declared.scripts.Stream.{Stream}
-use Rattle.aio_model.specs.declared.scripts.Step.{Step}
-use Rattle.aio_model.specs.declared.scripts.What.{What}
-use Rattle.aio_model.specs.declared.scripts.What.TheVariants.{Ask, Delay, Move}
-use Rattle.aio_model.specs.declared.scripts.Script.{Script}
+use Rattle.aio_model.specs.declared.scripts.image_scripts.Stream.{Stream}
+use Rattle.aio_model.specs.declared.scripts.image_scripts.Step.{Step}
+use Rattle.aio_model.specs.declared.scripts.image_scripts.What.{What}
+use Rattle.aio_model.specs.declared.scripts.image_scripts.What.TheVariants.{Ask, Delay, Move}
+use Rattle.aio_model.specs.declared.scripts.image_scripts.Script.{Script}
 use Rattle.aio_model.specs.Serving.{length_of}
 use Rattle.aio_script.specs.Grammar.{counts_of, has_stream}
 

@@ -2,13 +2,13 @@
 -- its form is looked at first, then its numbers and data, then its limits, and last whether its stream was declared.
 use Rattle.std.specs.Prelude.{ℕ, ◌+◌, ◌==◌, ◌&&◌, Bool, false, not, nat_le, nat_lt, List, [], ◌∷◌, ◌++◌, length, count_by, sum_by, codes, Option, Some, None, Result, Ok, Err, if◌then◌else◌}
 use Rattle.std.specs.List.{list_any, filter_map}
-use Rattle.aio_model.specs.declared.requests.Request.TheVariants.{Read, Write, Zero, Flush}
-use Rattle.aio_model.specs.declared.scripts.Stream.{Stream}
-use Rattle.aio_model.specs.declared.scripts.Step.{Step}
-use Rattle.aio_model.specs.declared.scripts.What.{What}
-use Rattle.aio_model.specs.declared.scripts.What.TheVariants.{Ask, Delay, Move}
-use Rattle.aio_model.specs.declared.scripts.Script.{Script}
-use Rattle.aio_model.specs.Asked.{is_ask}
+use Rattle.aio_model.specs.declared.serving.requests.Request.TheVariants.{Read, Write, Zero, Flush}
+use Rattle.aio_model.specs.declared.scripts.image_scripts.Stream.{Stream}
+use Rattle.aio_model.specs.declared.scripts.image_scripts.Step.{Step}
+use Rattle.aio_model.specs.declared.scripts.image_scripts.What.{What}
+use Rattle.aio_model.specs.declared.scripts.image_scripts.What.TheVariants.{Ask, Delay, Move}
+use Rattle.aio_model.specs.declared.scripts.image_scripts.Script.{Script}
+use Rattle.aio_model.specs.Serving.Asked.{is_ask}
 use Rattle.aio_script.specs.declared.refusals.ScriptRefusal.{ScriptRefusal}
 use Rattle.aio_script.specs.declared.refusals.ScriptRefusal.TheVariants.{BadLine, BadNumber, OutOfLimit, UnknownStream, NoHeader}
 use Rattle.aio_script.specs.declared.said.Said.{Said}

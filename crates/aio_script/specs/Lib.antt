@@ -10,8 +10,8 @@ pub mod Printing
 pub mod Progress
 pub mod Reading
 pub mod Text
-pub use Rattle.aio_model.specs.Asked
-pub use Rattle.aio_model.specs.LoopLines
-pub use Rattle.aio_model.specs.PrintedText
+pub use Rattle.aio_model.specs.Serving.Asked
+pub use Rattle.aio_model.specs.Scripts.LoopLines
+pub use Rattle.aio_model.specs.Scripts.PrintedText
 pub use Rattle.aio_words.specs.Content
 pub use Rattle.aio_words.specs.Faults

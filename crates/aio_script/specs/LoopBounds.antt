@@ -1,12 +1,12 @@
 -- What holds of each loop script.
 use Rattle.std.specs.Prelude.{ℕ, ◌<◌, ◌≤◌, length}
 use Rattle.std.specs.List.{AllByRecursion}
-use Rattle.aio_model.specs.declared.loop_scripts.Act.{Act}
-use Rattle.aio_model.specs.declared.loop_scripts.ActKind.{ActKind}
-use Rattle.aio_model.specs.declared.loop_scripts.ActKind.TheVariants as act
-use Rattle.aio_model.specs.declared.loop_scripts.Command.{Command}
-use Rattle.aio_model.specs.declared.loop_scripts.Command.TheVariants as command
-use Rattle.aio_model.specs.declared.loop_scripts.LoopScript.{LoopScript}
+use Rattle.aio_model.specs.declared.scripts.loop_scripts.Act.{Act}
+use Rattle.aio_model.specs.declared.scripts.loop_scripts.ActKind.{ActKind}
+use Rattle.aio_model.specs.declared.scripts.loop_scripts.ActKind.TheVariants as act
+use Rattle.aio_model.specs.declared.scripts.loop_scripts.Command.{Command}
+use Rattle.aio_model.specs.declared.scripts.loop_scripts.Command.TheVariants as command
+use Rattle.aio_model.specs.declared.scripts.loop_scripts.LoopScript.{LoopScript}
 use Rattle.aio_script.specs.LoopGrammar.{acts_of}
 
 -- a call on one of the handles

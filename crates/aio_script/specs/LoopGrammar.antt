@@ -1,12 +1,12 @@
 -- The grammar of loop scripts: the script that a text says, or the first line that can't stand where it does. On one
 -- line its form is looked at first, then its numbers, and then its limits.
 use Rattle.std.specs.Prelude.{ℕ, ◌==◌, ◌&&◌, nat_le, nat_lt, List, [], ◌∷◌, ◌++◌, length, count_by, codes, Result, Ok, Err}
-use Rattle.aio_model.specs.declared.loop_scripts.Act.{Act}
-use Rattle.aio_model.specs.declared.loop_scripts.ActKind.{ActKind}
-use Rattle.aio_model.specs.declared.loop_scripts.ActKind.TheVariants as act
-use Rattle.aio_model.specs.declared.loop_scripts.Command.{Command}
-use Rattle.aio_model.specs.declared.loop_scripts.Command.TheVariants as command
-use Rattle.aio_model.specs.declared.loop_scripts.LoopScript.{LoopScript}
+use Rattle.aio_model.specs.declared.scripts.loop_scripts.Act.{Act}
+use Rattle.aio_model.specs.declared.scripts.loop_scripts.ActKind.{ActKind}
+use Rattle.aio_model.specs.declared.scripts.loop_scripts.ActKind.TheVariants as act
+use Rattle.aio_model.specs.declared.scripts.loop_scripts.Command.{Command}
+use Rattle.aio_model.specs.declared.scripts.loop_scripts.Command.TheVariants as command
+use Rattle.aio_model.specs.declared.scripts.loop_scripts.LoopScript.{LoopScript}
 use Rattle.aio_script.specs.declared.refusals.ScriptRefusal.{ScriptRefusal}
 use Rattle.aio_script.specs.declared.refusals.ScriptRefusal.TheVariants.{NoHeader}
 use Rattle.aio_script.specs.declared.loop_form.Verb.{Verb}

@@ -1,6 +1,6 @@
 -- What a call that reads a loop script gives, against what the grammar says of its text.
 use Rattle.std.specs.Prelude.{Result}
-use Rattle.aio_model.specs.declared.loop_scripts.LoopScript.{LoopScript}
+use Rattle.aio_model.specs.declared.scripts.loop_scripts.LoopScript.{LoopScript}
 use Rattle.aio_script.specs.declared.refusals.ScriptRefusal.{ScriptRefusal}
 use Rattle.aio_script.specs.declared.refusals.ScriptFail.{ScriptFail}
 use Rattle.aio_script.specs.declared.loop_form.LoopForm as shown

@@ -1,11 +1,11 @@
 -- How far a text was read, line by line.
 use Rattle.std.specs.Prelude.{◌≡◌, ℕ, ◌+◌, ◌≤◌, List, []}
-use Rattle.aio_model.specs.declared.scripts.Stream.{Stream}
-use Rattle.aio_model.specs.declared.scripts.Step.{Step}
+use Rattle.aio_model.specs.declared.scripts.image_scripts.Stream.{Stream}
+use Rattle.aio_model.specs.declared.scripts.image_scripts.Step.{Step}
 use Rattle.aio_script.specs.declared.said.Said.{Said}
 use Rattle.aio_script.specs.declared.said.Counts.{Counts}
-use Rattle.aio_model.specs.declared.scripts.What.{What}
-use Rattle.aio_model.specs.declared.scripts.What.TheVariants.{Ask, Delay, Move}
+use Rattle.aio_model.specs.declared.scripts.image_scripts.What.{What}
+use Rattle.aio_model.specs.declared.scripts.image_scripts.What.TheVariants.{Ask, Delay, Move}
 use Rattle.aio_script.specs.declared.said.Said.TheVariants.{Declares, Does}
 use Rattle.aio_script.specs.Grammar.{all_said, bytes_moved, steps_in, streams_in}
 use Rattle.aio_script.specs.Lines.{Numbered}

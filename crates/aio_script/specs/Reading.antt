@@ -1,6 +1,6 @@
 -- What a call that reads a text gives, against what the grammar says of the text. Want of memory leaves it open.
 use Rattle.std.specs.Prelude.{◌≡◌, ℕ, List, ◌∷◌, Result, Ok, Err}
-use Rattle.aio_model.specs.declared.scripts.Script.{Script}
+use Rattle.aio_model.specs.declared.scripts.image_scripts.Script.{Script}
 use Rattle.aio_script.specs.declared.refusals.ScriptRefusal.{ScriptRefusal}
 use Rattle.aio_script.specs.declared.refusals.ScriptFail.{ScriptFail}
 use Rattle.aio_script.specs.declared.refusals.ScriptFail.TheVariants.{Refused, NoMemory}

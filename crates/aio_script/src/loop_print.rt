@@ -1,9 +1,9 @@
 //! Replies of loop scripts to text, piece by piece.
 ghost use Rattle.std.specs.Prelude.{◌≡◌, ◌++◌, [], true, false, ◌≤◌, codes, decimal, OnOk, OnErr, if◌then◌else◌};
 ghost use Rattle.std.specs.List.{flat_map};
-ghost use Rattle.aio_model.specs.LoopLines.{behind_space, call_text, commit_text, flag_text, flags_text, HasLine, HasNoDeadline, IsCall, list_text, more_text, progress_text, reply_text};
-ghost use Rattle.aio_model.specs.declared.loop_replies.LoopReply.TheVariants.{Committed, Flagged, Ran};
-ghost use Rattle.aio_model.specs.declared.commits.Commit.TheVariants.{Awake, Sleep};
+ghost use Rattle.aio_model.specs.Scripts.LoopLines.{behind_space, call_text, commit_text, flag_text, flags_text, HasLine, HasNoDeadline, IsCall, list_text, more_text, progress_text, reply_text};
+ghost use Rattle.aio_model.specs.declared.scripts.loop_replies.LoopReply.TheVariants.{Committed, Flagged, Ran};
+ghost use Rattle.aio_model.specs.declared.loops.commits.Commit.TheVariants.{Awake, Sleep};
 ghost use Rattle.aio_words.specs.Content.{AppendsFront};
 ghost use Rattle.aio_words.specs.Faults.{HasRisen};
 ghost use Rattle.aio_script.specs.Printing.{PutsOnPage, HandsOver};

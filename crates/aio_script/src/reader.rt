@@ -5,7 +5,7 @@ ghost use Rattle.aio_script.specs.Grammar.{bytes_moved, loops_below, script_belo
 ghost use Rattle.aio_script.specs.Lines.{significant_from};
 ghost use Rattle.aio_script.specs.Progress.{AreLow, counts_after, counts_with};
 ghost use Rattle.aio_script.specs.Reading.{Gives, GivesScript};
-ghost use Rattle.aio_model.specs.declared.scripts.What.TheVariants.{Ask};
+ghost use Rattle.aio_model.specs.declared.scripts.image_scripts.What.TheVariants.{Ask};
 ghost use Rattle.aio_script.specs.declared.refusals.ScriptFail.TheVariants.{NoMemory};
 
 use crate::lines::{Above, read_header, read_line};

@@ -1,6 +1,6 @@
 //! Replies to lines of text, on a page. Data go piece by piece. No memory is taken.
 ghost use Rattle.std.specs.Prelude.{◌≡◌, ◌*◌, ◌++◌, ◌≤◌, codes, decimal, length, OnOk, OnErr};
-ghost use Rattle.aio_model.specs.PrintedText.{data_text, end_line, hex_of, line_of, outcome_of, verb_of};
+ghost use Rattle.aio_model.specs.Scripts.PrintedText.{data_text, end_line, hex_of, line_of, outcome_of, verb_of};
 ghost use Rattle.aio_words.specs.Content.{AppendsFront};
 ghost use Rattle.aio_words.specs.Faults.{HasRisen};
 ghost use Rattle.aio_script.specs.Printing.{PutsOnPage, HandsOver};

@@ -2,8 +2,8 @@
 use Rattle.std.proofs.Common.{◌≡◌, ℕ, zero, suc, ◌/◌, ◌<◌, true, ◌||◌, eqb, ltb, List, [], ◌∷◌, length, get_or, refl, sym, ◌∙◌, ap, subst, inl, inr, arith}
 use Rattle.std.proofs.lemmas.Bool.{false≢true, cases_Bool, cases_lt, cases_eq, eq-eqb, eqb-true, lt-ltb, le-ltb, ltb-true, ltb-false, or_left, or_right, or_cases, false_from_ne_true}
 use Rattle.std.proofs.lemmas.List.{length_push, get_or_push, get_or_append_left}
-use Rattle.aio_model.specs.declared.timer_calls.TimerCall.{TimerCall}
-use Rattle.aio_model.specs.TimerCalls.{StandsBefore}
+use Rattle.aio_model.specs.declared.timers.calls.TimerCall.{TimerCall}
+use Rattle.aio_model.specs.Timers.Calls.{StandsBefore}
 use Rattle.aio_chain.specs.LinkList.{contains}
 use Rattle.aio_chain.proofs.Contained.{or_swap}
 use Rattle.aio_timers.specs.Keys.{none, stamps}

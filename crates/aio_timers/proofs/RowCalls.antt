@@ -1,9 +1,9 @@
 -- What each call of a set of timers leaves of its rows of keys, and of what they stand for.
 use Rattle.std.proofs.Common.{◌≡◌, ℕ, ℤ, ◌+◌, ◌*◌, ◌/◌, ◌<◌, ◌≤◌, true, false, ◌&&◌, ltb, leb, List, ◌∷◌, length, set, refl, sym, ◌∙◌, ap, inl, inr, arith, get_or-set_same, get_or-set_other}
 use Rattle.std.proofs.lemmas.Bool.{cases_Bool, cases_lt, lt-ltb, le-ltb, ltb-true, ltb-false, le-leb, lt-leb}
-use Rattle.aio_model.specs.declared.timer_calls.TimerCall.{TimerCall}
-use Rattle.aio_model.specs.declared.timer_calls.TimerCall.TheVariants.{Arm, Disarm, RunBegin, Give}
-use Rattle.aio_model.specs.TimerCalls.{from_zero}
+use Rattle.aio_model.specs.declared.timers.calls.TimerCall.{TimerCall}
+use Rattle.aio_model.specs.declared.timers.calls.TimerCall.TheVariants.{Arm, Disarm, RunBegin, Give}
+use Rattle.aio_model.specs.Timers.Calls.{from_zero}
 use Rattle.aio_timers.specs.Keys.{none, stamps, key_at, joint, ShareNone, AreStamped}
 use Rattle.aio_timers.specs.Moving.{Moves}
 use Rattle.aio_timers.specs.Restamping.{Restamps}

@@ -1,9 +1,9 @@
 -- What arms of timers have in common in two lists of calls.
 use Rattle.std.proofs.Common.{◌≡◌, ℕ, ◌<◌, true, false, eqb, List, [], ◌∷◌, length, sym, ◌∙◌, inl, inr, arith}
 use Rattle.std.proofs.lemmas.Bool.{false≢true, cases_Bool}
-use Rattle.aio_model.specs.declared.timer_calls.TimerCall.{TimerCall}
-use Rattle.aio_model.specs.declared.timer_calls.TimerCall.TheVariants.{Add, Arm, Disarm, RunBegin, Give}
-use Rattle.aio_model.specs.TimerCalls.{expiry, place, is_armed, StandsBefore}
+use Rattle.aio_model.specs.declared.timers.calls.TimerCall.{TimerCall}
+use Rattle.aio_model.specs.declared.timers.calls.TimerCall.TheVariants.{Add, Arm, Disarm, RunBegin, Give}
+use Rattle.aio_model.specs.Timers.Calls.{expiry, place, is_armed, StandsBefore}
 
 -- an armed timer's arm stands among the calls
 pub place_among : (timer : ℕ) (calls : List TimerCall) → is_armed timer calls ≡ true → place timer calls < length calls

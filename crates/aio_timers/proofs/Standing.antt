@@ -1,9 +1,9 @@
 -- What the keys of timers say of the calls, and what each call leaves of it.
 use Rattle.std.proofs.Common.{◌≡◌, ℕ, ℤ, ◌+◌, ◌*◌, ◌/◌, ◌%◌, ◌<◌, ◌≤◌, true, false, ◌&&◌, cond, eqb, ltb, leb, List, [], ◌∷◌, length, refl, sym, ◌∙◌, ap, inl, inr, arith}
 use Rattle.std.proofs.lemmas.Bool.{cases_Bool, cases_eq, cases_lt, eq-eqb, ne_eqb, eqb-true, eqb-false, lt-ltb, le-ltb, ltb-true}
-use Rattle.aio_model.specs.declared.timer_calls.TimerCall.{TimerCall}
-use Rattle.aio_model.specs.declared.timer_calls.TimerCall.TheVariants.{Add, Arm, Disarm, RunBegin, Give}
-use Rattle.aio_model.specs.TimerCalls.{made, from_zero, expiry, place, is_armed, is_marked, StandsBefore, IsFirstOfKind, IsNone, IsEarliest}
+use Rattle.aio_model.specs.declared.timers.calls.TimerCall.{TimerCall}
+use Rattle.aio_model.specs.declared.timers.calls.TimerCall.TheVariants.{Add, Arm, Disarm, RunBegin, Give}
+use Rattle.aio_model.specs.Timers.Calls.{made, from_zero, expiry, place, is_armed, is_marked, StandsBefore, IsFirstOfKind, IsNone, IsEarliest}
 use Rattle.aio_timers.specs.Keys.{none, stamps, AreStamped}
 use Rattle.aio_timers.specs.Order.{in_order}
 use Rattle.aio_timers.specs.Kept.{list_of}

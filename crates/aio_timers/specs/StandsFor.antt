@@ -1,8 +1,8 @@
 -- What a contract sees of a set of timers, and the lists of calls for which it stands.
 use Rattle.std.specs.Prelude.{◌≡◌, ℕ, IsTrue, List, [], ◌∷◌, slice_index}
 use Rattle.aio_chain.specs.LinkList.{contains}
-use Rattle.aio_model.specs.declared.timer_calls.TimerCall.{TimerCall}
-use Rattle.aio_model.specs.TimerCalls.{made, is_armed, expiry, is_marked, StandsBefore}
+use Rattle.aio_model.specs.declared.timers.calls.TimerCall.{TimerCall}
+use Rattle.aio_model.specs.Timers.Calls.{made, is_armed, expiry, is_marked, StandsBefore}
 
 -- how many timers there may be and are, the armed ones in order, those of them that the run is to give, and the
 -- expiry of each

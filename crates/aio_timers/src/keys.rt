@@ -1,6 +1,6 @@
 //! Keys by which timers are in order: the expiry, and behind it the stamp of the arm.
 ghost use Rattle.std.specs.Prelude.{◌≡◌, ◌+◌, ◌*◌, ◌/◌, ◌%◌, ◌<◌, ◌≤◌, ℕ};
-ghost use Rattle.aio_model.specs.TimerCalls.{from_zero};
+ghost use Rattle.aio_model.specs.Timers.Calls.{from_zero};
 ghost use Rattle.aio_timers.specs.Keys.{stamps};
 
 /// How many stamps there are.

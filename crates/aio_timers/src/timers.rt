@@ -1,7 +1,7 @@
 ghost use Rattle.std.specs.Prelude.{◌≡◌, ◌<◌, ◌+◌, ◌∷◌, [], length, nat_lt, slice_set, List, IfOk, IfSome, IfNone, MatchOption};
-ghost use Rattle.aio_model.specs.declared.timer_calls.TimerCall.{TimerCall};
-ghost use Rattle.aio_model.specs.declared.timer_calls.TimerCall.TheVariants.{Add, Arm, Disarm, RunBegin, Give};
-ghost use Rattle.aio_model.specs.TimerCalls.{is_armed, is_marked, IsFirstOfKind, IsNone, IsEarliest};
+ghost use Rattle.aio_model.specs.declared.timers.calls.TimerCall.{TimerCall};
+ghost use Rattle.aio_model.specs.declared.timers.calls.TimerCall.TheVariants.{Add, Arm, Disarm, RunBegin, Give};
+ghost use Rattle.aio_model.specs.Timers.Calls.{is_armed, is_marked, IsFirstOfKind, IsNone, IsEarliest};
 ghost use Rattle.aio_timers.specs.Keys.{none, joint, AreRows};
 ghost use Rattle.aio_timers.specs.StandsFor.{StandsFor};
 

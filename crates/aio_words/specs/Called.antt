@@ -1,5 +1,5 @@
 -- The calls that an object of the outside had, the newest first. Each is told with what was asked and what came of it.
-use Rattle.std.specs.Prelude.{ℕ, ◌+◌, Bool, true, false, if◌then◌else◌, Result, Ok, Err, Option, Some, None, List, [], ◌∷◌}
+use Rattle.std.specs.Prelude.{ℕ, ◌+◌, Bool, true, false, if◌then◌else◌, Result, Ok, Err, Some, None, List, [], ◌∷◌}
 use Rattle.aio_words.specs.declared.called.SourceCall.{SourceCall}
 use Rattle.aio_words.specs.declared.called.SinkCall.{SinkCall}
 use Rattle.aio_words.specs.declared.called.DeviceAsk.{DeviceAsk}

@@ -3,17 +3,17 @@ use Rattle.std.proofs.Common.{◌≡◌, ℕ, true, false, List, [], ◌∷◌, 
 use Rattle.std.proofs.Math.Seq.{take-length}
 use Rattle.std.proofs.lemmas.Bool.{and_from, and_parts}
 use Rattle.table_seats.proofs.Standing.{entries-append}
-use Rattle.aio_model.specs.declared.flags.Flags.{Flags}
-use Rattle.aio_model.specs.declared.loop_scripts.ActKind.{ActKind}
-use Rattle.aio_model.specs.declared.loop_scripts.ActKind.TheVariants.{Cancel as CancelOf, Nest}
-use Rattle.aio_model.specs.LoopHistory.{EnqueueAsks, Cancel, History}
-use Rattle.aio_model.specs.LoopLists.{seat_of}
-use Rattle.aio_model.specs.LoopSeats.{entries_of}
-use Rattle.aio_model.specs.LoopLegal.{IsLegal}
-use Rattle.aio_model.specs.LoopFrame.{is_of_callback, are_of_callback}
-use Rattle.aio_model.specs.LoopState.{no_flags}
-use Rattle.aio_model.specs.LoopActs.{enqueue_made, made_by, is_nest, before_nest}
-use Rattle.aio_model.specs.InFlight.{AtRest}
+use Rattle.aio_model.specs.declared.loops.flags.Flags.{Flags}
+use Rattle.aio_model.specs.declared.scripts.loop_scripts.ActKind.{ActKind}
+use Rattle.aio_model.specs.declared.scripts.loop_scripts.ActKind.TheVariants.{Cancel as CancelOf, Nest}
+use Rattle.aio_model.specs.Loop.History.{EnqueueAsks, Cancel, History}
+use Rattle.aio_model.specs.Loop.Lists.{seat_of}
+use Rattle.aio_model.specs.Loop.Seats.{entries_of}
+use Rattle.aio_model.specs.Loop.Legal.{IsLegal}
+use Rattle.aio_model.specs.Loop.Frame.{is_of_callback, are_of_callback}
+use Rattle.aio_model.specs.Loop.State.{no_flags}
+use Rattle.aio_model.specs.Scripts.LoopActs.{enqueue_made, made_by, is_nest, before_nest}
+use Rattle.aio_model.specs.Loop.InFlight.{AtRest}
 use Rattle.aio_core.specs.Known.{Known}
 use Rattle.aio_core.specs.Standing.{Cancels}
 use Rattle.aio_core.specs.Calls.{TableState, SeatState, IsSeatOf}

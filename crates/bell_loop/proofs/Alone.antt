@@ -1,11 +1,11 @@
 -- A history that home alone made, and what a poll then adds to it.
 use Rattle.std.proofs.Common.{◌≡◌, ℕ, zero, suc, ◌≤◌, Bool, true, false, ◌||◌, cond, eqb, MatchBool, Option, None, List, [], ◌∷◌, ◌++◌, length, arith, inl, inr, refl, sym, ap, ◌∙◌, subst, append_assoc}
-use Rattle.aio_model.specs.LoopHistory.{Sizes, Entry, Take, Dequeue, Free, History}
-use Rattle.aio_model.specs.LoopFlags.{is_lot}
-use Rattle.aio_model.specs.LoopLists.{seat_of}
-use Rattle.aio_model.specs.LoopLog.{rings}
-use Rattle.aio_model.specs.LoopSeats.{home, entries_of}
-use Rattle.aio_model.specs.LoopFrame.{Lent, Answer, Nests, Entered, PollPlace, Makes, EntersRunner, Body, Turn, Turns, Frame, lent_of, nests_above}
+use Rattle.aio_model.specs.Loop.History.{Sizes, Entry, Take, Dequeue, Free, History}
+use Rattle.aio_model.specs.Loop.Flags.{is_lot}
+use Rattle.aio_model.specs.Loop.Lists.{seat_of}
+use Rattle.aio_model.specs.Loop.Log.{rings}
+use Rattle.aio_model.specs.Loop.Seats.{home, entries_of}
+use Rattle.aio_model.specs.Loop.Frame.{Lent, Answer, Nests, Entered, PollPlace, Makes, EntersRunner, Body, Turn, Turns, Frame, lent_of, nests_above}
 use Rattle.bell_loop.specs.Actions.{some_rings}
 use Rattle.bell_loop.specs.Running.{IsAlone, any_rings}
 use Rattle.bell_loop.proofs.Entries.{some_rings-append, or_assoc}

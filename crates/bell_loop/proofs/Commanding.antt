@@ -1,26 +1,26 @@
 -- The commands of a loop script, from what the steps of home tell.
 use Rattle.std.proofs.Common.{◌≡◌, ℕ, zero, suc, ◌≤◌, ◌<◌, ◌+◌, Bool, true, false, ◌||◌, not, ◌&&◌, eqb, ltb, cond, MatchBool, Option, Some, None, List, [], ◌∷◌, length, get_or, set, replicate, get_or-set_same, get_or-set_other, inl, inr, refl, sym, ap, ◌∙◌, subst}
 use Rattle.std.proofs.lemmas.Bool.{false≢true, eqb-true, eq-eqb, ltb-true, ltb-false}
-use Rattle.aio_model.specs.declared.commits.Commit as commit
-use Rattle.aio_model.specs.declared.flags.Flags.{Flags}
-use Rattle.aio_model.specs.declared.kinds.Kind as asking
-use Rattle.aio_model.specs.declared.kinds.Kind.TheVariants.{Sched, Idle as IdleKind, Del}
-use Rattle.aio_model.specs.declared.loop_scripts.ActKind.{ActKind}
-use Rattle.aio_model.specs.declared.loop_scripts.Command.{Command}
-use Rattle.aio_model.specs.declared.loop_scripts.Command.TheVariants.{Cancel, Set, Clear, Once, Poll, Commit}
-use Rattle.aio_model.specs.declared.loop_scripts.LoopScript.{LoopScript}
-use Rattle.aio_model.specs.declared.loop_replies.LoopReply.{LoopReply}
-use Rattle.aio_model.specs.declared.loop_replies.LoopReply.TheVariants.{Flagged, Placed, WasSet, Cleared, Committed}
-use Rattle.aio_model.specs.LoopHistory.{Sizes, EnqueueAsks, ToCallOnce, New, Put, SetEvent, ClearEvent, History}
-use Rattle.aio_model.specs.LoopFlags.{is_lot, is_pending, lives}
-use Rattle.aio_model.specs.LoopLists.{is_set}
-use Rattle.aio_model.specs.LoopLog.{Made, Log, history_of, is_rung, flags_before, asked_log, enqueued_log, canceled_log, set_log, cleared_log, is_set_in, begun_log, first_from, commit_from, committed_log}
-use Rattle.aio_model.specs.LoopSeats.{home}
-use Rattle.aio_model.specs.LoopReplies.{DoesCommand, sizes_of}
+use Rattle.aio_model.specs.declared.loops.commits.Commit as commit
+use Rattle.aio_model.specs.declared.loops.flags.Flags.{Flags}
+use Rattle.aio_model.specs.declared.loops.kinds.Kind as asking
+use Rattle.aio_model.specs.declared.loops.kinds.Kind.TheVariants.{Sched, Idle as IdleKind, Del}
+use Rattle.aio_model.specs.declared.scripts.loop_scripts.ActKind.{ActKind}
+use Rattle.aio_model.specs.declared.scripts.loop_scripts.Command.{Command}
+use Rattle.aio_model.specs.declared.scripts.loop_scripts.Command.TheVariants.{Cancel, Set, Clear, Once, Poll, Commit}
+use Rattle.aio_model.specs.declared.scripts.loop_scripts.LoopScript.{LoopScript}
+use Rattle.aio_model.specs.declared.scripts.loop_replies.LoopReply.{LoopReply}
+use Rattle.aio_model.specs.declared.scripts.loop_replies.LoopReply.TheVariants.{Flagged, Placed, WasSet, Cleared, Committed}
+use Rattle.aio_model.specs.Loop.History.{Sizes, EnqueueAsks, ToCallOnce, New, Put, SetEvent, ClearEvent, History}
+use Rattle.aio_model.specs.Loop.Flags.{is_lot, is_pending, lives}
+use Rattle.aio_model.specs.Loop.Lists.{is_set}
+use Rattle.aio_model.specs.Loop.Log.{Made, Log, history_of, is_rung, flags_before, asked_log, enqueued_log, canceled_log, set_log, cleared_log, is_set_in, begun_log, first_from, commit_from, committed_log}
+use Rattle.aio_model.specs.Loop.Seats.{home}
+use Rattle.aio_model.specs.Scripts.LoopReplies.{DoesCommand, sizes_of}
 use Rattle.aio_core.specs.Standing.{asked_by}
 use Rattle.bell_loop.specs.Running as one
 use Rattle.bell_loop.specs.Entering.{acts_at}
-use Rattle.bell_loop.specs.Running.{Calm, Finds, IsAlone, GoesTo, IsScriptOf, OnlyOthers, PlacesTag, living_in}
+use Rattle.bell_loop.specs.Running.{Calm, Finds, IsAlone, GoesTo, OnlyOthers, PlacesTag, living_in}
 use Rattle.bell_loop.specs.Machines.{MachineState, Answers, IsNew, enqueue_command}
 use Rattle.bell_loop.proofs.Counting.{all_counted, none_counted, same_counted}
 use Rattle.bell_loop.proofs.Logs.{enqueued_rings}

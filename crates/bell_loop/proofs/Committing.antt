@@ -1,11 +1,11 @@
 -- A commit makes no entry, and home idles again after it.
 use Rattle.std.proofs.Common.{◌≡◌, ℕ, zero, suc, ◌-◌, ◌^◌, ◌==◌, Bool, true, false, Option, Some, None, MatchBool, MatchOption, sym, ap, ◌∙◌, subst}
-use Rattle.aio_model.specs.declared.commits.Commit.{Commit}
-use Rattle.aio_model.specs.declared.commits.Commit.TheVariants.{Sleep, Awake}
-use Rattle.aio_model.specs.declared.commits.Why.{Why}
-use Rattle.aio_model.specs.declared.commits.Why.TheVariants.{Urgent, Event}
-use Rattle.aio_model.specs.LoopHistory.{History}
-use Rattle.aio_model.specs.LoopLegal.{IsLegal}
+use Rattle.aio_model.specs.declared.loops.commits.Commit.{Commit}
+use Rattle.aio_model.specs.declared.loops.commits.Commit.TheVariants.{Sleep, Awake}
+use Rattle.aio_model.specs.declared.loops.commits.Why.{Why}
+use Rattle.aio_model.specs.declared.loops.commits.Why.TheVariants.{Urgent, Event}
+use Rattle.aio_model.specs.Loop.History.{History}
+use Rattle.aio_model.specs.Loop.Legal.{IsLegal}
 use Rattle.aio_core.specs.Known.{Known, is_running}
 use Rattle.aio_core.specs.SleepSteps.{Disarms, LoadsEvent}
 use Rattle.aio_core.specs.Scans.{SameButSleep}

@@ -1,13 +1,13 @@
 -- Counting the lots that live.
 use Rattle.std.proofs.Common.{◌≡◌, ◌⊎◌, ℕ, zero, suc, ◌+◌, ◌<◌, ◌≤◌, Bool, true, false, not, ◌&&◌, ◌||◌, cond, eqb, ltb, ◌∷◌, ◌++◌, arith, inl, inr, refl, sym, ap, ◌∙◌, subst}
 use Rattle.std.proofs.lemmas.Bool.{false≢true, eq-eqb, ne_eqb, eqb-true, ltb-true, ltb-false}
-use Rattle.aio_model.specs.declared.flags.Flags.{Flags}
-use Rattle.aio_model.specs.FlagsWord.{bit}
-use Rattle.aio_model.specs.LoopHistory.{Sizes, ToCallOnce, New, Enqueue, Put, History}
-use Rattle.aio_model.specs.LoopFlags.{is_pending, lives, flags_of}
-use Rattle.aio_model.specs.LoopLegal.{IsLegal}
-use Rattle.aio_model.specs.LoopLog.{Made, Log, history_of, asked_log, begun_log}
-use Rattle.aio_model.specs.LoopSeats.{home, entries_of}
+use Rattle.aio_model.specs.declared.loops.flags.Flags.{Flags}
+use Rattle.aio_model.specs.Loop.FlagsWord.{bit}
+use Rattle.aio_model.specs.Loop.History.{Sizes, ToCallOnce, New, Enqueue, Put, History}
+use Rattle.aio_model.specs.Loop.Flags.{is_pending, lives, flags_of}
+use Rattle.aio_model.specs.Loop.Legal.{IsLegal}
+use Rattle.aio_model.specs.Loop.Log.{Made, Log, history_of, asked_log, begun_log}
+use Rattle.aio_model.specs.Loop.Seats.{home, entries_of}
 use Rattle.aio_core.specs.Known.{Known}
 use Rattle.aio_bh.specs.Enqueuing.{AddsOnly}
 use Rattle.aio_bh.specs.OneShots.{one_shot_entries}

@@ -2,11 +2,11 @@
 -- left.
 use Rattle.std.proofs.Common.{◌≡◌, ℕ, zero, suc, ◌+◌, ◌<◌, ◌≤◌, Bool, true, false, MatchBool, Option, None, Some, List, [], ◌∷◌, ◌++◌, length, arith, inl, inr, refl, sym, ap, ◌∙◌, subst, append_assoc}
 use Rattle.std.proofs.lemmas.Bool.{false≢true}
-use Rattle.aio_model.specs.declared.loop_scripts.ActKind.{ActKind}
-use Rattle.aio_model.specs.LoopHistory.{Sizes, Free}
-use Rattle.aio_model.specs.LoopFlags.{is_lot}
-use Rattle.aio_model.specs.LoopFrame.{Answer, Ended, Nests, Entered, PollPlace, Makes, EntersRunner, Body, Turn, Turns, Frame, DoesEntries, lent_of, nests_above}
-use Rattle.aio_model.specs.LoopActs.{Waiting, DoesActs, behind_nest, answer_of, waiting_after}
+use Rattle.aio_model.specs.declared.scripts.loop_scripts.ActKind.{ActKind}
+use Rattle.aio_model.specs.Loop.History.{Sizes, Free}
+use Rattle.aio_model.specs.Loop.Flags.{is_lot}
+use Rattle.aio_model.specs.Loop.Frame.{Answer, Ended, Nests, Entered, PollPlace, Makes, EntersRunner, Body, Turn, Turns, Frame, DoesEntries, lent_of, nests_above}
+use Rattle.aio_model.specs.Scripts.LoopActs.{Waiting, DoesActs, behind_nest, answer_of, waiting_after}
 use Rattle.aio_model.proofs.Frames.{DoesEntries-append}
 use Rattle.bell_loop.specs.Entering.{DoesEntry, MayEnter, BellNotes}
 

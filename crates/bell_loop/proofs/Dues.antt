@@ -2,13 +2,13 @@
 use Rattle.std.proofs.Common.{◌≡◌, ℕ, zero, suc, ◌+◌, ◌≤◌, ◌<◌, Bool, true, false, not, ◌&&◌, ◌||◌, cond, eqb, ltb, Option, Some, None, List, [], ◌∷◌, arith, refl, sym, ap, ◌∙◌, subst}
 use Rattle.std.specs.Option.{is_some}
 use Rattle.std.proofs.lemmas.Bool.{false≢true, eqb-true, eq-eqb, and_parts, ltb-true}
-use Rattle.aio_model.specs.FlagsWord.{bit}
-use Rattle.aio_model.specs.LoopHistory.{Sizes, EnqueueAsks, Entry, New, Enqueue, Put, Cancel, Take, Dequeue, Free, SetEvent, ClearEvent, History}
-use Rattle.aio_model.specs.LoopFlags.{is_pending, is_scheduled, is_scheduling, is_deleted, is_due, lives, asks, enqueues, ends_round, cancels}
-use Rattle.aio_model.specs.LoopLists.{is_announced, stack_of, out_of}
-use Rattle.aio_model.specs.LoopLaws.{times_of}
-use Rattle.aio_model.specs.LoopLegal.{IsLegal}
-use Rattle.aio_model.specs.LoopLog.{first_from}
+use Rattle.aio_model.specs.Loop.FlagsWord.{bit}
+use Rattle.aio_model.specs.Loop.History.{Sizes, EnqueueAsks, Entry, New, Enqueue, Put, Cancel, Take, Dequeue, Free, SetEvent, ClearEvent, History}
+use Rattle.aio_model.specs.Loop.Flags.{is_pending, is_scheduled, is_scheduling, is_deleted, is_due, lives, asks, enqueues, ends_round, cancels}
+use Rattle.aio_model.specs.Loop.Lists.{is_announced, stack_of, out_of}
+use Rattle.aio_model.specs.Loop.Laws.{times_of}
+use Rattle.aio_model.specs.Loop.Legal.{IsLegal}
+use Rattle.aio_model.specs.Loop.Log.{first_from}
 use Rattle.aio_model.proofs.AnnouncedOnce.{fits, announced_once}
 use Rattle.aio_model.proofs.Searches.{first_from-some}
 use Rattle.bell_loop.specs.Running.{NoneAnnounced}

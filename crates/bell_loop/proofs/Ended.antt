@@ -4,18 +4,18 @@ use Rattle.std.proofs.lemmas.Bool.{false≢true, eqb-true, eq-eqb, ltb-true, ltb
 use Rattle.std.specs.List.{AllByRecursion}
 use Rattle.table_seats.specs.Seats.{longer_of, everyone}
 use Rattle.table_seats.specs.Dividing.{both_numbers}
-use Rattle.aio_model.specs.declared.loop_scripts.ActKind.{ActKind}
-use Rattle.aio_model.specs.declared.loop_scripts.LoopScript.{LoopScript}
-use Rattle.aio_model.specs.LoopActs.{Waiting}
-use Rattle.aio_model.specs.declared.loop_scripts.Command.TheVariants.{Clear, Poll}
-use Rattle.aio_model.specs.declared.loop_replies.LoopReply.{LoopReply}
-use Rattle.aio_model.specs.declared.loop_replies.LoopReply.TheVariants.{Cleared}
-use Rattle.aio_model.specs.LoopHistory.{Sizes, Entry, History}
-use Rattle.aio_model.specs.LoopFlags.{is_pending}
-use Rattle.aio_model.specs.LoopLists.{is_set, seat_of}
-use Rattle.aio_model.specs.LoopLog.{Log, history_of, is_set_in, cleared_log, first_from}
-use Rattle.aio_model.specs.LoopSeats.{Numbers, home, owns, entries_by, entries_of, own_entries}
-use Rattle.aio_model.specs.LoopReplies.{DoesCommand}
+use Rattle.aio_model.specs.declared.scripts.loop_scripts.ActKind.{ActKind}
+use Rattle.aio_model.specs.declared.scripts.loop_scripts.LoopScript.{LoopScript}
+use Rattle.aio_model.specs.Scripts.LoopActs.{Waiting}
+use Rattle.aio_model.specs.declared.scripts.loop_scripts.Command.TheVariants.{Clear, Poll}
+use Rattle.aio_model.specs.declared.scripts.loop_replies.LoopReply.{LoopReply}
+use Rattle.aio_model.specs.declared.scripts.loop_replies.LoopReply.TheVariants.{Cleared}
+use Rattle.aio_model.specs.Loop.History.{Sizes, Entry, History}
+use Rattle.aio_model.specs.Loop.Flags.{is_pending}
+use Rattle.aio_model.specs.Loop.Lists.{is_set, seat_of}
+use Rattle.aio_model.specs.Loop.Log.{Log, history_of, is_set_in, cleared_log, first_from}
+use Rattle.aio_model.specs.Loop.Seats.{Numbers, home, owns, entries_by, entries_of, own_entries}
+use Rattle.aio_model.specs.Scripts.LoopReplies.{DoesCommand}
 use Rattle.aio_model.proofs.Searches.{first_from-some}
 use Rattle.aio_core.specs.Known.{Known, numbers_of}
 use Rattle.aio_core.specs.Calls.{first_seat}

@@ -1,15 +1,15 @@
 -- One entry into a callback, from what its parts tell.
 use Rattle.std.proofs.Common.{◌≡◌, ◌⊎◌, ℕ, ◌<◌, ◌≤◌, Bool, true, false, ◌||◌, cond, MatchBool, Option, None, Some, List, [], ◌∷◌, ◌++◌, length, arith, inl, inr, refl, sym, ap, ◌∙◌, subst}
-use Rattle.aio_model.specs.declared.flags.Flags.{Flags}
-use Rattle.aio_model.specs.declared.loop_scripts.ActKind.{ActKind}
-use Rattle.aio_model.specs.declared.loop_scripts.ActKind.TheVariants.{Schedule, Idle, Delete, Cancel as CancelOf, Nest}
-use Rattle.aio_model.specs.declared.ran_lists.Called.{Called}
-use Rattle.aio_model.specs.LoopHistory.{EnqueueAsks, Enqueue, Put, History}
-use Rattle.aio_model.specs.LoopLog.{rings}
-use Rattle.aio_model.specs.LoopSeats.{home}
-use Rattle.aio_model.specs.LoopFrame.{Ended, Nests, lent_of}
-use Rattle.aio_model.specs.LoopActs.{Waiting, Add, acts_called, made_by, before_nest, behind_nest, is_nest, answer_of, waiting_after}
-use Rattle.aio_model.specs.LoopReplies.{called_by}
+use Rattle.aio_model.specs.declared.loops.flags.Flags.{Flags}
+use Rattle.aio_model.specs.declared.scripts.loop_scripts.ActKind.{ActKind}
+use Rattle.aio_model.specs.declared.scripts.loop_scripts.ActKind.TheVariants.{Schedule, Idle, Delete, Cancel as CancelOf, Nest}
+use Rattle.aio_model.specs.declared.loops.ran_lists.Called.{Called}
+use Rattle.aio_model.specs.Loop.History.{EnqueueAsks, Enqueue, Put, History}
+use Rattle.aio_model.specs.Loop.Log.{rings}
+use Rattle.aio_model.specs.Loop.Seats.{home}
+use Rattle.aio_model.specs.Loop.Frame.{Ended, Nests, lent_of}
+use Rattle.aio_model.specs.Scripts.LoopActs.{Waiting, Add, acts_called, made_by, before_nest, behind_nest, is_nest, answer_of, waiting_after}
+use Rattle.aio_model.specs.Scripts.LoopReplies.{called_by}
 use Rattle.bell_loop.specs.Actions.{AreWithin, asks, some_asks, some_rings}
 use Rattle.bell_loop.specs.Entering.{NamesCalled, FindsTodo, MayEnter, DoesEntry, noted}
 

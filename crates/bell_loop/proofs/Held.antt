@@ -1,17 +1,17 @@
 -- Where home alone makes the history, nothing is announced between two of its calls, and a lot that lives is pending.
 use Rattle.std.proofs.Common.{◌≡◌, ℕ, ◌<◌, Bool, true, false, not, ◌&&◌, ◌||◌, cond, eqb, List, [], ◌∷◌, ◌++◌, arith, inl, inr, refl, sym, ap, ◌∙◌, subst, append_assoc}
 use Rattle.std.proofs.lemmas.Bool.{false≢true, eqb-true, ne_eqb}
-use Rattle.aio_model.specs.declared.flags.Flags.{Flags}
-use Rattle.aio_model.specs.declared.loop_scripts.ActKind.{ActKind}
-use Rattle.aio_model.specs.declared.loop_scripts.ActKind.TheVariants.{Schedule, Idle, Delete, Cancel as CancelOf, Nest}
-use Rattle.aio_model.specs.LoopHistory.{Sizes, EnqueueAsks, ToCall, ToCallIdle, ToDelete, Entry, Enqueue, Put, Cancel, History}
-use Rattle.aio_model.specs.LoopFlags.{is_pending, ends_round, enqueues, puts}
-use Rattle.aio_model.specs.LoopLists.{was_put, is_set, out_of}
-use Rattle.aio_model.specs.LoopLegal.{IsLegal, MayAsk}
-use Rattle.aio_model.specs.LoopSeats.{home}
-use Rattle.aio_model.specs.LoopActs.{Add, made_by}
+use Rattle.aio_model.specs.declared.loops.flags.Flags.{Flags}
+use Rattle.aio_model.specs.declared.scripts.loop_scripts.ActKind.{ActKind}
+use Rattle.aio_model.specs.declared.scripts.loop_scripts.ActKind.TheVariants.{Schedule, Idle, Delete, Cancel as CancelOf, Nest}
+use Rattle.aio_model.specs.Loop.History.{Sizes, EnqueueAsks, ToCall, ToCallIdle, ToDelete, Entry, Enqueue, Put, Cancel, History}
+use Rattle.aio_model.specs.Loop.Flags.{is_pending, ends_round, enqueues, puts}
+use Rattle.aio_model.specs.Loop.Lists.{was_put, is_set, out_of}
+use Rattle.aio_model.specs.Loop.Legal.{IsLegal, MayAsk}
+use Rattle.aio_model.specs.Loop.Seats.{home}
+use Rattle.aio_model.specs.Scripts.LoopActs.{Add, made_by}
 use Rattle.aio_model.proofs.Rounds.{legal_cut}
-use Rattle.aio_model.specs.FlagsWord.{bit}
+use Rattle.aio_model.specs.Loop.FlagsWord.{bit}
 use Rattle.bell_loop.specs.Running.{NoneAnnounced, Lots, StackBelow}
 
 -- one entry that is no enqueue

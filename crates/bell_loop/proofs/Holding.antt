@@ -2,17 +2,17 @@
 use Rattle.std.proofs.Common.{◌≡◌, ◌⊎◌, ℕ, zero, suc, ◌+◌, ◌≤◌, Bool, true, false, not, ◌&&◌, eqb, ltb, MatchBool, Option, None, List, [], ◌∷◌, ◌++◌, arith, inl, inr, refl, sym, ap, ◌∙◌, subst, append_assoc}
 use Rattle.std.proofs.lemmas.Bool.{false≢true, eq-eqb, eqb-true, ltb-false}
 use Rattle.std.proofs.lemmas.List.{append_cancel_right}
-use Rattle.aio_model.specs.declared.loop_scripts.ActKind.{ActKind}
-use Rattle.aio_model.specs.LoopHistory.{Sizes, Entry, New, Enqueue, Put, Cancel, Take, Dequeue, Free, SetEvent, ClearEvent, History}
-use Rattle.aio_model.specs.LoopFlags.{is_lot, lives, is_pending, enqueues}
-use Rattle.aio_model.specs.LoopLists.{is_announced, stack_of, out_of, is_set}
-use Rattle.aio_model.specs.FlagsWord.{bit}
-use Rattle.aio_model.specs.LoopLaws.{times_of}
+use Rattle.aio_model.specs.declared.scripts.loop_scripts.ActKind.{ActKind}
+use Rattle.aio_model.specs.Loop.History.{Sizes, Entry, New, Enqueue, Put, Cancel, Take, Dequeue, Free, SetEvent, ClearEvent, History}
+use Rattle.aio_model.specs.Loop.Flags.{is_lot, lives, is_pending, enqueues}
+use Rattle.aio_model.specs.Loop.Lists.{is_announced, stack_of, out_of, is_set}
+use Rattle.aio_model.specs.Loop.FlagsWord.{bit}
+use Rattle.aio_model.specs.Loop.Laws.{times_of}
 use Rattle.aio_model.proofs.AnnouncedOnce.{announced_once}
-use Rattle.aio_model.specs.LoopLegal.{IsLegal, MayFollow}
-use Rattle.aio_model.specs.LoopSeats.{home, entries_of}
-use Rattle.aio_model.specs.LoopFrame.{Lent, Answer, Nests, Entered, PollPlace, Makes, EntersRunner, Body, Turn, Turns, Frame, DoesEntries, lent_of, nests_above}
-use Rattle.aio_model.specs.LoopActs.{Waiting, DoesActs}
+use Rattle.aio_model.specs.Loop.Legal.{IsLegal, MayFollow}
+use Rattle.aio_model.specs.Loop.Seats.{home, entries_of}
+use Rattle.aio_model.specs.Loop.Frame.{Lent, Answer, Nests, Entered, PollPlace, Makes, EntersRunner, Body, Turn, Turns, Frame, DoesEntries, lent_of, nests_above}
+use Rattle.aio_model.specs.Scripts.LoopActs.{Waiting, DoesActs}
 use Rattle.aio_model.proofs.Indices.{by_index}
 use Rattle.aio_model.proofs.Rounds.{legal_cut}
 use Rattle.bell_loop.specs.Running.{IsAlone, NoneAnnounced, Lots, StackBelow}

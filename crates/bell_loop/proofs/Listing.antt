@@ -5,9 +5,9 @@ use Rattle.std.proofs.lemmas.List.{get_or_past, map-append, length-map}
 use Rattle.std.proofs.Math.ListN.{get_or-append}
 use Rattle.std.proofs.Math.Seq.{get_or-append_seam}
 use Rattle.std.proofs.lemmas.Bool.{cases_eq, cases_lt, ne_eqb, eq-eqb, ltb-true, ltb-false}
-use Rattle.aio_model.specs.declared.loop_scripts.Act.{Act}
-use Rattle.aio_model.specs.declared.loop_scripts.ActKind.{ActKind}
-use Rattle.aio_model.specs.LoopActs.{acts_of}
+use Rattle.aio_model.specs.declared.scripts.loop_scripts.Act.{Act}
+use Rattle.aio_model.specs.declared.scripts.loop_scripts.ActKind.{ActKind}
+use Rattle.aio_model.specs.Scripts.LoopActs.{acts_of}
 use Rattle.aio_script.specs.LoopBounds.{IsActWithin}
 use Rattle.bell_loop.specs.Actions.{AreWithin}
 use Rattle.bell_loop.specs.Entering.{CanRun, AreListsOf, acts_at}

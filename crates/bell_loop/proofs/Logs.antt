@@ -1,11 +1,11 @@
 -- Logs with entries added.
 use Rattle.std.proofs.Common.{◌≡◌, ℕ, true, false, cond, [], ◌∷◌, ◌++◌, refl, ap}
-use Rattle.aio_model.specs.LoopHistory.{EnqueueAsks, Enqueue, Put, History}
-use Rattle.aio_model.specs.LoopFlags.{is_pending}
-use Rattle.aio_model.specs.LoopLog.{Made, Log, history_of, flags_before, asked_log, enqueued_log, is_rung}
-use Rattle.aio_model.specs.LoopSeats.{home}
-use Rattle.aio_model.specs.LoopActs.{enqueue_made}
-use Rattle.aio_model.specs.LoopReplies.{made_log}
+use Rattle.aio_model.specs.Loop.History.{EnqueueAsks, Enqueue, Put, History}
+use Rattle.aio_model.specs.Loop.Flags.{is_pending}
+use Rattle.aio_model.specs.Loop.Log.{Made, Log, history_of, flags_before, asked_log, enqueued_log, is_rung}
+use Rattle.aio_model.specs.Loop.Seats.{home}
+use Rattle.aio_model.specs.Scripts.LoopActs.{enqueue_made}
+use Rattle.aio_model.specs.Scripts.LoopReplies.{made_log}
 
 pub history_of-made : (added : History) (log : Log) → history_of (made_log added log) ≡ added ++ history_of log
 history_of-made [] log = refl

@@ -1,14 +1,14 @@
 -- Where home alone makes the history, a call of home is a step from log to log.
 use Rattle.std.proofs.Common.{◌≡◌, ℕ, Bool, true, false, cond, eqb, List, [], ◌∷◌, ◌++◌, arith, refl, sym, ◌∙◌, ap, subst}
-use Rattle.aio_model.specs.declared.flags.Flags.{Flags}
-use Rattle.aio_model.specs.LoopHistory.{Sizes, EnqueueAsks, Entry, Enqueue, Put, Cancel, SetEvent, ClearEvent, History}
-use Rattle.aio_model.specs.LoopFlags.{flags_of, enqueues}
-use Rattle.aio_model.specs.LoopLists.{is_set, out_of}
-use Rattle.aio_model.specs.LoopLegal.{IsLegal}
-use Rattle.aio_model.specs.LoopLog.{history_of, flags_before, enqueued_log, canceled_log, set_log, is_set_in, cleared_log}
-use Rattle.aio_model.specs.LoopSeats.{home, entries_of}
-use Rattle.aio_model.specs.LoopActs.{enqueue_made}
-use Rattle.aio_model.specs.InFlight.{AtRest}
+use Rattle.aio_model.specs.declared.loops.flags.Flags.{Flags}
+use Rattle.aio_model.specs.Loop.History.{Sizes, EnqueueAsks, Entry, Enqueue, Put, Cancel, SetEvent, ClearEvent, History}
+use Rattle.aio_model.specs.Loop.Flags.{flags_of, enqueues}
+use Rattle.aio_model.specs.Loop.Lists.{is_set, out_of}
+use Rattle.aio_model.specs.Loop.Legal.{IsLegal}
+use Rattle.aio_model.specs.Loop.Log.{history_of, flags_before, enqueued_log, canceled_log, set_log, is_set_in, cleared_log}
+use Rattle.aio_model.specs.Loop.Seats.{home, entries_of}
+use Rattle.aio_model.specs.Scripts.LoopActs.{enqueue_made}
+use Rattle.aio_model.specs.Loop.InFlight.{AtRest}
 use Rattle.aio_core.specs.Known.{Known, Done, numbers_of, is_running}
 use Rattle.aio_core.specs.Standing.{Makes, Cancels}
 use Rattle.aio_core.specs.SleepSteps.{ClearsEvent}

@@ -1,7 +1,7 @@
 -- Who was called: the first are named, and the others counted.
 use Rattle.std.proofs.Common.{◌≡◌, ℕ, ◌+◌, ◌-◌, ◌^◌, min, ◌<◌, ◌≤◌, List, [], ◌∷◌, ◌++◌, length, sym, ◌∙◌, ap, arith, length-append}
 use Rattle.std.proofs.lemmas.List.{take-append-le, take_all, length-take}
-use Rattle.aio_model.specs.declared.ran_lists.Called.{Called}
+use Rattle.aio_model.specs.declared.loops.ran_lists.Called.{Called}
 use Rattle.bell_loop.specs.Entering.{NamesCalled}
 
 -- the row is full, and one more is counted

@@ -1,8 +1,8 @@
 -- Callbacks that have no actions make nothing.
 use Rattle.std.proofs.Common.{◌≡◌, ℕ, Bool, true, false, MatchBool, Option, None, Some, List, [], ◌∷◌, length, arith, refl, ap, ◌∙◌, subst}
-use Rattle.aio_model.specs.declared.loop_scripts.ActKind.{ActKind}
-use Rattle.aio_model.specs.LoopFrame.{Entered, DoesEntries}
-use Rattle.aio_model.specs.LoopActs.{Waiting, DoesActs, Add, acts_called, before_nest, behind_nest, waiting_after}
+use Rattle.aio_model.specs.declared.scripts.loop_scripts.ActKind.{ActKind}
+use Rattle.aio_model.specs.Loop.Frame.{Entered, DoesEntries}
+use Rattle.aio_model.specs.Scripts.LoopActs.{Waiting, DoesActs, Add, acts_called, before_nest, behind_nest, waiting_after}
 use Rattle.bell_loop.proofs.Holding.{MadeNone}
 
 module _ (acts : ℕ → List ActKind) (none : (bh : ℕ) → acts bh ≡ []) where

@@ -1,16 +1,16 @@
 -- A poll over the callbacks of a loop script, where home alone makes the history, is the poll of the script.
 use Rattle.std.proofs.Common.{◌≡◌, ℕ, ◌-◌, Bool, true, false, ◌||◌, cond, MatchBool, Option, None, Some, List, [], ◌∷◌, ◌++◌, length, map, take, arith, refl, sym, ◌∙◌, ap, subst}
 use Rattle.std.proofs.lemmas.List.{append-nil, append_cancel_right, map-append}
-use Rattle.aio_model.specs.declared.loop_scripts.ActKind.{ActKind}
-use Rattle.aio_model.specs.declared.loop_scripts.LoopScript.{LoopScript}
-use Rattle.aio_model.specs.declared.loop_replies.LoopReply.TheVariants.{Ran}
-use Rattle.aio_model.specs.declared.loop_scripts.Command.TheVariants.{Poll}
-use Rattle.aio_model.specs.LoopHistory.{Sizes, History}
-use Rattle.aio_model.specs.LoopLegal.{IsLegal}
-use Rattle.aio_model.specs.LoopLog.{Log, history_of, is_rung, rings}
-use Rattle.aio_model.specs.LoopFrame.{Lent, Entered, PollPlace, Frame, DoesEntries, start_of, called_of, cut_nests_of}
-use Rattle.aio_model.specs.LoopActs.{Waiting, DoesActs, acts_called, acts_of}
-use Rattle.aio_model.specs.LoopReplies.{PollsInScript, made_log, counted, named_most, called_as, sizes_of}
+use Rattle.aio_model.specs.declared.scripts.loop_scripts.ActKind.{ActKind}
+use Rattle.aio_model.specs.declared.scripts.loop_scripts.LoopScript.{LoopScript}
+use Rattle.aio_model.specs.declared.scripts.loop_replies.LoopReply.TheVariants.{Ran}
+use Rattle.aio_model.specs.declared.scripts.loop_scripts.Command.TheVariants.{Poll}
+use Rattle.aio_model.specs.Loop.History.{Sizes, History}
+use Rattle.aio_model.specs.Loop.Legal.{IsLegal}
+use Rattle.aio_model.specs.Loop.Log.{Log, history_of, is_rung, rings}
+use Rattle.aio_model.specs.Loop.Frame.{Lent, Entered, PollPlace, Frame, DoesEntries, start_of, called_of, cut_nests_of}
+use Rattle.aio_model.specs.Scripts.LoopActs.{Waiting, DoesActs, acts_called, acts_of}
+use Rattle.aio_model.specs.Scripts.LoopReplies.{PollsInScript, made_log, counted, named_most, called_as, sizes_of}
 use Rattle.aio_core.specs.Known.{Known}
 use Rattle.aio_bh.specs.declared.polled.Polled.{Polled}
 use Rattle.aio_bh.specs.Polling.{Polls}
@@ -19,8 +19,8 @@ use Rattle.bell_loop.specs.Entering.{DoesEntry, NamesCalled, BellNotes}
 use Rattle.aio_core.specs.Known.{is_running}
 use Rattle.aio_core.specs.Calls.{TableState, SeatState, IsSeatOf}
 use Rattle.bell_loop.specs.Running.{IsAlone, any_rings, AnswersSeen, Calm, Idles, StackBelow}
-use Rattle.aio_model.specs.LoopFlags.{lives, is_pending}
-use Rattle.aio_model.specs.LoopLists.{out_of, stack_of, is_set}
+use Rattle.aio_model.specs.Loop.Flags.{lives, is_pending}
+use Rattle.aio_model.specs.Loop.Lists.{out_of, stack_of, is_set}
 use Rattle.bell_loop.proofs.Holding.{Holds-frame, Below-frame, Empty-frame, none_lives, none_pends}
 use Rattle.bell_loop.proofs.Nothing.{runs_none}
 use Rattle.bell_loop.proofs.Alone.{alone_parts, Grown-frame}

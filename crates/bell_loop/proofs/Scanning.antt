@@ -3,11 +3,11 @@ use Rattle.std.proofs.Common.{◌≡◌, ℕ, Bool, true, false, not, ◌&&◌, 
 use Rattle.std.specs.List.{find}
 use Rattle.std.proofs.lemmas.Bool.{false≢true, and_parts}
 use Rattle.std.proofs.lemmas.List.{append-nil}
-use Rattle.aio_model.specs.LoopHistory.{History}
-use Rattle.aio_model.specs.LoopFlags.{are_due, are_urgent, is_due, is_urgent, flags_of}
-use Rattle.aio_model.specs.LoopLists.{seat_of, stack_of, out_of}
-use Rattle.aio_model.specs.LoopLegal.{IsLegal}
-use Rattle.aio_model.specs.LoopSeats.{home, entries_of}
+use Rattle.aio_model.specs.Loop.History.{History}
+use Rattle.aio_model.specs.Loop.Flags.{are_due, are_urgent, is_due, is_urgent, flags_of}
+use Rattle.aio_model.specs.Loop.Lists.{seat_of, stack_of, out_of}
+use Rattle.aio_model.specs.Loop.Legal.{IsLegal}
+use Rattle.aio_model.specs.Loop.Seats.{home, entries_of}
 use Rattle.aio_core.specs.Known.{Known, Running, Scanning, Scan, numbers_of, is_running}
 use Rattle.aio_core.specs.SleepSteps.{Learns, scan_in}
 use Rattle.aio_core.specs.Scans.{LookedAt, Passes, PassesAll, Scans, FoundNone, FoundUrgent, some_idle, none_urgent, indices_of}

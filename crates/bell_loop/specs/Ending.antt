@@ -1,12 +1,12 @@
 -- The end of a loop script's run on the shared loop.
 use Rattle.std.specs.Prelude.{◌≡◌, ℕ, zero, suc, true, if◌then◌else◌, [], ◌++◌}
-use Rattle.aio_model.specs.declared.loop_scripts.Command.TheVariants.{Poll}
-use Rattle.aio_model.specs.declared.loop_scripts.LoopScript.{LoopScript}
-use Rattle.aio_model.specs.declared.loop_replies.LoopReply.{LoopReply}
-use Rattle.aio_model.specs.LoopHistory.{History}
-use Rattle.aio_model.specs.LoopLog.{Log, history_of, is_set_in, cleared_log}
-use Rattle.aio_model.specs.LoopReplies.{DoesCommand, sizes_of}
-use Rattle.aio_model.specs.InFlight.{AtRest}
+use Rattle.aio_model.specs.declared.scripts.loop_scripts.Command.TheVariants.{Poll}
+use Rattle.aio_model.specs.declared.scripts.loop_scripts.LoopScript.{LoopScript}
+use Rattle.aio_model.specs.declared.scripts.loop_replies.LoopReply.{LoopReply}
+use Rattle.aio_model.specs.Loop.History.{History}
+use Rattle.aio_model.specs.Loop.Log.{Log, history_of, is_set_in, cleared_log}
+use Rattle.aio_model.specs.Scripts.LoopReplies.{DoesCommand, sizes_of}
+use Rattle.aio_model.specs.Loop.InFlight.{AtRest}
 use Rattle.aio_core.specs.Calls.{TableState, SeatState, IsSeatOf}
 use Rattle.aio_notify.specs.Settling.{is_committed}
 use Rattle.bell_loop.specs.Running.{IsAlone}

@@ -1,12 +1,12 @@
 -- What one entry into a callback does to what is kept of the callbacks.
 use Rattle.std.specs.Prelude.{◌≡◌, ◌⊎◌, ℕ, ◌-◌, ◌<◌, ◌≤◌, Bool, ◌||◌, if◌then◌else◌, MatchBool, Option, List, [], ◌∷◌, ◌++◌, length, take, slice_index_or}
 use Rattle.std.specs.List.{AllByRecursion}
-use Rattle.aio_model.specs.declared.loop_scripts.Act.{Act}
-use Rattle.aio_model.specs.declared.loop_scripts.ActKind.{ActKind}
-use Rattle.aio_model.specs.declared.ran_lists.Called.{Called}
-use Rattle.aio_model.specs.LoopFrame.{Lent, Entered}
-use Rattle.aio_model.specs.LoopActs.{Waiting, DoesActs, acts_called, acts_of}
-use Rattle.aio_model.specs.LoopReplies.{counted, named_most, called_as}
+use Rattle.aio_model.specs.declared.scripts.loop_scripts.Act.{Act}
+use Rattle.aio_model.specs.declared.scripts.loop_scripts.ActKind.{ActKind}
+use Rattle.aio_model.specs.declared.loops.ran_lists.Called.{Called}
+use Rattle.aio_model.specs.Loop.Frame.{Lent, Entered}
+use Rattle.aio_model.specs.Scripts.LoopActs.{Waiting, DoesActs, acts_called, acts_of}
+use Rattle.aio_model.specs.Scripts.LoopReplies.{counted, named_most, called_as}
 use Rattle.bell_loop.specs.Actions.{AreWithin, some_rings}
 
 -- the list of actions of each handle

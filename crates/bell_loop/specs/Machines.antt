@@ -1,18 +1,18 @@
 -- A machine for loop scripts, and what its calls answer.
 use Rattle.std.specs.Prelude.{◌≡◌, ℕ, Bool, false, List, [], ◌++◌, length, map, slice_index_or}
-use Rattle.aio_model.specs.declared.kinds.Kind as asking
-use Rattle.aio_model.specs.declared.kinds.Kind.TheVariants.{Sched, Idle as IdleKind, Del}
-use Rattle.aio_model.specs.declared.loop_scripts.ActKind.{ActKind}
-use Rattle.aio_model.specs.declared.loop_scripts.Command.{Command}
-use Rattle.aio_model.specs.declared.loop_scripts.Command.TheVariants.{Schedule, Idle, Delete}
-use Rattle.aio_model.specs.declared.loop_scripts.LoopScript.{LoopScript}
-use Rattle.aio_model.specs.declared.loop_replies.LoopReply.{LoopReply}
-use Rattle.aio_model.specs.declared.ran_lists.Called.{Called}
-use Rattle.aio_model.specs.LoopHistory.{Sizes, History}
-use Rattle.aio_model.specs.LoopLog.{Log, history_of, is_rung}
-use Rattle.aio_model.specs.LoopLists.{is_set}
-use Rattle.aio_model.specs.LoopActs.{Waiting}
-use Rattle.aio_model.specs.LoopReplies.{DoesCommand}
+use Rattle.aio_model.specs.declared.loops.kinds.Kind as asking
+use Rattle.aio_model.specs.declared.loops.kinds.Kind.TheVariants.{Sched, Idle as IdleKind, Del}
+use Rattle.aio_model.specs.declared.scripts.loop_scripts.ActKind.{ActKind}
+use Rattle.aio_model.specs.declared.scripts.loop_scripts.Command.{Command}
+use Rattle.aio_model.specs.declared.scripts.loop_scripts.Command.TheVariants.{Schedule, Idle, Delete}
+use Rattle.aio_model.specs.declared.scripts.loop_scripts.LoopScript.{LoopScript}
+use Rattle.aio_model.specs.declared.scripts.loop_replies.LoopReply.{LoopReply}
+use Rattle.aio_model.specs.declared.loops.ran_lists.Called.{Called}
+use Rattle.aio_model.specs.Loop.History.{Sizes, History}
+use Rattle.aio_model.specs.Loop.Log.{Log, history_of, is_rung}
+use Rattle.aio_model.specs.Loop.Lists.{is_set}
+use Rattle.aio_model.specs.Scripts.LoopActs.{Waiting}
+use Rattle.aio_model.specs.Scripts.LoopReplies.{DoesCommand}
 use Rattle.aio_core.specs.Calls.{TableState, SeatState, IsSeatOf, first_seat}
 use Rattle.lot_pool.specs.Pools.{PoolState, PassState, IsPassOf}
 use Rattle.aio_bh.specs.OneShots.{ServesHome}

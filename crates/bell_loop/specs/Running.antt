@@ -1,21 +1,21 @@
 -- A loop script's run on a shared loop, as far as home alone makes its history.
 use Rattle.std.specs.Prelude.{◌≡◌, ◌⊎◌, ◌≤◌, ◌+◌, ℕ, zero, suc, Bool, true, false, ◌||◌, Option, None, is_some, List, [], ◌∷◌, ◌++◌, find}
-use Rattle.aio_model.specs.declared.loop_scripts.ActKind.{ActKind}
-use Rattle.aio_model.specs.declared.loop_scripts.Command.{Command}
-use Rattle.aio_model.specs.declared.loop_scripts.LoopScript.{LoopScript}
-use Rattle.aio_model.specs.declared.loop_replies.LoopReply.{LoopReply}
-use Rattle.aio_model.specs.LoopHistory.{Sizes, History}
-use Rattle.aio_model.specs.LoopActs.{acts_of}
-use Rattle.aio_model.specs.LoopReplies.{DoesCommand, sizes_of}
-use Rattle.aio_model.specs.LoopSeats.{home, entries_of}
-use Rattle.aio_model.specs.LoopLists.{is_announced, stack_of, out_of}
-use Rattle.aio_model.specs.LoopFlags.{is_lot, is_pending, is_due, is_urgent, lives}
-use Rattle.aio_model.specs.FlagsWord.{bit}
-use Rattle.aio_model.specs.LoopLaws.{times_of}
-use Rattle.aio_model.specs.LoopFrame.{Entered}
-use Rattle.aio_model.specs.LoopLegal.{IsLegal}
-use Rattle.aio_model.specs.LoopLog.{Log, history_of, is_rung, begun_log, first_from}
-use Rattle.aio_model.specs.InFlight.{AtRest}
+use Rattle.aio_model.specs.declared.scripts.loop_scripts.ActKind.{ActKind}
+use Rattle.aio_model.specs.declared.scripts.loop_scripts.Command.{Command}
+use Rattle.aio_model.specs.declared.scripts.loop_scripts.LoopScript.{LoopScript}
+use Rattle.aio_model.specs.declared.scripts.loop_replies.LoopReply.{LoopReply}
+use Rattle.aio_model.specs.Loop.History.{Sizes, History}
+use Rattle.aio_model.specs.Scripts.LoopActs.{acts_of}
+use Rattle.aio_model.specs.Scripts.LoopReplies.{DoesCommand, sizes_of}
+use Rattle.aio_model.specs.Loop.Seats.{home, entries_of}
+use Rattle.aio_model.specs.Loop.Lists.{is_announced, stack_of, out_of}
+use Rattle.aio_model.specs.Loop.Flags.{is_lot, is_pending, is_due, is_urgent, lives}
+use Rattle.aio_model.specs.Loop.FlagsWord.{bit}
+use Rattle.aio_model.specs.Loop.Laws.{times_of}
+use Rattle.aio_model.specs.Loop.Frame.{Entered}
+use Rattle.aio_model.specs.Loop.Legal.{IsLegal}
+use Rattle.aio_model.specs.Loop.Log.{Log, history_of, is_rung, begun_log, first_from}
+use Rattle.aio_model.specs.Loop.InFlight.{AtRest}
 use Rattle.aio_core.specs.Known.{Known, empty_stage, is_running}
 use Rattle.aio_core.specs.Calls.{TableState, SeatState, IsSeatOf}
 use Rattle.bell_loop.specs.Actions.{some_rings}

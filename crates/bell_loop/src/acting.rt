@@ -1,8 +1,8 @@
 //! The actions of a callback, done through the seat that it is lent.
 ghost use Rattle.std.specs.Prelude.{◌≡◌, None, Some, MatchOption};
-ghost use Rattle.aio_model.specs.declared.flags.Flags.{Flags};
-ghost use Rattle.aio_model.specs.LoopActs as Spec;
-ghost use Rattle.aio_model.specs.LoopActs.{before_nest, behind_nest};
+ghost use Rattle.aio_model.specs.declared.loops.flags.Flags.{Flags};
+ghost use Rattle.aio_model.specs.Scripts.LoopActs as Spec;
+ghost use Rattle.aio_model.specs.Scripts.LoopActs.{before_nest, behind_nest};
 ghost use Rattle.aio_core.specs.Calls.{IsSeatOf};
 ghost use Rattle.bell_loop.specs.Actions as Plain;
 ghost use Rattle.bell_loop.specs.Actions.{some_asks, Acts, ActsAll, AreWithin, IsLent};

@@ -1,9 +1,9 @@
 //! The callbacks of a loop script: each does the actions of its list, up to the next nest, and is entered again behind it.
 ghost use Rattle.std.specs.Prelude.{◌≡◌, Some, ◌⊎◌, ◌+◌, ◌<◌, ◌≤◌, ◌^◌, ◌∷◌, ◌++◌, [], ◌||◌, ℕ, List, None, min, length, map, option_map, true, false, if◌then◌else◌, MatchOption, IfOk};
 ghost use Rattle.std.specs.List.{AllByRecursion};
-ghost use Rattle.aio_model.specs.declared.ran_lists.Called.{Called};
-ghost use Rattle.aio_model.specs.LoopActs.{acts_called, waiting_after, before_nest};
-ghost use Rattle.aio_model.specs.LoopReplies.{called_by};
+ghost use Rattle.aio_model.specs.declared.loops.ran_lists.Called.{Called};
+ghost use Rattle.aio_model.specs.Scripts.LoopActs.{acts_called, waiting_after, before_nest};
+ghost use Rattle.aio_model.specs.Scripts.LoopReplies.{called_by};
 ghost use Rattle.bell_loop.specs.Actions.{AreWithin, some_asks};
 ghost use Rattle.bell_loop.specs.Entering.{acts_at, CanRun, NamesCalled, FindsTodo};
 

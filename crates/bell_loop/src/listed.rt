@@ -1,6 +1,6 @@
 //! The lists of actions of a loop script's handles.
 ghost use Rattle.std.specs.Prelude.{◌≡◌, map, [], IfOk};
-ghost use Rattle.aio_model.specs.LoopActs as Spec;
+ghost use Rattle.aio_model.specs.Scripts.LoopActs as Spec;
 ghost use Rattle.bell_loop.specs.Entering.{AreListsOf};
 
 use aio_model::{Act, ActKind};

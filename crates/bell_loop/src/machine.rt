@@ -1,11 +1,11 @@
 //! A shared loop on which the commands of a loop script are done by home alone.
 ghost use Rattle.std.specs.Prelude.{◌≡◌, ◌+◌, ◌≤◌, ◌<◌, ◌||◌, ℕ, false, [], length, map, IfOk};
 ghost use Rattle.bell_loop.specs.Entering.{CanRun};
-ghost use Rattle.aio_model.specs.declared.loop_replies.LoopReply.{LoopReply};
-ghost use Rattle.aio_model.specs.declared.loop_scripts.Command.{Command};
-ghost use Rattle.aio_model.specs.LoopFlags.{is_pending};
-ghost use Rattle.aio_model.specs.LoopLines.{HasNoDeadline};
-ghost use Rattle.aio_model.specs.LoopLog.{Log};
+ghost use Rattle.aio_model.specs.declared.scripts.loop_replies.LoopReply.{LoopReply};
+ghost use Rattle.aio_model.specs.declared.scripts.loop_scripts.Command.{Command};
+ghost use Rattle.aio_model.specs.Loop.Flags.{is_pending};
+ghost use Rattle.aio_model.specs.Scripts.LoopLines.{HasNoDeadline};
+ghost use Rattle.aio_model.specs.Loop.Log.{Log};
 ghost use Rattle.bell_loop.specs.Running.{Calm, IsAlone};
 ghost use Rattle.bell_loop.specs.Machines.{Answers, IsNew, Ready, KeepsLog, state_of, ran_in, more_in, enqueue_command};
 ghost use Rattle.bell_loop.specs.Ending.{clearing, clearings, EndsBy, Leads};

@@ -1,5 +1,5 @@
 ghost use Rattle.std.specs.Prelude.{◌≡◌, ◌≤◌, ◌<◌, false, length, replicate, set, slice_index_or, IfOk};
-ghost use Rattle.aio_model.specs.LoopLog.{first_from};
+ghost use Rattle.aio_model.specs.Loop.Log.{first_from};
 
 use aio_model::NoMemory;
 use std::alloc::Global;

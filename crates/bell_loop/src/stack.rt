@@ -16,7 +16,7 @@ pub struct Stack<'a> {
 
 impl<'a> Model for Stack<'a> {
     ghost use Rattle.std.specs.Prelude.{List, reverse, map, ◌≤◌, vec_capacity};
-    ghost use Rattle.aio_model.specs.declared.loop_scripts.ActKind.{ActKind};
+    ghost use Rattle.aio_model.specs.declared.scripts.loop_scripts.ActKind.{ActKind};
 
     ghost Value = { List (List ActKind) };
 

@@ -1,12 +1,12 @@
 //! The calls of home on the shared loop. Where home alone makes its history, each does to a log what the commands of a loop script are
 //! defined by.
 ghost use Rattle.std.specs.Prelude.{◌≡◌, ◌≤◌, ◌<◌, ◌-◌, ◌^◌, ℕ, [], true, false, map, MatchBool};
-ghost use Rattle.aio_model.specs.declared.loop_replies.LoopReply.{LoopReply};
-ghost use Rattle.aio_model.specs.declared.loop_scripts.Command.{Command};
-ghost use Rattle.aio_model.specs.LoopLog.{flags_before, enqueued_log, canceled_log, set_log, is_set_in, cleared_log};
-ghost use Rattle.aio_model.specs.LoopSeats as Seats;
-ghost use Rattle.aio_model.specs.LoopFlags.{is_pending, lives};
-ghost use Rattle.aio_model.specs.LoopLists.{is_set};
+ghost use Rattle.aio_model.specs.declared.scripts.loop_replies.LoopReply.{LoopReply};
+ghost use Rattle.aio_model.specs.declared.scripts.loop_scripts.Command.{Command};
+ghost use Rattle.aio_model.specs.Loop.Log.{flags_before, enqueued_log, canceled_log, set_log, is_set_in, cleared_log};
+ghost use Rattle.aio_model.specs.Loop.Seats as Seats;
+ghost use Rattle.aio_model.specs.Loop.Flags.{is_pending, lives};
+ghost use Rattle.aio_model.specs.Loop.Lists.{is_set};
 ghost use Rattle.aio_core.specs.Standing.{asked_by};
 ghost use Rattle.aio_core.specs.Calls.{IsSeatOf, first_seat};
 ghost use Rattle.aio_core.specs.Known.{is_running};

@@ -1,7 +1,7 @@
 //! What the commit of a loop script answers.
 ghost use Rattle.std.specs.Prelude.{◌≡◌};
-ghost use Rattle.aio_model.specs.LoopLog.{commit_from};
-ghost use Rattle.aio_model.specs.LoopLines.{HasNoDeadline};
+ghost use Rattle.aio_model.specs.Loop.Log.{commit_from};
+ghost use Rattle.aio_model.specs.Scripts.LoopLines.{HasNoDeadline};
 
 use aio_model::{Commit, Why};
 

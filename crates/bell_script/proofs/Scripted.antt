@@ -3,16 +3,16 @@ use Rattle.std.proofs.Common.{◌≡◌, ℕ, zero, suc, ◌<◌, Bool, Option, 
 use Rattle.std.specs.List.{flat_map, AllByRecursion}
 use Rattle.std.proofs.lemmas.List.{append-nil}
 use Rattle.std.proofs.lemmas.Grind.{flat_map-append}
-use Rattle.aio_model.specs.declared.loop_scripts.Command.{Command}
-use Rattle.aio_model.specs.declared.loop_scripts.ActKind.{ActKind}
-use Rattle.aio_model.specs.declared.loop_scripts.LoopScript.{LoopScript}
-use Rattle.aio_model.specs.declared.loop_replies.LoopReply.{LoopReply}
-use Rattle.aio_model.specs.declared.loop_replies.LoopReply.TheVariants.{Ran}
-use Rattle.aio_model.specs.declared.ran_lists.Called.{Called}
-use Rattle.aio_model.specs.LoopHistory.{Sizes, History}
-use Rattle.aio_model.specs.LoopLog.{Log}
-use Rattle.aio_model.specs.LoopLines.{reply_text}
-use Rattle.aio_model.specs.LoopReplies.{DoesCommand, DoesAll, sizes_of}
+use Rattle.aio_model.specs.declared.scripts.loop_scripts.Command.{Command}
+use Rattle.aio_model.specs.declared.scripts.loop_scripts.ActKind.{ActKind}
+use Rattle.aio_model.specs.declared.scripts.loop_scripts.LoopScript.{LoopScript}
+use Rattle.aio_model.specs.declared.scripts.loop_replies.LoopReply.{LoopReply}
+use Rattle.aio_model.specs.declared.scripts.loop_replies.LoopReply.TheVariants.{Ran}
+use Rattle.aio_model.specs.declared.loops.ran_lists.Called.{Called}
+use Rattle.aio_model.specs.Loop.History.{Sizes, History}
+use Rattle.aio_model.specs.Loop.Log.{Log}
+use Rattle.aio_model.specs.Scripts.LoopLines.{reply_text}
+use Rattle.aio_model.specs.Scripts.LoopReplies.{DoesCommand, DoesAll, sizes_of}
 use Rattle.aio_script.specs.declared.print.WriteFault.{WriteFault}
 use Rattle.aio_script.proofs.Gathered.{PutsOnPage-nothing, PutsOnPage-same}
 use Rattle.aio_script.specs.LoopBounds.{IsActWithin, IsCommandWithin}

@@ -1,14 +1,14 @@
 -- A whole loop script on the machine, and what is printed.
 use Rattle.std.specs.Prelude.{◌≡◌, ℕ, Option, Result, List, ◌++◌}
 use Rattle.std.specs.List.{flat_map}
-use Rattle.aio_model.specs.declared.loop_scripts.Command.{Command}
-use Rattle.aio_model.specs.declared.loop_scripts.LoopScript.{LoopScript}
-use Rattle.aio_model.specs.declared.loop_replies.LoopReply.{LoopReply}
-use Rattle.aio_model.specs.LoopHistory.{History}
-use Rattle.aio_model.specs.LoopLines.{reply_text}
-use Rattle.aio_model.specs.LoopLog.{Log}
-use Rattle.aio_model.specs.LoopReplies.{DoesAll}
-use Rattle.aio_model.specs.LoopText.{IsTextOf}
+use Rattle.aio_model.specs.declared.scripts.loop_scripts.Command.{Command}
+use Rattle.aio_model.specs.declared.scripts.loop_scripts.LoopScript.{LoopScript}
+use Rattle.aio_model.specs.declared.scripts.loop_replies.LoopReply.{LoopReply}
+use Rattle.aio_model.specs.Loop.History.{History}
+use Rattle.aio_model.specs.Scripts.LoopLines.{reply_text}
+use Rattle.aio_model.specs.Loop.Log.{Log}
+use Rattle.aio_model.specs.Scripts.LoopReplies.{DoesAll}
+use Rattle.aio_model.specs.Scripts.LoopText.{IsTextOf}
 use Rattle.aio_script.specs.declared.print.WriteFault as fault
 use Rattle.aio_script.specs.Printing.{PutsOnPage, Prints}
 use Rattle.bell_loop.specs.Entering.{acts_at}

@@ -1,7 +1,7 @@
 //! The replies of a loop script's commands, printed one after another.
 ghost use Rattle.std.specs.Prelude.{◌++◌, ℕ, Option, List};
-ghost use Rattle.aio_model.specs.declared.loop_replies.LoopReply.{LoopReply};
-ghost use Rattle.aio_model.specs.LoopLines.{HasLine, reply_text};
+ghost use Rattle.aio_model.specs.declared.scripts.loop_replies.LoopReply.{LoopReply};
+ghost use Rattle.aio_model.specs.Scripts.LoopLines.{HasLine, reply_text};
 ghost use Rattle.aio_script.specs.LoopBounds.{IsCommandWithin};
 ghost use Rattle.aio_script.specs.Printing.{PutsOnPage};
 ghost use Rattle.bell_loop.specs.Machines.{Ready, state_of, ran_in, more_in};

@@ -1,7 +1,7 @@
 //! A loop script on the plain loop of one thread, to compare with. The script has four handles, one lot and three events. The lot is
 //! the fifth handle of the plain loop.
 ghost use Rattle.std.specs.Prelude.{◌≡◌, IfSome};
-ghost use Rattle.aio_model.specs.LoopLines.{HasLine, HasNoDeadline};
+ghost use Rattle.aio_model.specs.Scripts.LoopLines.{HasLine, HasNoDeadline};
 
 use aio_model::{ActKind, Called, Command, Commit, Flags, LoopReply, OneLoop, RanList, Why};
 use aio_script::{Page, print_poll, print_reply};

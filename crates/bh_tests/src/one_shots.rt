@@ -1,6 +1,6 @@
 //! One-shots over pools of one place, of two and of none.
 ghost use Rattle.std.specs.Prelude.{◌≡◌, ◌≤◌};
-ghost use Rattle.aio_model.specs.InFlight.{AtRest};
+ghost use Rattle.aio_model.specs.Loop.InFlight.{AtRest};
 ghost use Rattle.aio_core.specs.Known.{empty_stage};
 ghost use Rattle.aio_core.specs.Calls.{IsSeatOf};
 ghost use Rattle.lot_pool.specs.Pools.{IsPassOf};

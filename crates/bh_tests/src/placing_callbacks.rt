@@ -1,8 +1,8 @@
 //! A callback places one-shots itself, with a pass of its own.
 ghost use Rattle.std.specs.Prelude.{◌≡◌};
-ghost use Rattle.aio_model.specs.InFlight.{AtRest};
-ghost use Rattle.aio_model.specs.LoopHistory.{History};
-ghost use Rattle.aio_model.specs.LoopLegal.{IsLegal};
+ghost use Rattle.aio_model.specs.Loop.InFlight.{AtRest};
+ghost use Rattle.aio_model.specs.Loop.History.{History};
+ghost use Rattle.aio_model.specs.Loop.Legal.{IsLegal};
 ghost use Rattle.aio_core.specs.Known.{empty_stage};
 ghost use Rattle.aio_core.specs.Calls.{IsSeatOf};
 ghost use Rattle.lot_pool.specs.Pools.{IsPassOf, IsHomeOf};

@@ -1,7 +1,7 @@
 -- The seats of a loop own the same numbers behind all that it does.
 use Rattle.std.proofs.Common.{◌≡◌, ℕ, Bool, true, false, List, ap}
-use Rattle.aio_model.specs.declared.causes.Cause.{Cause}
-use Rattle.aio_model.specs.declared.causes.Cause.TheVariants.{Wake, Move}
+use Rattle.aio_model.specs.declared.coroutines.causes.Cause.{Cause}
+use Rattle.aio_model.specs.declared.coroutines.causes.Cause.TheVariants.{Wake, Move}
 use Rattle.aio_core.specs.Known.{Known}
 use Rattle.aio_core.specs.Calls.{SeatState}
 use Rattle.aio_loop.specs.Entering.{LoopEntered}

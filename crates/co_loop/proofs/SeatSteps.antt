@@ -4,7 +4,7 @@ use Rattle.std.proofs.Math.Seq.{map-set_same}
 use Rattle.std.proofs.lemmas.Bool.{cases_lt}
 use mathlib.Core.Logic.{⊎_elim}
 use Rattle.std.specs.FinMap as fin
-use Rattle.aio_model.specs.declared.causes.Cause.TheVariants.{Wake, Move}
+use Rattle.aio_model.specs.declared.coroutines.causes.Cause.TheVariants.{Wake, Move}
 use Rattle.aio_loop.specs.Entering.{LoopLent, ForBottom, ForReady, ForExpired, LoopEntered}
 use Rattle.co_state.specs.Wants.{Wants}
 use Rattle.co_state.specs.declared.cx.CoId.{CoId}

@@ -5,7 +5,7 @@ use Rattle.std.proofs.lemmas.Bool.{cases_eq, cases_lt}
 use Rattle.std.proofs.lemmas.List.{get_or-set_same, get_or-set_other, set_past}
 use mathlib.Core.Logic.{⊎_elim}
 use Rattle.std.specs.FinMap as fin
-use Rattle.aio_model.specs.declared.causes.Cause.TheVariants.{Wake, Move}
+use Rattle.aio_model.specs.declared.coroutines.causes.Cause.TheVariants.{Wake, Move}
 use Rattle.aio_loop.specs.Entering.{LoopLent, ForBottom, ForReady, ForExpired, LoopEntered}
 use Rattle.aio_loop.proofs.Logged.{kept_by_turn}
 use Rattle.co_state.specs.Wants.{Wants}

@@ -1,7 +1,7 @@
 -- What no entry of a runner changes is the same behind a turn.
 use Rattle.std.proofs.Common.{◌≡◌, ℕ, zero, suc, Bool, List, [], ◌∷◌, ap, ◌∙◌}
 use Rattle.lot_pool.specs.Pools.{PoolState, PassState}
-use Rattle.aio_model.specs.LoopFrame.{Entered, DoesEntries}
+use Rattle.aio_model.specs.Loop.Frame.{Entered, DoesEntries}
 use Rattle.aio_loop.specs.declared.turned.Turned.{Turned}
 use Rattle.aio_loop.specs.Entering.{LoopEntered, WithSide, does_bottom}
 use Rattle.aio_loop.specs.Expiring.{EntersEachExpired}

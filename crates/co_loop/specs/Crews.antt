@@ -1,7 +1,7 @@
 -- What a loop keeps of coroutines.
 use Rattle.std.specs.Prelude.{◌≡◌, ℕ, ◌<◌, ◌+◌, Bool, true, min, nat_lt, if◌then◌else◌, ◌^◌, ◌-◌, ◌⊎◌, MatchBool, MatchOption, Option, None, Some, List, length, slice_index_or, slice_set}
 use Rattle.std.specs.FinMap as map
-use Rattle.aio_model.specs.declared.causes.Cause.TheVariants.{Move}
+use Rattle.aio_model.specs.declared.coroutines.causes.Cause.TheVariants.{Move}
 use Rattle.co_state.specs.Wants.{Wants}
 use Rattle.co_state.specs.Coroutines.{Coroutines}
 use Rattle.co_state.specs.Entering.{ResumesOne}

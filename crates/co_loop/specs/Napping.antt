@@ -1,7 +1,7 @@
 -- Those that sleep, and their timers.
 use Rattle.std.specs.Prelude.{◌≡◌, ℕ, ℤ, pos, zero, suc, min, ◌+◌, ◌-◌, ◌^◌, Bool, true, false, List, ◌∷◌, slice_index_or, slice_set}
-use Rattle.aio_model.specs.declared.timer_calls.TimerCall.{TimerCall}
-use Rattle.aio_model.specs.declared.timer_calls.TimerCall.TheVariants.{Arm}
+use Rattle.aio_model.specs.declared.timers.calls.TimerCall.{TimerCall}
+use Rattle.aio_model.specs.declared.timers.calls.TimerCall.TheVariants.{Arm}
 use Rattle.aio_timers.specs.StandsFor.{TimerList, StandsFor}
 use Rattle.co_loop.specs.declared.naps.Nap.{Nap}
 use Rattle.co_loop.specs.declared.naps.Nap.TheVariants.{Awake, Asked, Armed}

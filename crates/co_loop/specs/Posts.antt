@@ -1,6 +1,6 @@
 -- A wake through the seats of a loop.
 use Rattle.std.specs.Prelude.{◌⊎◌, ℕ, false}
-use Rattle.aio_model.specs.declared.causes.Cause.TheVariants.{Wake}
+use Rattle.aio_model.specs.declared.coroutines.causes.Cause.TheVariants.{Wake}
 use Rattle.loop_rows.specs.declared.seats.Seats.{Seats}
 use Rattle.loop_rows.specs.Posts.{Posts, FindsMarked}
 

@@ -1,6 +1,6 @@
 -- The quit mark, carried out.
 use Rattle.std.specs.Prelude.{◌≡◌, ℕ, ◌<◌, ◌≤◌, List, length, slice_index_or}
-use Rattle.aio_model.specs.LoopHistory.{SetEvent}
+use Rattle.aio_model.specs.Loop.History.{SetEvent}
 use Rattle.aio_core.specs.Standing.{Makes}
 use Rattle.aio_notify.specs.Setting.{SetsAndNotifies}
 use Rattle.loop_rows.specs.declared.seats.Seats.{Seats}

@@ -1,6 +1,6 @@
 //! A turn of a loop with coroutines, and what is left to do behind it.
 ghost use Rattle.std.specs.Prelude.{◌≡◌, ◌≤◌, IsFalse, not, ◌&&◌, length};
-ghost use Rattle.aio_model.specs.LoopLegal.{IsLegal};
+ghost use Rattle.aio_model.specs.Loop.Legal.{IsLegal};
 ghost use Rattle.aio_bh.specs.OneShots.{ServesHome};
 ghost use Rattle.aio_loop.specs.Homes.{IsHomeFree};
 ghost use Rattle.aio_loop.specs.Walks.{loop_far};

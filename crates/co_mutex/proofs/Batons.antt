@@ -4,7 +4,7 @@ use Rattle.std.proofs.lemmas.Bool.{cases_eq, ne_eqb, eq-eqb}
 use mathlib.Core.Option.{Option as Opt, some}
 use lib.ListN.{get_elem?}
 use Rattle.aio_chain.proofs.Chains.{Each}
-use Rattle.aio_model.specs.LockHistory.{LockEntry, waiters_of, coroutine_of, value_of}
+use Rattle.aio_model.specs.Lock.History.{LockEntry, waiters_of, coroutine_of, value_of}
 use Rattle.co_mutex.specs.Places.{Side, ToPop, Walking, Nobody, Granting, PassPlace, AtRest, Counted, Named, HeadLoaded, Linked, Pushed, Loaded, Queued, SelfGranted, Holds, OnDuty, Published, Found, is_holding}
 use Rattle.co_mutex.specs.LockWords.{next_at, grant_at, who_at, next_in}
 use Rattle.co_mutex.specs.declared.slot.Slot.{Slot}

@@ -1,8 +1,8 @@
 -- How a call stands in the history, from the entries that its steps made.
 use Rattle.std.proofs.Common.{◌≡◌, ℕ, List, [], ◌∷◌, ◌++◌, refl, sym, ap, ◌∙◌, append_assoc}
-use Rattle.aio_model.specs.LockHistory.{LockEntry, maker_of, made_by, value_of, IsLegalLock}
-use Rattle.aio_model.specs.LockNotes.{IsNoted}
-use Rattle.aio_model.specs.LockSeats.{StandsInLock}
+use Rattle.aio_model.specs.Lock.History.{LockEntry, maker_of, made_by, value_of, IsLegalLock}
+use Rattle.aio_model.specs.Lock.Notes.{IsNoted}
+use Rattle.aio_model.specs.Lock.Seats.{StandsInLock}
 use Rattle.co_mutex.specs.Known.{GoesOn}
 use Rattle.co_mutex.proofs.Histories.{made_by-append, made_more, note_kept}
 

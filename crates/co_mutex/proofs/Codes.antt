@@ -6,7 +6,7 @@ use Rattle.atomic_table.specs.Table.{Me, step, Allows, rest}
 use Rattle.co_mutex.specs.declared.slot.Slot.{Slot}
 use Rattle.co_mutex.specs.declared.lock.CoMutex.{CoMutex}
 use Rattle.co_mutex.specs.declared.lock.Pass.{Pass}
-use Rattle.aio_model.specs.LockHistory.{LockEntry}
+use Rattle.aio_model.specs.Lock.History.{LockEntry}
 use Rattle.co_mutex.specs.LockWords.{head_at, next_at, grant_at, who_at}
 use Rattle.co_mutex.specs.Places.{PassPlace, Counted, HeadLoaded, Linked, Queued, SelfGranted}
 use Rattle.co_mutex.specs.Known.{GrantSwap, Done, Known, moves, learns, makes}

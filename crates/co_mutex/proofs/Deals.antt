@@ -5,7 +5,7 @@ use mathlib.Core.Option.{some, some-injective, some-ne-none}
 use lib.ListN.{get_elem?}
 use Rattle.atomic_table.specs.Table.{State, opening, Splits}
 use Rattle.atomic_table.proofs.Lists.{at_set}
-use Rattle.aio_model.specs.LockHistory.{LockEntry, made_by}
+use Rattle.aio_model.specs.Lock.History.{LockEntry, made_by}
 use Rattle.co_mutex.specs.declared.slot.Slot.{Slot}
 use Rattle.co_mutex.specs.declared.slot.Slot.TheVariants.{Value}
 use Rattle.co_mutex.specs.declared.rule.Opened.{Opened}

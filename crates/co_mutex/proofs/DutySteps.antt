@@ -5,7 +5,7 @@ use lib.ListN.{get_elem?}
 use Rattle.atomic_table.proofs.Lists.{set_here}
 use Rattle.aio_chain.specs.Chains.{IsChain}
 use Rattle.aio_chain.proofs.Chains.{Each, chain_kept, none_taken}
-use Rattle.aio_model.specs.LockHistory.{LockEntry, IsWaitingIn, waiters_of}
+use Rattle.aio_model.specs.Lock.History.{LockEntry, IsWaitingIn, waiters_of}
 use Rattle.co_mutex.specs.Places.{Side, Locking, Unlocking, Task, ToPop, Walking, Nobody, Granting, PassPlace, OnDuty, is_in_line, IsNumbered, pending}
 use Rattle.co_mutex.specs.LockWords.{locked_at, handoff_at, head_at, next_at, grant_at, who_at, next_in}
 use Rattle.co_mutex.specs.declared.slot.Slot.{Slot}

@@ -2,12 +2,12 @@
 use Rattle.std.proofs.Common.{◌≡◌, ℕ, ◌≤◌, inr, Bool, false, None, List, [], ◌∷◌, slice_index, length, refl, sym, ap, ◌∙◌, subst, arith, suc}
 use mathlib.Core.Option.{Option as Opt, some}
 use lib.ListN.{get_elem?}
-use Rattle.aio_model.specs.LockHistory.{LockEntry, owner_of, waiters_of, value_of}
+use Rattle.aio_model.specs.Lock.History.{LockEntry, owner_of, waiters_of, value_of}
 use Rattle.co_mutex.specs.Places.{PassPlace, AtRest, Holds, is_in_line, is_before_push, count}
 use Rattle.co_mutex.specs.LockWords.{locked_at, handoff_at, head_at, grant_at, word_count}
 use Rattle.co_mutex.specs.declared.slot.Slot.{Slot}
 use Rattle.co_mutex.specs.declared.slot.Slot.TheVariants.{Value}
-use Rattle.co_mutex.specs.Rule.{Popped, Baton, Free, Owned, Duty, Offered, EachPlace, owner_in, IsAt, Stands}
+use Rattle.co_mutex.specs.Rule.{Popped, Baton, Free, Owned, Offered, EachPlace, owner_in, IsAt, Stands}
 use Rattle.co_mutex.proofs.Counting.{bit, count_low}
 use Rattle.co_mutex.proofs.Batons.{free_at_zero, none_holds, value_home}
 

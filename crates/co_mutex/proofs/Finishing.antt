@@ -1,9 +1,9 @@
 -- How a lock is finished: the pass was pushed, and perhaps granted a waiter.
 use Rattle.std.proofs.Common.{◌≡◌, ◌≢◌, ℕ, Bool, true, false, cond, eqb, MatchBool, List, [], ◌∷◌, ◌++◌, refl, sym, ap, ◌∙◌, subst, append_assoc}
 use Rattle.std.proofs.lemmas.Bool.{eq-eqb, ne_eqb}
-use Rattle.aio_model.specs.LockHistory.{LockEntry, Wait, Grant, coroutine_of, value_of, IsLegalLock}
-use Rattle.aio_model.specs.LockNotes.{IsNoted}
-use Rattle.aio_model.specs.LockSeats.{StandsInLock}
+use Rattle.aio_model.specs.Lock.History.{LockEntry, Wait, Grant, coroutine_of, value_of, IsLegalLock}
+use Rattle.aio_model.specs.Lock.Notes.{IsNoted}
+use Rattle.aio_model.specs.Lock.Seats.{StandsInLock}
 use Rattle.co_mutex.specs.declared.slot.Slot.TheVariants.{Value, Out}
 use Rattle.co_state.specs.declared.cx.CoId.{CoId}
 use Rattle.co_mutex.specs.LockWords.{head_at, handoff_at, grant_at, who_at}

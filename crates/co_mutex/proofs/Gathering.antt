@@ -1,12 +1,12 @@
 -- How seats come together, and what the last state tells.
-use Rattle.std.proofs.Common.{◌≡◌, ◌≢◌, ℕ, zero, suc, ◌<◌, eqb, Bool, true, false, cond, Some, ◌⊎◌, inl, inr, ⊎_elim, List, [], ◌∷◌, ◌++◌, length, set, refl, sym, ap, ◌∙◌, subst, length-set, arith}
+use Rattle.std.proofs.Common.{◌≡◌, ◌≢◌, ℕ, zero, suc, ◌<◌, eqb, true, false, cond, ◌⊎◌, inl, inr, ⊎_elim, List, [], ◌∷◌, ◌++◌, length, set, refl, sym, ap, ◌∙◌, subst, arith}
 use Rattle.std.proofs.lemmas.Bool.{ne_eqb, eq-eqb}
 use mathlib.Core.Option.{some, some-injective, some-ne-none}
 use lib.ListN.{get_elem?}
 use Rattle.atomic_table.specs.Table.{State, Joins, Final, Seen}
 use Rattle.atomic_table.proofs.Lists.{at_set, at_longer}
-use Rattle.aio_model.specs.LockHistory.{LockEntry, made_by, value_of, IsLegalLock, AreBelow}
-use Rattle.aio_model.specs.LockNotes.{IsNoted}
+use Rattle.aio_model.specs.Lock.History.{LockEntry, made_by, value_of, IsLegalLock, AreBelow}
+use Rattle.aio_model.specs.Lock.Notes.{IsNoted}
 use Rattle.co_mutex.specs.declared.slot.Slot.{Slot}
 use Rattle.co_mutex.specs.declared.slot.Slot.TheVariants.{Value}
 use Rattle.co_mutex.specs.Places.{PassPlace, AtRest}
@@ -121,7 +121,7 @@ module _ {T N : Type 0} (note : T → ℕ → N) (n : ℕ) (built : T) where
           let g : get_elem? r.places p ≡ some AtRest = subst (λ z. get_elem? r.places z ≡ some AtRest) one.2 (good one.1.0 one.0 one.1.1).1 in
           some-injective place AtRest (sym e ∙ g)
 
-      rests : (Rattle.aio_model.specs.LockHistory.owner_of r.history ≡ Rattle.std.proofs.Common.None) × (Rattle.aio_model.specs.LockHistory.waiters_of r.history ≡ []) × (get_elem? s.homes 0 ≡ some (some (Value (value_of built r.history))))
+      rests : (Rattle.aio_model.specs.Lock.History.owner_of r.history ≡ Rattle.std.proofs.Common.None) × (Rattle.aio_model.specs.Lock.History.waiters_of r.history ≡ []) × (get_elem? s.homes 0 ≡ some (some (Value (value_of built r.history))))
       rests = all_rest n built r.history s.words s.homes r.places r.baton r.stack r.lock resting_all
 
       list : (popped : List ℕ) × (last : ℕ) × (get_elem? s.homes 1 ≡ some (some (Popped popped last)))

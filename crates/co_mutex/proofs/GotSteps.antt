@@ -5,7 +5,7 @@ use lib.ListN.{get_elem?}
 use Rattle.atomic_table.proofs.Lists.{set_here, set_else}
 use Rattle.aio_chain.specs.Chains.{IsChain}
 use Rattle.aio_chain.proofs.Chains.{chain_kept}
-use Rattle.aio_model.specs.LockHistory.{LockEntry, Got, owner_of, waiters_of, value_of}
+use Rattle.aio_model.specs.Lock.History.{LockEntry, Got, owner_of, waiters_of, value_of}
 use Rattle.co_mutex.specs.Places.{PassPlace, AtRest, Counted, Holds, IsNumbered}
 use Rattle.co_mutex.specs.LockWords.{locked_at, handoff_at, head_at, grant_at, next_in}
 use Rattle.co_mutex.specs.declared.slot.Slot.{Slot}

@@ -6,7 +6,7 @@ use lib.ListN.{get_elem?}
 use Rattle.atomic_table.proofs.Lists.{at_set, set_here, set_else}
 use Rattle.aio_chain.specs.Chains.{IsChain}
 use Rattle.aio_chain.proofs.Chains.{chain_kept}
-use Rattle.aio_model.specs.LockHistory.{LockEntry, Grant, IsWaitingIn, IsFirst, without_first, owner_of, waiters_of, value_of}
+use Rattle.aio_model.specs.Lock.History.{LockEntry, Grant, IsWaitingIn, IsFirst, without_first, owner_of, waiters_of, value_of}
 use Rattle.co_mutex.specs.Places.{Side, Locking, Unlocking, Task, PassPlace, AtRest, Counted, Named, HeadLoaded, Linked, Pushed, Loaded, Queued, SelfGranted, Holds, OnDuty, Published, Found, is_in_line, is_before_push, is_holding, IsNumbered, pending}
 use Rattle.co_mutex.specs.LockWords.{locked_at, handoff_at, head_at, next_at, grant_at, who_at, next_in}
 use Rattle.co_mutex.specs.declared.slot.Slot.{Slot}

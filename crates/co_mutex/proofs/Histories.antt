@@ -1,8 +1,8 @@
 -- Entries of a pass in histories that are put together, and notes in them.
 use Rattle.std.proofs.Common.{◌≡◌, ◌≢◌, ℕ, eqb, Bool, true, false, cond, List, [], ◌∷◌, ◌++◌, refl, sym, ap, ◌∙◌, subst, ⊎_elim}
 use Rattle.std.proofs.lemmas.Bool.{cases_eq, ne_eqb, eq-eqb}
-use Rattle.aio_model.specs.LockHistory.{LockEntry, Got, Wait, Grant, Release, maker_of, made_by, value_of, IsLegalLock}
-use Rattle.aio_model.specs.LockNotes.{IsNoted}
+use Rattle.aio_model.specs.Lock.History.{LockEntry, Got, Wait, Grant, Release, maker_of, made_by, value_of, IsLegalLock}
+use Rattle.aio_model.specs.Lock.Notes.{IsNoted}
 
 module _ {T : Type 0} where
   pub made_by-append : (p : ℕ) (xs ys : List (LockEntry T)) → made_by p (xs ++ ys) ≡ made_by p xs ++ made_by p ys

@@ -1,16 +1,16 @@
 -- How a pass comes to hold, by its steps; and that it is the lock's pass then.
 use Rattle.std.proofs.Common.{◌≡◌, ◌≢◌, ℕ, eqb, MatchBool, List, [], ◌∷◌, ◌++◌, refl, sym, ap, ◌∙◌, subst, get_or}
 use Rattle.std.proofs.lemmas.Bool.{eq-eqb, ne_eqb}
-use Rattle.aio_model.specs.LockHistory.{LockEntry, Got, value_of}
-use Rattle.aio_model.specs.LockNotes.{IsNoted}
-use Rattle.aio_model.specs.LockSeats.{StandsInLock}
+use Rattle.aio_model.specs.Lock.History.{LockEntry, Got, value_of}
+use Rattle.aio_model.specs.Lock.Notes.{IsNoted}
+use Rattle.aio_model.specs.Lock.Seats.{StandsInLock}
 use Rattle.co_mutex.specs.declared.slot.Slot.{Slot}
 use Rattle.co_mutex.specs.declared.slot.Slot.TheVariants.{Value, Out}
 use Rattle.co_mutex.specs.declared.lock.CoMutex.{CoMutex}
 use Rattle.co_mutex.specs.declared.lock.Pass.{Pass}
 use Rattle.co_mutex.specs.LockWords.{locked_at}
 use Rattle.co_mutex.specs.Places.{PassPlace, AtRest, Holds}
-use Rattle.co_mutex.specs.Known.{Kind, GrantSwap, Done, Known, moves, advances}
+use Rattle.co_mutex.specs.Known.{Kind, GrantSwap, Done, Known, advances}
 use Rattle.co_mutex.specs.Plays.{done, Gets, FindsGrant}
 use Rattle.co_mutex.specs.Passes.{IsOf, IsPassOf, hand_of}
 use Rattle.co_mutex.specs.Calls.{HoldsNow}
@@ -64,9 +64,9 @@ module _ {T N : Type 0} (note : T → ℕ → N) (built : T) where
         goes : Rattle.co_mutex.specs.Known.GoesOn v.number v.seen v.mine g.older
         goes = subst (λ (z : Known T). Rattle.co_mutex.specs.Known.KnownGoesOn z g.older) start g.makes.goes
 
-        legal : Rattle.aio_model.specs.LockHistory.IsLegalLock (Got v.number ∷ g.older)
+        legal : Rattle.aio_model.specs.Lock.History.IsLegalLock (Got v.number ∷ g.older)
         legal =
-            subst (λ (z : Known T). Rattle.aio_model.specs.LockHistory.IsLegalLock (Got z.number ∷ g.older)) start g.makes.legal
+            subst (λ (z : Known T). Rattle.aio_model.specs.Lock.History.IsLegalLock (Got z.number ∷ g.older)) start g.makes.legal
 
         value_now : value ≡ value_of built g.older
         value_now = first_value value (value_of built g.older) (sym had ∙ ap (λ (z : M T). z.1) g.makes.is)

@@ -1,6 +1,6 @@
 -- Laws of legal lock histories: no pass waits twice, and the owner doesn't wait.
 use Rattle.std.proofs.Common.{◌≡◌, ℕ, inl, inr, ⊎_elim, Some, List, [], ◌∷◌, ◌++◌, sym, ap, ◌∙◌, subst}
-use Rattle.aio_model.specs.LockHistory.{LockEntry, Got, Wait, Grant, Release, IsWaitingIn, IsFirst, without_first, owner_of, waiters_of, IsLegalLock}
+use Rattle.aio_model.specs.Lock.History.{LockEntry, Got, Wait, Grant, Release, IsWaitingIn, IsFirst, without_first, owner_of, waiters_of, IsLegalLock}
 use Rattle.co_mutex.proofs.WaitLists.{waits_either}
 
 pub not_member : ℕ → List ℕ → Type 0

@@ -1,6 +1,6 @@
 -- A lock is what begins it, and what finishes it.
 use Rattle.std.proofs.Common.{◌≡◌, ◌≢◌, ℕ, true, Some, None, List, [], ◌∷◌, ◌⊎◌, ⊎_elim, inr, refl, ap, subst}
-use Rattle.aio_model.specs.LockHistory.{LockEntry}
+use Rattle.aio_model.specs.Lock.History.{LockEntry}
 use Rattle.co_mutex.specs.declared.answers.Lock.{Lock}
 use Rattle.co_mutex.specs.declared.answers.Lock.TheVariants.{Held, Queued as Waits}
 use Rattle.co_mutex.specs.LockWords.{locked_at}

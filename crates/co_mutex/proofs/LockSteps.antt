@@ -9,7 +9,7 @@ use Rattle.atomic_table.specs.Table.{State, Me, Act, keeps, takes, step, Valid, 
 use Rattle.atomic_table.proofs.Lists.{set_again}
 use Rattle.co_mutex.specs.declared.slot.Slot.{Slot}
 use Rattle.co_mutex.specs.declared.slot.Slot.TheVariants.{Value}
-use Rattle.aio_model.specs.LockHistory.{LockEntry, Got, Wait, value_of}
+use Rattle.aio_model.specs.Lock.History.{LockEntry, Got, Wait, value_of}
 use Rattle.co_mutex.specs.Places.{Locking, Unlocking, ToPop, PassPlace, AtRest, Counted, Named, HeadLoaded, Linked, Pushed, Loaded, Queued, Holds, OnDuty, Found}
 use Rattle.co_mutex.specs.LockWords.{locked_at, handoff_at, head_at, next_at, who_at}
 use Rattle.co_mutex.specs.Rule.{Popped, Baton, Owned, Duty, Stands}

@@ -8,8 +8,8 @@ use Rattle.atomic_table.specs.Table.{Me, Act, keeps, takes, gives, chain, step, 
 use Rattle.atomic_table.proofs.Lists.{set_else, set_again}
 use Rattle.co_mutex.specs.declared.slot.Slot.{Slot}
 use Rattle.co_mutex.specs.declared.slot.Slot.TheVariants.{Value}
-use Rattle.aio_model.specs.LockHistory.{LockEntry, Release, IsWaitingIn, value_of}
-use Rattle.aio_model.specs.LockNotes.{SameNotes, IsNoted}
+use Rattle.aio_model.specs.Lock.History.{LockEntry, Release, IsWaitingIn, value_of}
+use Rattle.aio_model.specs.Lock.Notes.{SameNotes, IsNoted}
 use Rattle.co_mutex.specs.Lists.{Each}
 use Rattle.co_mutex.specs.Places.{Unlocking, ToPop, PassPlace, AtRest, Counted, Named, HeadLoaded, Linked, Pushed, Loaded, Queued, SelfGranted, Holds, OnDuty, Published, Found, is_holding, is_owning}
 use Rattle.co_mutex.specs.LockWords.{locked_at, handoff_at, grant_at}

@@ -1,9 +1,9 @@
 -- The loop of a push: so far other passes were pushed in between.
-use Rattle.std.proofs.Common.{◌≡◌, ◌≢◌, ℕ, true, MatchBool, List, [], ◌∷◌, refl, sym, ap, ◌∙◌, subst}
+use Rattle.std.proofs.Common.{◌≡◌, ◌≢◌, ℕ, MatchBool, List, [], ◌∷◌, refl, ap, ◌∙◌, subst}
 use Rattle.std.proofs.lemmas.Bool.{eq-eqb, ne_eqb}
 use Rattle.co_mutex.specs.declared.lock.CoMutex.{CoMutex}
 use Rattle.co_mutex.specs.declared.lock.Pass.{Pass}
-use Rattle.aio_model.specs.LockHistory.{Wait}
+use Rattle.aio_model.specs.Lock.History.{Wait}
 use Rattle.co_mutex.specs.LockWords.{head_at, who_at}
 use Rattle.co_mutex.specs.Places.{Named, HeadLoaded, Linked, Pushed}
 use Rattle.co_mutex.specs.Known.{WhoStore, HeadLoad, NextStore, HeadCompare, Done, Known, moves, advances}

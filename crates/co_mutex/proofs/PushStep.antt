@@ -6,7 +6,7 @@ use lib.ListN.{get_elem?}
 use Rattle.atomic_table.proofs.Lists.{set_here}
 use Rattle.aio_chain.specs.Chains.{IsChain}
 use Rattle.aio_chain.proofs.Chains.{chain_kept, pushed}
-use Rattle.aio_model.specs.LockHistory.{LockEntry, Wait, IsWaitingIn, waiters_of, coroutine_of}
+use Rattle.aio_model.specs.Lock.History.{LockEntry, Wait, IsWaitingIn, waiters_of, coroutine_of}
 use Rattle.co_mutex.specs.Places.{Side, Granting, PassPlace, Linked, Pushed, OnDuty, IsNumbered, pending}
 use Rattle.co_mutex.specs.LockWords.{locked_at, handoff_at, head_at, grant_at, who_at, next_in}
 use Rattle.co_mutex.specs.declared.slot.Slot.{Slot}

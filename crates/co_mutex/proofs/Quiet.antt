@@ -6,11 +6,11 @@ use lib.ListN.{get_elem?}
 use Rattle.atomic_table.proofs.Lists.{set_else}
 use Rattle.aio_chain.specs.Chains.{IsChain}
 use Rattle.aio_chain.proofs.Chains.{Each, each_of, chain_kept}
-use Rattle.aio_model.specs.LockHistory.{LockEntry, IsWaitingIn, owner_of, waiters_of, coroutine_of}
+use Rattle.aio_model.specs.Lock.History.{LockEntry, IsWaitingIn, owner_of, waiters_of, coroutine_of}
 use Rattle.co_mutex.specs.Places.{Task, ToPop, Walking, Nobody, Granting, PassPlace, AtRest, Counted, Named, HeadLoaded, Linked, Pushed, Loaded, Queued, SelfGranted, Holds, OnDuty, Published, Found, is_in_line, is_before_push, is_holding, StillLooks, IsNumbered, pending}
 use Rattle.co_mutex.specs.LockWords.{locked_at, handoff_at, head_at, grant_at, who_at, next_in}
 use Rattle.co_mutex.specs.declared.slot.Slot.{Slot}
-use Rattle.co_mutex.specs.Rule.{Baton, Free, Owned, Duty, Offered, EachPlace, IsAt, IsApart, one_if, CountsStand, BatonStands, grant_word, GrantsStand, ValueStands, IsTask, IsHome, IsWith, ListIs, LinkStands, ListsStand, NameStands, NamesStand, LooksStand, Stands}
+use Rattle.co_mutex.specs.Rule.{Baton, Free, Owned, Duty, Offered, IsAt, one_if, CountsStand, grant_word, ValueStands, IsTask, IsWith, ListIs, LinkStands, NameStands, Stands}
 use Rattle.co_mutex.proofs.Counting.{bit}
 use Rattle.co_mutex.proofs.Frames.{each_set, linked_kept, counts_after}
 use Rattle.co_mutex.proofs.WaitLists.{stack_waits, left_waits}

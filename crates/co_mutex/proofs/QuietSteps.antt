@@ -5,7 +5,7 @@ use mathlib.Core.Option.{Option as Opt, some, some-injective, some-ne-none}
 use lib.ListN.{get_elem?}
 use Rattle.atomic_table.proofs.Lists.{set_here, set_else}
 use Rattle.aio_chain.proofs.Chains.{none_taken}
-use Rattle.aio_model.specs.LockHistory.{LockEntry, IsWaitingIn, owner_of, waiters_of}
+use Rattle.aio_model.specs.Lock.History.{LockEntry, IsWaitingIn, owner_of, waiters_of}
 use Rattle.co_mutex.specs.Places.{PassPlace, AtRest, Counted, Named, HeadLoaded, Linked, Pushed, Loaded, Queued, SelfGranted, Holds, OnDuty, Published, Found, is_before_push, StillLooks}
 use Rattle.co_mutex.specs.LockWords.{locked_at, handoff_at, head_at, next_at, grant_at, who_at, next_in}
 use Rattle.co_mutex.specs.declared.slot.Slot.{Slot}

@@ -3,7 +3,7 @@ use Rattle.std.proofs.Common.{◌≡◌, ◌≢◌, ℕ, ◌<◌, ⊎_elim, true
 use mathlib.Core.Option.{some}
 use lib.ListN.{get_elem?}
 use Rattle.atomic_table.proofs.Lists.{at_set, set_here, set_else}
-use Rattle.aio_model.specs.LockHistory.{LockEntry, maker_of, made_by, value_of, IsLegalLock}
+use Rattle.aio_model.specs.Lock.History.{LockEntry, maker_of, made_by, value_of, IsLegalLock}
 use Rattle.co_mutex.specs.Places.{PassPlace, AtRest, is_owning}
 use Rattle.co_mutex.specs.Known.{OtherPart, Done, Known, moves, learns, makes, KnownGoesOn}
 use Rattle.co_mutex.specs.Seats.{IsPassPart, IsSeat, SeatsStand}

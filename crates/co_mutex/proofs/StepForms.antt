@@ -4,8 +4,8 @@ use Rattle.std.proofs.Common.{[]}
 use mathlib.Core.Option.{some}
 use lib.ListN.{get_elem?}
 use Rattle.atomic_table.specs.Table.{State, Act, homes_after, stepped}
-use Rattle.aio_model.specs.LockHistory.{LockEntry, maker_of, value_of, IsLegalLock}
-use Rattle.aio_model.specs.LockNotes.{IsNoted}
+use Rattle.aio_model.specs.Lock.History.{LockEntry, maker_of, value_of, IsLegalLock}
+use Rattle.aio_model.specs.Lock.Notes.{IsNoted}
 use Rattle.co_mutex.specs.declared.slot.Slot.{Slot}
 use Rattle.co_mutex.specs.Places.{PassPlace, is_owning}
 use Rattle.co_mutex.specs.Rule.{Baton, Stands}

@@ -6,7 +6,7 @@ use Rattle.co_mutex.specs.declared.slot.Slot.TheVariants.{Waiters, Out}
 use Rattle.co_mutex.specs.declared.lock.CoMutex.{CoMutex}
 use Rattle.co_mutex.specs.declared.lock.Pass.{Pass}
 use Rattle.co_state.specs.declared.cx.CoId.{CoId}
-use Rattle.aio_model.specs.LockHistory.{LockEntry, Release, Grant, IsLegalLock}
+use Rattle.aio_model.specs.Lock.History.{LockEntry, Release, Grant, IsLegalLock}
 use Rattle.co_mutex.specs.Lists.{Each}
 use Rattle.co_mutex.specs.PoppedList.{PoppedList}
 use Rattle.co_mutex.specs.LockWords.{locked_at, head_at, grant_at, who_at}

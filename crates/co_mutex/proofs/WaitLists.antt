@@ -2,7 +2,7 @@
 use Rattle.std.proofs.Common.{◌≡◌, ℕ, ◌⊎◌, inl, inr, ⊎_elim, List, [], ◌∷◌, ◌++◌, reverse, refl, sym, subst}
 use Rattle.std.proofs.lemmas.List.{reverse-append}
 use Rattle.aio_chain.proofs.Chains.{Each, each_of}
-use Rattle.aio_model.specs.LockHistory.{IsWaitingIn}
+use Rattle.aio_model.specs.Lock.History.{IsWaitingIn}
 
 pub waits_front : (i : ℕ) (xs ys : List ℕ) → IsWaitingIn i xs → IsWaitingIn i (xs ++ ys)
 waits_front i [] ys w = absurd w

@@ -4,10 +4,10 @@ use mathlib.Core.Option.{none}
 use Rattle.atomic_table.specs.Table.{step, Allows, rest}
 use Rattle.co_mutex.specs.declared.slot.Slot.{Slot}
 use Rattle.co_mutex.specs.declared.slot.Slot.TheVariants.{Value, Waiters, Out}
-use Rattle.aio_model.specs.LockHistory.{value_of}
-use Rattle.aio_model.specs.LockNotes.{SameNotes}
+use Rattle.aio_model.specs.Lock.History.{value_of}
+use Rattle.aio_model.specs.Lock.Notes.{SameNotes}
 use Rattle.co_mutex.specs.LockWords.{locked_at, head_at, next_at, grant_at, who_at}
-use Rattle.co_mutex.specs.Places.{Side, Task, ToPop, Walking, Nobody, Granting, PassPlace, AtRest, Holds, OnDuty, Published, Found}
+use Rattle.co_mutex.specs.Places.{Side, ToPop, Walking, Nobody, Granting, PassPlace, AtRest, Holds, OnDuty, Published, Found}
 use Rattle.co_mutex.specs.Rule.{Popped}
 use Rattle.co_mutex.specs.Known.{HeadSwap, NextLoad, WhoLoad, SecondLook, Known, moves}
 use Rattle.co_mutex.specs.PoppedList.{PoppedList}

@@ -3,7 +3,7 @@ use Rattle.std.proofs.Common.{◌≡◌, ℕ, ◌<◌, inl, inr, ⊎_elim, true,
 use Rattle.atomic_table.specs.Table.{State}
 use mathlib.Core.Option.{Option as Opt, some}
 use lib.ListN.{get_elem?}
-use Rattle.aio_model.specs.LockHistory.{LockEntry}
+use Rattle.aio_model.specs.Lock.History.{LockEntry}
 use Rattle.co_mutex.specs.declared.slot.Slot.{Slot}
 use Rattle.co_mutex.specs.declared.rule.Opened.{Opened}
 use Rattle.co_mutex.specs.Places.{Side, Locking, Unlocking, Task, PassPlace, AtRest, Counted, Named, HeadLoaded, Linked, Pushed, Loaded, Queued, SelfGranted, Holds, OnDuty, Published, Found, StillLooks}

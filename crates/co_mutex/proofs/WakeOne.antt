@@ -2,7 +2,7 @@
 use Rattle.std.proofs.Common.{◌≡◌, ◌≢◌, ℕ, true, false, eqb, MatchBool, List, [], ◌∷◌, ◌++◌, refl, sym, ap, ◌∙◌, subst}
 use Rattle.co_mutex.specs.LockWords.{head_at}
 use Rattle.co_mutex.specs.Places.{Side, Locking, Unlocking, PassPlace, ToPop, Walking, Nobody, OnDuty, side_of}
-use Rattle.co_mutex.specs.Known.{HeadSwap, WhoLoad, GrantStore, Done, Known, moves, advances, KnownGoesOn}
+use Rattle.co_mutex.specs.Known.{HeadSwap, Done, Known, moves, advances}
 use Rattle.co_mutex.specs.Plays.{done, Is, Swaps}
 use Rattle.co_mutex.specs.Waking.{walks, AllOfKinds, Granted, WalkedPasses, WokePass}
 use Rattle.co_mutex.proofs.Codes.{M}

@@ -9,7 +9,7 @@ use lib.ListN.{get_elem?}
 use Rattle.atomic_table.specs.Table.{State, Me, Act, keeps, gives, step, Valid, carried_after, stepped, Allows}
 use Rattle.aio_chain.specs.Chains.{IsChain}
 use Rattle.co_mutex.specs.declared.slot.Slot.{Slot}
-use Rattle.aio_model.specs.LockHistory.{Grant, IsWaitingIn, waiters_of}
+use Rattle.aio_model.specs.Lock.History.{Grant, IsWaitingIn, waiters_of}
 use Rattle.co_mutex.specs.Places.{Side, Locking, Unlocking, ToPop, Walking, Nobody, Granting, AtRest, Queued, SelfGranted, OnDuty, Published, Found, after_grant}
 use Rattle.co_mutex.specs.LockWords.{handoff_at, head_at, next_at, grant_at, who_at, next_in}
 use Rattle.co_mutex.specs.Rule.{Popped, Offered, Owned, Stands}

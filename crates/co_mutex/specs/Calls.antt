@@ -1,8 +1,8 @@
 -- What each call of a pass leaves.
 use Rattle.std.specs.Prelude.{◌≡◌, ◌≢◌, ℕ, ◌+◌, ◌*◌, ◌^◌, Bool, true, false, ◌⊎◌, Option, Some, None, List, [], ◌∷◌, ◌++◌}
-use Rattle.aio_model.specs.LockHistory.{LockEntry, Got, Wait, Grant, Release, coroutine_of, value_of}
-use Rattle.aio_model.specs.LockNotes.{IsNoted}
-use Rattle.aio_model.specs.LockSeats.{StandsInLock}
+use Rattle.aio_model.specs.Lock.History.{LockEntry, Got, Wait, Grant, Release, coroutine_of, value_of}
+use Rattle.aio_model.specs.Lock.Notes.{IsNoted}
+use Rattle.aio_model.specs.Lock.Seats.{StandsInLock}
 use Rattle.co_state.specs.declared.cx.CoId.{CoId}
 use Rattle.co_mutex.specs.declared.answers.Begun.{Begun}
 use Rattle.co_mutex.specs.declared.answers.Begun.TheVariants.{Held as BeginsHeld, Later}

@@ -2,8 +2,8 @@
 use Rattle.std.specs.Prelude.{◌≡◌, ℕ, ◌<◌, List, ◌++◌}
 use mathlib.Core.Option.{some}
 use lib.ListN.{get_elem?}
-use Rattle.aio_model.specs.LockHistory.{LockEntry, made_by, IsLegalLock, AreBelow}
-use Rattle.aio_model.specs.LockNotes.{IsNoted}
+use Rattle.aio_model.specs.Lock.History.{LockEntry, made_by, IsLegalLock, AreBelow}
+use Rattle.aio_model.specs.Lock.Notes.{IsNoted}
 use Rattle.co_mutex.specs.declared.lock.CoMutex.{CoMutex}
 use Rattle.co_mutex.specs.declared.lock.Pass.{Pass}
 use Rattle.co_mutex.specs.Places.{AtRest}

@@ -1,6 +1,6 @@
 -- What a pass knows of its lock.
 use Rattle.std.specs.Prelude.{◌≡◌, ℕ, Bool, true, false, Option, None, List, [], ◌∷◌, ◌++◌}
-use Rattle.aio_model.specs.LockHistory.{LockEntry, made_by, IsLegalLock}
+use Rattle.aio_model.specs.Lock.History.{LockEntry, made_by, IsLegalLock}
 use Rattle.co_mutex.specs.Places.{PassPlace, AtRest}
 
 -- the kinds of atomic step on a word

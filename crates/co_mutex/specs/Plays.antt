@@ -1,8 +1,8 @@
 -- What each step tells, by the place of the pass.
 use Rattle.std.specs.Prelude.{◌≡◌, ℕ, ◌+◌, ◌<◌, ◌≤◌, ◌==◌, Some, List, [], ◌∷◌, length, MatchBool, cond}
 use Rattle.atomic_table.specs.Table.{Me, Step}
-use Rattle.aio_model.specs.LockHistory.{LockEntry, Got, Wait, Grant, Release, owner_of, coroutine_of, value_of, IsLegalLock}
-use Rattle.aio_model.specs.LockNotes.{IsNoted}
+use Rattle.aio_model.specs.Lock.History.{LockEntry, Got, Wait, Grant, Release, owner_of, coroutine_of, value_of, IsLegalLock}
+use Rattle.aio_model.specs.Lock.Notes.{IsNoted}
 use Rattle.co_mutex.specs.Lists.{Each}
 use Rattle.co_mutex.specs.declared.slot.Slot.{Slot}
 use Rattle.co_mutex.specs.declared.slot.Slot.TheVariants.{Value}

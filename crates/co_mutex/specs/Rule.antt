@@ -4,7 +4,7 @@ use Rattle.std.specs.Prelude.{◌≡◌, ◌≢◌, ℕ, ◌+◌, ◌<◌, ◌==
 use mathlib.Core.Option.{Option as Opt, none, some}
 use lib.ListN.{get_elem?}
 use Rattle.aio_chain.specs.Chains.{IsChain}
-use Rattle.aio_model.specs.LockHistory.{LockEntry, IsWaitingIn, owner_of, waiters_of, coroutine_of, value_of, IsLegalLock}
+use Rattle.aio_model.specs.Lock.History.{LockEntry, IsWaitingIn, owner_of, waiters_of, coroutine_of, value_of, IsLegalLock}
 use Rattle.co_mutex.specs.Places.{Side, Locking, Unlocking, Task, ToPop, Walking, Nobody, Granting, PassPlace, AtRest, Counted, Named, HeadLoaded, Linked, Pushed, Loaded, Queued, SelfGranted, Holds, OnDuty, Published, Found, is_in_line, is_before_push, is_holding, count, StillLooks, IsNumbered, pending}
 use Rattle.co_mutex.specs.declared.slot.Slot.{Slot}
 use Rattle.co_mutex.specs.declared.slot.Slot.TheVariants.{Value, Waiters}

@@ -3,8 +3,8 @@ use Rattle.std.specs.Prelude.{◌≡◌, ◌≢◌, ℕ, ◌≤◌, true, Some, 
 use mathlib.Core.Option.{some}
 use lib.ListN.{get_elem?}
 use Rattle.atomic_table.specs.Table.{State}
-use Rattle.aio_model.specs.LockHistory.{LockEntry, made_by, value_of, AreBelow}
-use Rattle.aio_model.specs.LockNotes.{IsNoted}
+use Rattle.aio_model.specs.Lock.History.{LockEntry, made_by, value_of, AreBelow}
+use Rattle.aio_model.specs.Lock.Notes.{IsNoted}
 use Rattle.co_mutex.specs.Places.{PassPlace, AtRest, is_owning}
 use Rattle.co_mutex.specs.declared.slot.Slot.{Slot}
 use Rattle.co_mutex.specs.Known.{OtherPart, Known}

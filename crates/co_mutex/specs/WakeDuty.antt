@@ -2,7 +2,7 @@
 use Rattle.std.specs.Prelude.{◌≡◌, ◌≢◌, ℕ, Bool, true, false, Some, None, List, ◌⊎◌}
 use mathlib.Core.Option.{some}
 use lib.ListN.{get_elem?}
-use Rattle.aio_model.specs.LockHistory.{LockEntry, owner_of}
+use Rattle.aio_model.specs.Lock.History.{LockEntry, owner_of}
 use Rattle.co_mutex.specs.Places.{Side, Task, PassPlace, AtRest, Queued, Holds, OnDuty, StillLooks}
 
 -- where a pass stands between two calls, unless it is counted and still to be queued

@@ -1,7 +1,7 @@
 -- What the parts of a wake leave: the steps that were done, and whom the pass granted.
 use Rattle.std.specs.Prelude.{◌≡◌, ℕ, ◌<◌, ◌==◌, ◌&&◌, not, Bool, true, false, List, [], ◌∷◌, MatchBool}
 use Rattle.atomic_table.specs.Table.{Me}
-use Rattle.aio_model.specs.LockHistory.{LockEntry, Wait, Grant, coroutine_of}
+use Rattle.aio_model.specs.Lock.History.{LockEntry, Wait, Grant, coroutine_of}
 use Rattle.co_mutex.specs.Lists.{Each}
 use Rattle.co_mutex.specs.declared.slot.Slot.{Slot}
 use Rattle.co_mutex.specs.declared.slot.Slot.TheVariants.{Out}

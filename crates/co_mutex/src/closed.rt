@@ -1,7 +1,7 @@
 //! How a lock is closed: all its passes come together, and the value comes out.
 ghost use Rattle.std.specs.Prelude.{◌≡◌, ℕ, ◌<◌, true, List};
 ghost use Rattle.co_mutex.specs.Places.{AtRest};
-ghost use Rattle.aio_model.specs.LockHistory.{value_of};
+ghost use Rattle.aio_model.specs.Lock.History.{value_of};
 ghost use Rattle.co_mutex.specs.Opening.{parts_of, part_of};
 ghost use Rattle.co_mutex.specs.Passes.{built_of, passes_of, known};
 ghost use Rattle.co_mutex.specs.Closing.{In, AreAll, Gathers};

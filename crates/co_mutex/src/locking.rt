@@ -2,7 +2,7 @@
 //! `begin_lock` the pass is counted, and `finish_lock` pushes it. Who waits has a grant word of its own, by which `resumed`
 //! finds that it was granted the lock.
 ghost use Rattle.std.specs.Prelude.{◌≡◌, ◌≢◌, ℕ, Some, None, MatchResult, List, [], ◌∷◌};
-ghost use Rattle.aio_model.specs.LockHistory.{Got};
+ghost use Rattle.aio_model.specs.Lock.History.{Got};
 ghost use Rattle.co_mutex.specs.LockWords.{locked_at};
 ghost use Rattle.co_mutex.specs.Places.{AtRest, Counted, Named, Pushed, Queued};
 ghost use Rattle.co_mutex.specs.Known.{LockedCompare, moves};

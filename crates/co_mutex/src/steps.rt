@@ -1,6 +1,6 @@
 //! The steps on words by which a pass locks, one a function.
 ghost use Rattle.std.specs.Prelude.{◌≡◌, ◌≢◌, ℕ, ◌+◌, ◌<◌, ◌==◌, cond, MatchBool, [], ◌∷◌};
-ghost use Rattle.aio_model.specs.LockHistory.{value_of};
+ghost use Rattle.aio_model.specs.Lock.History.{value_of};
 ghost use Rattle.co_mutex.specs.declared.slot.Slot.TheVariants.{Value, Out};
 ghost use Rattle.co_mutex.specs.LockWords.{locked_at, handoff_at, head_at, next_at, grant_at, who_at};
 ghost use Rattle.co_mutex.specs.Places.{Locking, ToPop, AtRest, Counted, Named, HeadLoaded, Linked, Pushed, Loaded, Queued, SelfGranted, OnDuty};

@@ -1,8 +1,8 @@
 //! Unlocking, as qemu_co_mutex_unlock of QEMU's util/qemu-coroutine-lock.c, but a waiter is granted the lock by a word of its
 //! own: the duty to wake, from the sub to the grant or to a published hand-off.
 ghost use Rattle.std.specs.Prelude.{◌≡◌, ◌≢◌, ℕ, List, [], ◌∷◌};
-ghost use Rattle.aio_model.specs.LockHistory.{value_of};
-ghost use Rattle.aio_model.specs.LockNotes.{SameNotes};
+ghost use Rattle.aio_model.specs.Lock.History.{value_of};
+ghost use Rattle.aio_model.specs.Lock.Notes.{SameNotes};
 ghost use Rattle.co_mutex.specs.Places.{Holds};
 ghost use Rattle.co_mutex.specs.Passes.{IsPassOf, built_of, known};
 ghost use Rattle.co_mutex.specs.Calls.{Unlocks, UnlockSteps};

@@ -1,7 +1,7 @@
 //! The steps of a pass that gives the lock up, or that has the duty to wake, one a function.
 ghost use Rattle.std.specs.Prelude.{◌≡◌, ◌≢◌, ℕ, ◌+◌, ◌<◌, ◌≤◌, ◌==◌, cond, MatchBool, List, [], ◌∷◌};
-ghost use Rattle.aio_model.specs.LockHistory.{value_of};
-ghost use Rattle.aio_model.specs.LockNotes.{SameNotes};
+ghost use Rattle.aio_model.specs.Lock.History.{value_of};
+ghost use Rattle.aio_model.specs.Lock.Notes.{SameNotes};
 ghost use Rattle.co_mutex.specs.PoppedList.{PoppedList};
 ghost use Rattle.co_mutex.specs.declared.slot.Slot.TheVariants.{Waiters, Out};
 ghost use Rattle.co_mutex.specs.LockWords.{handoff_at, head_at, next_at, grant_at, who_at};

@@ -6,14 +6,14 @@ use Rattle.atomic_table.specs.Table.{Me, keeps, step, Allows}
 use Rattle.aio_chain.specs.Chains.{IsChain}
 use Rattle.aio_chain.proofs.Chains.{Each, each_of, each-front, each-back, chain_kept}
 use Rattle.table_seats.proofs.Seats.{each_set, seats_keep}
-use Rattle.aio_model.specs.CoroutineHistory.{History, seat_of}
+use Rattle.aio_model.specs.Coroutines.History.{History, seat_of}
 use Rattle.co_schedule.specs.Words.{head_at, mark_at, next_at, next_in}
 use Rattle.co_schedule.specs.Known.{HeadLoad, NextStore, Phase, AtRest, Marked, HeadLoaded, Linked, Known, part_of}
 use Rattle.co_schedule.specs.Rule.{IsOwed, Owes, Knows, Stands}
 use Rattle.co_schedule.specs.Slots.{Kept}
 use Rattle.co_schedule.specs.Standing.{done, HeadIsLoaded, NextIsStored}
 use Rattle.co_schedule.specs.Plays.{head_loaded, next_stored}
-use Rattle.aio_model.proofs.Coroutines.{is_free}
+use Rattle.aio_model.proofs.CoroutineHistories.{is_free}
 use Rattle.co_schedule.proofs.Histories.{place_below, scheduled_alone}
 use Rattle.co_schedule.proofs.Reading.{read_here, read_else}
 use Rattle.co_schedule.proofs.Keeping.{each-unreverse, walks_kept, knows_kept, owed_apart, load_stands, slots_kept}

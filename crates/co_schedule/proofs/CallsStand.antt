@@ -1,8 +1,8 @@
 -- From the steps of a call to what the call says.
 use Rattle.std.proofs.Common.{◌≡◌, ℕ, ◌<◌, Bool, true, None, Some, List, [], ◌∷◌, ◌++◌, refl, sym, ap, ◌∙◌, subst}
 use Rattle.std.proofs.lemmas.Bool.{and_parts, and_from, lt-ltb, ltb-true}
-use Rattle.aio_model.specs.declared.causes.Cause.{Cause}
-use Rattle.aio_model.specs.CoroutineHistory.{Schedule, Push, Enter, History, seat_of, queue_of, IsLegal}
+use Rattle.aio_model.specs.declared.coroutines.causes.Cause.{Cause}
+use Rattle.aio_model.specs.Coroutines.History.{Schedule, Push, Enter, History, seat_of, queue_of, IsLegal}
 use Rattle.aio_chain.proofs.Chains.{Each}
 use Rattle.table_seats.specs.Calls.{newest_of}
 use Rattle.table_seats.proofs.Standing.{HasGrown, grown_by_none, grown_by_others, grown_by_one, stands_of}

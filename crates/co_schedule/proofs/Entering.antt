@@ -5,19 +5,19 @@ use mathlib.Core.Option.{some, none}
 use lib.ListN.{get_elem?, length-set}
 use Rattle.atomic_table.specs.Table.{Me, takes, gives, step, Allows}
 use Rattle.atomic_table.proofs.Lists.{set_here, set_else}
-use Rattle.aio_model.specs.LoopLists.{head_of}
+use Rattle.aio_model.specs.Loop.Lists.{head_of}
 use Rattle.aio_chain.specs.Chains.{IsChain}
 use Rattle.aio_chain.proofs.Chains.{chain_kept}
 use Rattle.table_seats.specs.Seats.{owns, home}
 use Rattle.table_seats.proofs.Seats.{each_set, seats_make, makes_of}
-use Rattle.aio_model.specs.CoroutineHistory.{Entry, Enter, History, seat_of, Free, Scheduled, Pushed, place_of, queue_of, IsLegal}
+use Rattle.aio_model.specs.Coroutines.History.{Entry, Enter, History, seat_of, Free, Scheduled, Pushed, place_of, queue_of, IsLegal}
 use Rattle.co_schedule.specs.Words.{head_at, mark_at, next_at, mark_of, next_in}
 use Rattle.co_schedule.specs.Known.{MarkLoad, MarkClear, is_at_rest, Stage, Known, part_of, numbers_of}
 use Rattle.co_schedule.specs.Rule.{IsOwed, WalkStands, Knows, Stands}
 use Rattle.co_schedule.specs.Slots.{is_at_hand, HasState, Holds, Kept}
 use Rattle.co_schedule.specs.Standing.{done, Opens, IsFirstEntered}
 use Rattle.co_schedule.specs.Plays.{opened, entered}
-use Rattle.aio_model.proofs.Coroutines.{is_free}
+use Rattle.aio_model.proofs.CoroutineHistories.{is_free}
 use Rattle.co_schedule.proofs.Histories.{place_here, place_else, place_below, first_is_pushed}
 use Rattle.co_schedule.proofs.Reading.{read_here, read_else}
 use Rattle.co_schedule.proofs.Keeping.{each_all, owes_kept, knows_kept, no_other_home, load_stands, slots_change}

@@ -1,15 +1,15 @@
 -- What a legal history tells of one coroutine, and of those that are pushed and not entered.
 use Rattle.std.proofs.Common.{◌≡◌, ◌≢◌, ℕ, ◌+◌, ◌<◌, ◌≤◌, Bool, true, false, cond, ◌||◌, eqb, Some, List, [], ◌∷◌, ◌++◌, length, drop, refl, sym, ap, ◌∙◌, subst, arith}
 use Rattle.std.proofs.lemmas.Bool.{eqb-true, eq-eqb, ne_eqb}
-use Rattle.aio_model.specs.FlagsWord.{bit}
-use Rattle.aio_model.specs.LoopLists.{head_of}
-use Rattle.aio_model.specs.LoopLaws.{times_of}
+use Rattle.aio_model.specs.Loop.FlagsWord.{bit}
+use Rattle.aio_model.specs.Loop.Lists.{head_of}
+use Rattle.aio_model.specs.Loop.Laws.{times_of}
 use Rattle.aio_model.proofs.Indices.{times_of-append, drop-head}
 use Rattle.aio_chain.specs.LinkList.{contains, IsEachOnce}
 use Rattle.aio_chain.proofs.Chains.{Each}
 use Rattle.aio_chain.proofs.Contained.{length-le_room}
-use Rattle.aio_model.specs.CoroutineHistory.{Entry, Schedule, Push, Enter, History, CoPlace, Free, Scheduled, Pushed, pushed, place_of, queue_of, IsLegal}
-use Rattle.aio_model.proofs.Coroutines.{is_free}
+use Rattle.aio_model.specs.Coroutines.History.{Entry, Schedule, Push, Enter, History, CoPlace, Free, Scheduled, Pushed, pushed, place_of, queue_of, IsLegal}
+use Rattle.aio_model.proofs.CoroutineHistories.{is_free}
 
 -- Places.
 

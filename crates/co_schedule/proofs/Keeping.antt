@@ -8,7 +8,7 @@ use Rattle.aio_chain.proofs.Chains.{Each, each-front, each-back, chain_kept}
 use Rattle.table_seats.specs.Seats.{owns, home, EachView}
 use Rattle.table_seats.proofs.Seats.{each_set, IsSame, seats_keep}
 use Rattle.table_seats.proofs.Entries.{owns_first}
-use Rattle.aio_model.specs.CoroutineHistory.{History, seat_of, Free, Scheduled, Pushed, place_of}
+use Rattle.aio_model.specs.Coroutines.History.{History, seat_of, Free, Scheduled, Pushed, place_of}
 use Rattle.co_schedule.specs.Words.{next_in}
 use Rattle.co_schedule.specs.Known.{Phase, AtRest, Marked, HeadLoaded, Linked, is_at_rest, Stage, Known, part_of, numbers_of}
 use Rattle.co_schedule.specs.Rule.{IsOwed, Owes, WalkStands, Knows, Stands}

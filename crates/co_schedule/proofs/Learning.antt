@@ -6,13 +6,13 @@ use Rattle.atomic_table.proofs.Lists.{set_again}
 use Rattle.table_seats.specs.Seats.{longer_of, AreParts}
 use Rattle.table_seats.specs.Calls.{IsJoined}
 use Rattle.table_seats.proofs.Joining.{joined_of}
-use Rattle.aio_model.specs.CoroutineHistory.{seat_of, IsLegal}
+use Rattle.aio_model.specs.Coroutines.History.{seat_of, IsLegal}
 use Rattle.co_schedule.specs.Words.{head_at}
 use Rattle.co_schedule.specs.Known.{Known}
 use Rattle.co_schedule.specs.Plays.{learned}
 use Rattle.co_schedule.specs.Rule.{Stands}
 use Rattle.co_schedule.specs.Slots.{SlotsStand, Kept}
-use Rattle.aio_model.proofs.Coroutines.{legal_cut}
+use Rattle.aio_model.proofs.CoroutineHistories.{legal_cut}
 use Rattle.co_schedule.proofs.Keeping.{loaded_words}
 
 module _ {S : Type 0} (given_in : S → Bool) (IsOf : ℕ → S → Type 0) where

@@ -4,7 +4,7 @@ use mathlib.Core.Option.{none}
 use Rattle.atomic_table.specs.Table.{Me, keeps, step, Allows}
 use Rattle.table_seats.specs.Seats.{everyone}
 use Rattle.table_seats.proofs.Seats.{all_seen}
-use Rattle.aio_model.specs.CoroutineHistory.{seat_of, place_of}
+use Rattle.aio_model.specs.Coroutines.History.{seat_of, place_of}
 use Rattle.co_schedule.specs.Words.{mark_at, mark_of}
 use Rattle.co_schedule.specs.Known.{MarkLoad, Known, part_of, numbers_of}
 use Rattle.co_schedule.specs.Slots.{Kept}

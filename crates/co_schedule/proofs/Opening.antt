@@ -4,7 +4,7 @@ use mathlib.Core.Option.{some}
 use lib.ListN.{get_elem?}
 use Rattle.atomic_table.specs.Table.{opening}
 use Rattle.table_seats.proofs.Opening.{each_alone, seats_alone}
-use Rattle.aio_model.specs.CoroutineHistory.{seat_of}
+use Rattle.aio_model.specs.Coroutines.History.{seat_of}
 use Rattle.co_schedule.specs.Words.{head_at, mark_at, word_count}
 use Rattle.co_schedule.specs.Known.{part_of, first_known}
 use Rattle.co_schedule.specs.Rule.{Stands}

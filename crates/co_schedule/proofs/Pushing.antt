@@ -11,7 +11,7 @@ use Rattle.aio_chain.proofs.Chains.{Each, each-front, each-back, chain_kept, pus
 use Rattle.table_seats.specs.Seats.{owns, home}
 use Rattle.table_seats.proofs.Seats.{each_set, seats_make, makes_of}
 use Rattle.table_seats.proofs.Entries.{owns_first}
-use Rattle.aio_model.specs.CoroutineHistory.{Push, History, seat_of, CoPlace, Free, Scheduled, Pushed, pushed, place_of, IsLegal}
+use Rattle.aio_model.specs.Coroutines.History.{Push, History, seat_of, CoPlace, Free, Scheduled, Pushed, pushed, place_of, IsLegal}
 use Rattle.co_schedule.specs.Words.{head_at, mark_at, next_at, mark_of, next_in}
 use Rattle.co_schedule.specs.Known.{HeadCompare, AtRest, Marked, Linked, Stage, Known, part_of, numbers_of}
 use Rattle.co_schedule.specs.Rule.{IsOwed, Owes, OutIsFirst, WalkStands, Knows, Stands}

@@ -11,8 +11,8 @@ use Rattle.aio_chain.proofs.Chains.{chain_kept}
 use Rattle.table_seats.proofs.Seats.{each_set, seats_make, makes_of}
 use Rattle.table_seats.specs.Seats.{own_entries}
 use Rattle.table_seats.proofs.Entries.{owns_first, own-append}
-use Rattle.aio_model.specs.declared.causes.Cause.{Cause}
-use Rattle.aio_model.specs.CoroutineHistory.{Schedule, History, seat_of, CoPlace, Free, Scheduled, Pushed, place_of, IsLegal}
+use Rattle.aio_model.specs.declared.coroutines.causes.Cause.{Cause}
+use Rattle.aio_model.specs.Coroutines.History.{Schedule, History, seat_of, CoPlace, Free, Scheduled, Pushed, place_of, IsLegal}
 use Rattle.co_schedule.specs.Words.{head_at, mark_at, next_at, mark_of, next_in}
 use Rattle.co_schedule.specs.Known.{MarkCompare, AtRest, Marked, Known, part_of, numbers_of}
 use Rattle.co_schedule.specs.Rule.{Knows, Stands}

@@ -7,7 +7,7 @@ use Rattle.atomic_table.proofs.Lists.{set_else}
 use Rattle.table_seats.specs.Seats.{owns, home}
 use Rattle.table_seats.proofs.Splitting.{front_owned, back_owned, each_split, seats_split}
 use Rattle.table_seats.proofs.Joining.{both_owned, none_owned, each_joined, seats_join}
-use Rattle.aio_model.specs.CoroutineHistory.{seat_of}
+use Rattle.aio_model.specs.Coroutines.History.{seat_of}
 use Rattle.co_schedule.specs.Known.{Known, part_of, numbers_of}
 use Rattle.co_schedule.specs.Rule.{WalkStands, Knows}
 use Rattle.co_schedule.specs.Slots.{Holds, HoldsAll, Kept}

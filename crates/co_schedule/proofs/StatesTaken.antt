@@ -1,9 +1,9 @@
 -- Home counts the states that come out, and at the end these are all that were given.
 use Rattle.std.proofs.Common.{◌≡◌, ℕ, zero, suc, ◌+◌, ◌<◌, ◌≤◌, Bool, true, false, cond, eqb, [], ◌∷◌, ◌++◌, length, refl, sym, ap, ◌∙◌, subst, arith, length-append}
 use Rattle.std.proofs.lemmas.Bool.{eqb-true, eqb-false}
-use Rattle.aio_model.specs.FlagsWord.{bit}
-use Rattle.aio_model.specs.CoroutineHistory.{Entry, Schedule, Push, Enter, History, seat_of, CoPlace, Free, Scheduled, Pushed, pushed, place_of, IsLegal}
-use Rattle.aio_model.proofs.Coroutines.{is_free}
+use Rattle.aio_model.specs.Loop.FlagsWord.{bit}
+use Rattle.aio_model.specs.Coroutines.History.{Entry, Schedule, Push, Enter, History, seat_of, CoPlace, Free, Scheduled, Pushed, pushed, place_of, IsLegal}
+use Rattle.aio_model.proofs.CoroutineHistories.{is_free}
 use Rattle.table_seats.specs.Seats.{Numbers, owns, own_entries, IsPart}
 use Rattle.table_seats.proofs.Entries.{own-append, own-here, owns_first}
 use Rattle.co_schedule.specs.Calls.{AreFree, HasTaken, HasBegunFirst}

@@ -7,7 +7,7 @@ use Rattle.aio_chain.specs.Chains.{IsChain}
 use Rattle.aio_chain.proofs.Chains.{Each, each-front, chain_kept, none_taken, first_of_chain}
 use Rattle.table_seats.specs.Seats.{owns, home}
 use Rattle.table_seats.proofs.Seats.{each_set, seats_see}
-use Rattle.aio_model.specs.CoroutineHistory.{History, seat_of, queue_of, IsLegal}
+use Rattle.aio_model.specs.Coroutines.History.{History, seat_of, queue_of, IsLegal}
 use Rattle.co_schedule.specs.Words.{head_at, mark_at, next_at, next_in}
 use Rattle.co_schedule.specs.Known.{TakeSwap, NextLoad, Stage, Known, part_of, numbers_of}
 use Rattle.co_schedule.specs.Rule.{OutIsFirst, WalkStands, Knows, Stands}

@@ -2,7 +2,7 @@
 use Rattle.std.proofs.Common.{◌≡◌, ℕ, ◌<◌, Bool, true, false, cond, ◌||◌, eqb, [], ◌∷◌, ◌++◌, refl, sym, ap, ◌∙◌, subst, arith, ◌+◌}
 use Rattle.std.proofs.lemmas.Bool.{and_from, not_from_false, le-ltb, lt-ltb}
 use Rattle.table_seats.specs.Seats.{Numbers, owns, own_entries}
-use Rattle.aio_model.specs.CoroutineHistory.{Entry, Schedule, Push, Enter, History, Free, Scheduled, pushed, seat_of, place_of, IsLegal}
+use Rattle.aio_model.specs.Coroutines.History.{Entry, Schedule, Push, Enter, History, Free, Scheduled, pushed, seat_of, place_of, IsLegal}
 use Rattle.co_schedule.specs.Words.{mark_of}
 use Rattle.co_schedule.specs.Known.{Known, numbers_of}
 use Rattle.co_schedule.specs.Standing.{IsMarkOf, was_scheduled}

@@ -1,7 +1,7 @@
 -- What a seat knows.
 use Rattle.std.specs.Prelude.{ℕ, Bool, true, false, Option, None, List, []}
 use Rattle.table_seats.specs.Seats.{Numbers, Told, Part, numbers_in}
-use Rattle.aio_model.specs.CoroutineHistory.{Entry, History}
+use Rattle.aio_model.specs.Coroutines.History.{Entry, History}
 
 -- the kinds of atomic step on a word
 pub data Kind : Type 0 where

@@ -1,8 +1,8 @@
 -- What lies in a slot: nothing, or a cause and perhaps a state, which is of the table's origin, as the slot's number.
 use Rattle.std.specs.Prelude.{ℕ, Bool, true, false, Option, None, Some}
 use Rattle.co_schedule.specs.declared.parcel.Parcel.{Parcel}
-use Rattle.aio_model.specs.declared.causes.Cause.{Cause}
-use Rattle.aio_model.specs.declared.causes.Cause.TheVariants.{Begin}
+use Rattle.aio_model.specs.declared.coroutines.causes.Cause.{Cause}
+use Rattle.aio_model.specs.declared.coroutines.causes.Cause.TheVariants.{Begin}
 
 abbrev pub has_some : {A : Type 0} → Option A → Bool
 has_some None = false

@@ -2,8 +2,8 @@
 use Rattle.std.specs.Prelude.{◌≡◌, ℕ, ◌+◌, ◌==◌, Bool, false, Some, List, ◌∷◌, MatchBool}
 use mathlib.Core.Option.{some}
 use Rattle.atomic_table.specs.Table.{Me, Step, rest}
-use Rattle.aio_model.specs.declared.causes.Cause.{Cause}
-use Rattle.aio_model.specs.CoroutineHistory.{Entry, seat_of, place_of, IsLegal}
+use Rattle.aio_model.specs.declared.coroutines.causes.Cause.{Cause}
+use Rattle.aio_model.specs.Coroutines.History.{Entry, seat_of, place_of, IsLegal}
 use Rattle.table_seats.specs.Seats.{Told, longer_of}
 use Rattle.table_seats.specs.Calls.{IsJoined}
 use Rattle.co_schedule.specs.Words.{mark_at, mark_of}

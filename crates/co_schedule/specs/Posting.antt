@@ -1,6 +1,6 @@
 -- What a post does to the loop of the home.
-use Rattle.aio_model.specs.declared.flags.Flags.{Flags}
-use Rattle.aio_model.specs.LoopHistory.{ToCall}
+use Rattle.aio_model.specs.declared.loops.flags.Flags.{Flags}
+use Rattle.aio_model.specs.Loop.History.{ToCall}
 use Rattle.aio_core.specs.Known.{Known}
 use Rattle.aio_bh.specs.Enqueuing.{Schedules, enqueue_entries, AddsOnly}
 

@@ -2,7 +2,7 @@
 use Rattle.std.specs.Prelude.{◌≡◌, ℕ, ◌<◌, Bool, true, false, Option, None, Some, List, ◌∷◌, ◌++◌, length, reverse, slice_index}
 use Rattle.aio_chain.specs.Chains.{IsChain}
 use Rattle.table_seats.specs.Seats.{owns, home, EachView, SeatsStand}
-use Rattle.aio_model.specs.CoroutineHistory.{History, seat_of, Scheduled, place_of, queue_of, IsLegal}
+use Rattle.aio_model.specs.Coroutines.History.{History, seat_of, Scheduled, place_of, queue_of, IsLegal}
 use Rattle.co_schedule.specs.Words.{head_at, mark_at, word_count, mark_of, next_in}
 use Rattle.co_schedule.specs.Known.{Phase, AtRest, Marked, HeadLoaded, Linked, is_at_rest, Stage, Known, part_of, numbers_of}
 

@@ -2,7 +2,7 @@
 use Rattle.std.specs.Prelude.{◌+◌, ◌-◌, ℕ, if◌then◌else◌, None, []}
 use Rattle.table_seats.specs.Seats.{Told, owns, home}
 use Rattle.table_seats.specs.Dividing.{front_part, back_part, joined_part, half_of, told_of}
-use Rattle.aio_model.specs.CoroutineHistory.{Entry, seat_of}
+use Rattle.aio_model.specs.Coroutines.History.{Entry, seat_of}
 use Rattle.co_schedule.specs.Known.{AtRest, empty_stage, Known, part_of, numbers_of}
 
 abbrev pub front_known : ℕ → Known → Known

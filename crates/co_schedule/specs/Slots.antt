@@ -5,7 +5,7 @@ use mathlib.Core.Option.{some}
 use lib.ListN.{get_elem?}
 use Rattle.atomic_table.specs.Table.{State}
 use Rattle.table_seats.specs.Seats.{owns, home, EachView}
-use Rattle.aio_model.specs.CoroutineHistory.{History, Free, Pushed, place_of}
+use Rattle.aio_model.specs.Coroutines.History.{History, Free, Pushed, place_of}
 use Rattle.co_schedule.specs.Known.{Stage, Known, numbers_of}
 use Rattle.co_schedule.specs.Rule.{Stands}
 

@@ -1,8 +1,8 @@
 -- What one step makes of what a seat knows.
 use Rattle.std.specs.Prelude.{◌≡◌, ◌≢◌, ℕ, ◌≤◌, ◌<◌, Bool, false, ◌==◌, ◌||◌, None, Some, List, [], ◌∷◌, ◌++◌, length}
 use Rattle.table_seats.specs.Seats.{Makes as makes_part, own_entries}
-use Rattle.aio_model.specs.declared.causes.Cause.{Cause}
-use Rattle.aio_model.specs.CoroutineHistory.{Entry, Schedule, Push, Enter, History, seat_of, Pushed, place_of, queue_of, IsLegal}
+use Rattle.aio_model.specs.declared.coroutines.causes.Cause.{Cause}
+use Rattle.aio_model.specs.Coroutines.History.{Entry, Schedule, Push, Enter, History, seat_of, Pushed, place_of, queue_of, IsLegal}
 use Rattle.co_schedule.specs.Words.{head_at, mark_at, mark_of, next_at}
 use Rattle.co_schedule.specs.Known.{Kind, MarkCompare, HeadLoad, NextStore, HeadCompare, TakeSwap, NextLoad, MarkLoad, MarkClear, Done, AtRest, Marked, HeadLoaded, Linked, Known, part_of, numbers_of}
 

@@ -1,7 +1,7 @@
 -- How many states came with what was scheduled, and how many came out again at home.
 use Rattle.std.specs.Prelude.{◌≡◌, ℕ, ◌+◌, ◌-◌, ◌^◌, Bool, false, min, [], ◌∷◌, length}
-use Rattle.aio_model.specs.FlagsWord.{bit}
-use Rattle.aio_model.specs.CoroutineHistory.{Schedule, Push, Enter, History, seat_of, CoPlace, Free, Scheduled, Pushed, place_of}
+use Rattle.aio_model.specs.Loop.FlagsWord.{bit}
+use Rattle.aio_model.specs.Coroutines.History.{Schedule, Push, Enter, History, seat_of, CoPlace, Free, Scheduled, Pushed, place_of}
 use Rattle.table_seats.specs.Seats.{own_entries}
 use Rattle.co_schedule.specs.Known.{Known, numbers_of}
 

@@ -1,6 +1,6 @@
 -- Where the words of the table stand: at places that no size moves.
 use Rattle.std.specs.Prelude.{ℕ, ◌+◌, ◌*◌, List, slice_index}
-use Rattle.aio_model.specs.CoroutineHistory.{CoPlace, Free, Scheduled, Pushed}
+use Rattle.aio_model.specs.Coroutines.History.{CoPlace, Free, Scheduled, Pushed}
 
 abbrev pub head_at : ℕ
 head_at = 0

@@ -1,6 +1,6 @@
 //! The end of a table, at which all its seats are there.
 ghost use Rattle.std.specs.Prelude.{◌≡◌, ◌<◌, ◌+◌, [], MatchOption, MatchResult};
-ghost use Rattle.aio_model.specs.CoroutineHistory.{Free, place_of, seat_of, IsLegal};
+ghost use Rattle.aio_model.specs.Coroutines.History.{Free, place_of, seat_of, IsLegal};
 ghost use Rattle.table_seats.specs.Calls.{IsJoined};
 ghost use Rattle.co_schedule.specs.Words.{mark_at, mark_of};
 ghost use Rattle.co_schedule.specs.Known.{MarkLoad};

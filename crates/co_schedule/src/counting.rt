@@ -1,6 +1,6 @@
 //! The count of states that came out with the coroutines that home entered.
 ghost use Rattle.std.specs.Prelude.{◌≡◌, ◌+◌};
-ghost use Rattle.aio_model.specs.FlagsWord.{bit};
+ghost use Rattle.aio_model.specs.Loop.FlagsWord.{bit};
 ghost use Rattle.co_schedule.specs.Parcels.{has_some};
 ghost use Rattle.co_schedule.specs.States.{counted};
 

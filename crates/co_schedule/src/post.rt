@@ -1,6 +1,6 @@
 //! A schedule that also lets the home's loop know.
 ghost use Rattle.std.specs.Prelude.{◌≡◌, ◌≢◌, ◌<◌, MatchResult};
-ghost use Rattle.aio_model.specs.InFlight.{AtRest};
+ghost use Rattle.aio_model.specs.Loop.InFlight.{AtRest};
 ghost use Rattle.aio_core.specs.Calls.{IsSeatOf as IsLoopSeatOf};
 ghost use Rattle.co_schedule.specs.Words.{mark_at};
 ghost use Rattle.co_schedule.specs.Known.{MarkCompare};

@@ -1,6 +1,6 @@
 //! Seats for more threads: the numbers of one are divided, and united again.
 ghost use Rattle.std.specs.Prelude.{◌≡◌, ◌<◌, ◌≤◌, ◌+◌, ◌-◌, [], MatchOption};
-ghost use Rattle.aio_model.specs.CoroutineHistory.{seat_of, IsLegal};
+ghost use Rattle.aio_model.specs.Coroutines.History.{seat_of, IsLegal};
 ghost use Rattle.table_seats.specs.Seats.{longer_of};
 ghost use Rattle.table_seats.specs.Calls.{IsJoined};
 ghost use Rattle.co_schedule.specs.Seating.{front_known, back_known, half_cut, joined_known, told_by};

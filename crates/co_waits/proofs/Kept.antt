@@ -1,22 +1,21 @@
 -- Each step on the fields of a register.
-use Rattle.std.proofs.Common.{◌≡◌, ◌≢◌, ℕ, ◌<◌, ◌||◌, Bool, true, false, not, cond, eqb, get_or, set, List, [], ◌∷◌, ◌++◌, length, drop, Option, Some, None, is_some, refl, sym, ap, subst, ◌∙◌, inl, inr}
-use Rattle.std.proofs.lemmas.Bool.{cases_eq, cases_Bool, eqb-true, eq-eqb, ne_eqb, both_ways, or_parts}
+use Rattle.std.proofs.Common.{◌≡◌, ◌≢◌, ℕ, ◌<◌, ◌||◌, Bool, true, false, cond, eqb, get_or, set, List, [], ◌∷◌, ◌++◌, length, drop, Option, Some, None, is_some, refl, sym, ap, subst, ◌∙◌, inl, inr}
+use Rattle.std.proofs.lemmas.Bool.{cases_Bool, eqb-true, eq-eqb, both_ways, or_parts}
 use Rattle.std.proofs.lemmas.List.{get_or-set_same, get_or-set_other, length-set}
 use Rattle.aio_chain.specs.LinkList.{LinkList, contains, first_of, without}
 use Rattle.aio_chain.proofs.Steps.{without-absent}
 use Rattle.aio_chain.proofs.Walks.{contains-first}
-use Rattle.aio_model.specs.declared.holds.Hold.{Hold}
-use Rattle.aio_model.specs.declared.holds.Hold.TheVariants.{Free, Reads, Writes, WaitsRead, WaitsWrite}
+use Rattle.aio_model.specs.declared.holds.Hold.TheVariants.{Free, Reads}
 use Rattle.aio_model.specs.declared.holds.Wish.{Wish}
 use Rattle.aio_model.specs.declared.holds.Wish.TheVariants as wish
-use Rattle.aio_model.specs.Readers.{Holders, Readers, Writer, Ticket, ReadersWriter, is_reader, other_readers, waits_by, waiting, hold_in, hold_of}
+use Rattle.aio_model.specs.Holds.Readers.{Readers, Writer, ReadersWriter, other_readers, waits_by, waiting, hold_of}
 use Rattle.aio_model.specs.Holds.{Has, WaitOnce, IsOrderly}
-use Rattle.aio_model.specs.RwTable.{Woke, none_woken, granted_to, with_ticket, released, without_holder, wake_one}
+use Rattle.aio_model.specs.Holds.Table.{none_woken, granted_to, with_ticket, released, wake_one}
 use Rattle.aio_model.proofs.Granted.{waits-nonfree, waits_only, not_reader}
 use Rattle.aio_model.proofs.Orderly.{none_once, free_parts, free_no_reader, admits_reader, admits_writer, queues, releases, wake_keeps}
 use Rattle.aio_model.proofs.Holding.{has_here}
 use Rattle.co_waits.proofs.Queues.{first_parts}
-use Rattle.co_waits.specs.Registers.{ticket_of, tickets_of, holders_of, state_in, NoReaders, AreKept, is_written, readers_in, is_vacant}
+use Rattle.co_waits.specs.Registers.{ticket_of, tickets_of, holders_of, state_in, AreKept, is_written, readers_in, is_vacant}
 
 -- these fields keep this state
 pub record Stands (readers : LinkList) (writer : Option ℕ) (tickets : LinkList) (wishes : List Wish) (state : ReadersWriter) : Type 0 where

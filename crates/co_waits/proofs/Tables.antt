@@ -1,11 +1,11 @@
 -- Which row of the table a test leads to.
-use Rattle.std.proofs.Common.{◌≡◌, ℕ, true, false, List, [], ◌∷◌, ◌++◌, None, refl, sym, ap, ◌∙◌, inl, inr, eqb, cond}
-use Rattle.std.proofs.lemmas.Bool.{cases_Bool, eq-eqb}
+use Rattle.std.proofs.Common.{◌≡◌, ℕ, true, false, List, [], ◌∷◌, ◌++◌, None, refl, ◌∙◌, inl, inr, eqb}
+use Rattle.std.proofs.lemmas.Bool.{cases_Bool}
 use Rattle.aio_model.specs.declared.holds.RwAnswer.TheVariants.{Got, Queued}
-use Rattle.aio_model.specs.declared.holds.Hold.TheVariants.{Free, Reads, Writes}
+use Rattle.aio_model.specs.declared.holds.Hold.TheVariants.{Reads}
 use Rattle.aio_model.specs.declared.holds.Wish.TheVariants as wish
-use Rattle.aio_model.specs.Readers.{Holders, Readers, Writer, Ticket, ReadersWriter, is_reader, other_readers, waiting, hold_in, hold_of}
-use Rattle.aio_model.specs.RwTable.{with_ticket, read_by, read_locked, written_by, write_locked, without_holder, wake_one, stepped_back, queued_again, upgraded_by, upgraded}
+use Rattle.aio_model.specs.Holds.Readers.{Holders, Readers, Writer, Ticket, ReadersWriter, waiting, hold_in, hold_of}
+use Rattle.aio_model.specs.Holds.Table.{with_ticket, read_by, read_locked, written_by, write_locked, without_holder, wake_one, stepped_back, queued_again, upgraded_by, upgraded}
 use Rattle.co_waits.specs.Registers.{is_written, readers_in, is_vacant, is_open, is_single}
 
 opened : (who : ℕ) (state : ReadersWriter) (holders : Holders) (tickets : List Ticket) → is_open holders tickets ≡ true → read_by who state holders tickets ≡ record { answer = Got; state = record state { holders = Readers (readers_in holders ++ who ∷ []) } }

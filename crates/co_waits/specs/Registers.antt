@@ -1,9 +1,9 @@
 -- How a register keeps readers and a writer.
-use Rattle.std.specs.Prelude.{◌≡◌, ℕ, ◌&&◌, Bool, true, false, is_none, get_or, List, [], ◌∷◌, map, length, Option, Some, None}
+use Rattle.std.specs.Prelude.{◌≡◌, ℕ, ◌&&◌, Bool, true, false, get_or, List, [], ◌∷◌, length, Option, Some, None}
 use Rattle.aio_chain.specs.LinkList.{LinkList}
 use Rattle.aio_model.specs.declared.holds.Wish.{Wish}
 use Rattle.aio_model.specs.declared.holds.Wish.TheVariants as wish
-use Rattle.aio_model.specs.Readers.{Holders, Readers, Writer, Ticket, ReadersWriter}
+use Rattle.aio_model.specs.Holds.Readers.{Holders, Readers, Writer, Ticket, ReadersWriter}
 use Rattle.aio_model.specs.Holds.{IsOrderly}
 
 -- the ticket of an owner that waits

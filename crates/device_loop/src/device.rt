@@ -1,6 +1,6 @@
 //! The device, and its callbacks.
 ghost use Rattle.std.specs.Prelude.{◌≡◌, ◌<◌, List, []};
-ghost use Rattle.aio_model.specs.declared.timer_calls.TimerCall.{TimerCall};
+ghost use Rattle.aio_model.specs.declared.timers.calls.TimerCall.{TimerCall};
 ghost use Rattle.aio_loop.specs.Entering.{EachPasses, is_callees_on_timers, ChangesSide};
 
 use crate::counts::Counts;

@@ -1,11 +1,11 @@
 -- What a poll counts.
 use Rattle.std.proofs.Common.{◌≡◌, ℕ, zero, suc, ◌<◌, ◌≤◌, Bool, true, false, ◌&&◌, cond, eqb, List, [], ◌∷◌, ◌++◌, length, refl, sym, ap, ◌∙◌, subst, append_assoc, arith, inl, inr, ◌⊎◌}
-use Rattle.aio_model.specs.declared.flags.Flags.{Flags}
-use Rattle.aio_model.specs.FlagsWord.{bit}
-use Rattle.aio_model.specs.LoopHistory.{Sizes, ToCall, Take, History}
-use Rattle.aio_model.specs.LoopLegal.{IsLegal}
-use Rattle.aio_model.specs.LoopFrame.{Ended, Entered, DoesEntries, are_of_callback}
-use Rattle.aio_model.specs.LoopCalls.{entry_time, entry_times, dequeue_times, stops, AwaitsCall}
+use Rattle.aio_model.specs.declared.loops.flags.Flags.{Flags}
+use Rattle.aio_model.specs.Loop.FlagsWord.{bit}
+use Rattle.aio_model.specs.Loop.History.{Sizes, ToCall, Take, History}
+use Rattle.aio_model.specs.Loop.Legal.{IsLegal}
+use Rattle.aio_model.specs.Loop.Frame.{Ended, Entered, DoesEntries, are_of_callback}
+use Rattle.aio_model.specs.Loop.Calls.{entry_time, entry_times, dequeue_times, stops, AwaitsCall}
 use Rattle.aio_model.proofs.Rounds.{legal_cut}
 use Rattle.aio_model.proofs.Awaiting.{awaits_still, none_dequeued, dequeue_times-append, some_entry-parts, some_entry-both}
 use Rattle.aio_core.specs.Known.{Known}

@@ -3,11 +3,11 @@ use Rattle.std.proofs.Common.{◌≡◌, Option, None, Some, MatchOption, ℕ, �
 use Rattle.std.proofs.lemmas.List.{append_cancel_right}
 use Rattle.table_seats.specs.Dividing.{front_numbers, back_numbers, half_of}
 use Rattle.table_seats.proofs.Entries.{own-append}
-use Rattle.aio_model.specs.declared.flags.Flags.{Flags}
-use Rattle.aio_model.specs.LoopHistory.{ToCall, History}
-use Rattle.aio_model.specs.LoopLists.{seat_of}
-use Rattle.aio_model.specs.LoopSeats.{Numbers, owns, own_entries}
-use Rattle.aio_model.specs.LoopCalls.{dequeue_times, stops}
+use Rattle.aio_model.specs.declared.loops.flags.Flags.{Flags}
+use Rattle.aio_model.specs.Loop.History.{ToCall, History}
+use Rattle.aio_model.specs.Loop.Lists.{seat_of}
+use Rattle.aio_model.specs.Loop.Seats.{Numbers, owns, own_entries}
+use Rattle.aio_model.specs.Loop.Calls.{dequeue_times, stops}
 use Rattle.aio_model.proofs.Awaiting.{dequeue_times-append, some_entry-parts}
 use Rattle.aio_core.specs.Known.{Known, numbers_of}
 use Rattle.aio_core.specs.Calls.{TableState, SeatState, IsSeatOf}

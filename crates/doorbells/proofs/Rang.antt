@@ -1,13 +1,13 @@
 -- What a ring leads to.
 use Rattle.std.proofs.Common.{◌≡◌, ℕ, ◌<◌, Bool, true, false, not, ◌&&◌, eqb, ◌++◌, refl, sym, ap, ◌∙◌, subst}
 use Rattle.std.proofs.lemmas.Bool.{false≢true}
-use Rattle.aio_model.specs.declared.flags.Flags.{Flags}
-use Rattle.aio_model.specs.LoopHistory.{ToCall, History}
-use Rattle.aio_model.specs.InFlight.{AtRest}
-use Rattle.aio_model.specs.LoopLegal.{IsLegal}
-use Rattle.aio_model.specs.LoopSeats.{home, entries_by, entries_of}
-use Rattle.aio_model.specs.LoopFrame.{are_of_callback}
-use Rattle.aio_model.specs.LoopCalls.{dequeue_times, AwaitsCall}
+use Rattle.aio_model.specs.declared.loops.flags.Flags.{Flags}
+use Rattle.aio_model.specs.Loop.History.{ToCall, History}
+use Rattle.aio_model.specs.Loop.InFlight.{AtRest}
+use Rattle.aio_model.specs.Loop.Legal.{IsLegal}
+use Rattle.aio_model.specs.Loop.Seats.{home, entries_by, entries_of}
+use Rattle.aio_model.specs.Loop.Frame.{are_of_callback}
+use Rattle.aio_model.specs.Loop.Calls.{dequeue_times, AwaitsCall}
 use Rattle.aio_model.proofs.Awaiting.{none_dequeued}
 use Rattle.aio_core.specs.Known.{Known}
 use Rattle.aio_core.specs.Calls.{TableState, SeatState, IsSeatOf}

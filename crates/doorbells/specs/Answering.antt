@@ -1,11 +1,11 @@
 -- What the home does for the doorbells.
 use Rattle.std.specs.Prelude.{◌≡◌, ℕ, ◌<◌, ◌⊎◌, true, false, List, [], ◌∷◌, ◌++◌}
-use Rattle.aio_model.specs.declared.flags.Flags.{Flags}
-use Rattle.aio_model.specs.LoopHistory.{Sizes, Take, History}
-use Rattle.aio_model.specs.LoopLists.{was_put}
-use Rattle.aio_model.specs.LoopLaws.{some_entry}
-use Rattle.aio_model.specs.LoopSeats.{home, entries_of}
-use Rattle.aio_model.specs.LoopCalls.{dequeue_times, stops, AwaitsCall}
+use Rattle.aio_model.specs.declared.loops.flags.Flags.{Flags}
+use Rattle.aio_model.specs.Loop.History.{Sizes, Take, History}
+use Rattle.aio_model.specs.Loop.Lists.{was_put}
+use Rattle.aio_model.specs.Loop.Laws.{some_entry}
+use Rattle.aio_model.specs.Loop.Seats.{home, entries_of}
+use Rattle.aio_model.specs.Loop.Calls.{dequeue_times, stops, AwaitsCall}
 use Rattle.aio_core.specs.Known.{empty_stage}
 use Rattle.aio_core.specs.Calls.{TableState, SeatState}
 use Rattle.aio_bh.specs.Ready.{IsReady}

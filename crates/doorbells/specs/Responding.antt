@@ -1,8 +1,8 @@
 -- What one answer to a doorbell does to the devices.
 use Rattle.std.specs.Prelude.{◌≡◌, ℕ, ◌<◌, ◌≤◌, ◌+◌, ◌-◌, ◌^◌, min, Bool, true, false, not, ◌&&◌, ◌==◌, if◌then◌else◌, List, [], length, get_or}
-use Rattle.aio_model.specs.declared.flags.Flags.{Flags}
-use Rattle.aio_model.specs.LoopHistory.{ToCall, History}
-use Rattle.aio_model.specs.LoopFrame.{Entered}
+use Rattle.aio_model.specs.declared.loops.flags.Flags.{Flags}
+use Rattle.aio_model.specs.Loop.History.{ToCall, History}
+use Rattle.aio_model.specs.Loop.Frame.{Entered}
 use Rattle.aio_bh.specs.Enqueuing.{enqueue_entries}
 
 -- the ring is a new one: its doorbell was neither pending nor deleted

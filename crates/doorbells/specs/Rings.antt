@@ -1,12 +1,12 @@
 -- What a ring says.
 use Rattle.std.specs.Prelude.{◌≡◌, ℕ, ◌+◌, ◌-◌, true, false, ◌++◌}
 use Rattle.table_seats.specs.Dividing.{front_numbers, back_numbers, half_of}
-use Rattle.aio_model.specs.declared.flags.Flags.{Flags}
-use Rattle.aio_model.specs.LoopHistory.{ToCall, History}
-use Rattle.aio_model.specs.LoopLegal.{IsLegal}
-use Rattle.aio_model.specs.LoopLaws.{some_entry}
-use Rattle.aio_model.specs.LoopSeats.{own_entries}
-use Rattle.aio_model.specs.LoopCalls.{dequeue_times, stops, AwaitsCall}
+use Rattle.aio_model.specs.declared.loops.flags.Flags.{Flags}
+use Rattle.aio_model.specs.Loop.History.{ToCall, History}
+use Rattle.aio_model.specs.Loop.Legal.{IsLegal}
+use Rattle.aio_model.specs.Loop.Laws.{some_entry}
+use Rattle.aio_model.specs.Loop.Seats.{own_entries}
+use Rattle.aio_model.specs.Loop.Calls.{dequeue_times, stops, AwaitsCall}
 use Rattle.aio_core.specs.Known.{numbers_of}
 use Rattle.aio_core.specs.Calls.{TableState, SeatState}
 use Rattle.aio_bh.specs.Enqueuing.{AddsOnly, enqueue_entries}

@@ -1,7 +1,7 @@
 //! The callbacks of the doorbells.
 ghost use Rattle.std.specs.Prelude.{◌≡◌, ◌<◌, ◌==◌, ◌&&◌, true, if◌then◌else◌, length, get_or, IfOk, ℕ};
-ghost use Rattle.aio_model.specs.LoopHistory.{History};
-ghost use Rattle.aio_model.specs.LoopLegal.{IsLegal};
+ghost use Rattle.aio_model.specs.Loop.History.{History};
+ghost use Rattle.aio_model.specs.Loop.Legal.{IsLegal};
 ghost use Rattle.aio_bh.specs.Ready.{IsReady};
 ghost use Rattle.aio_bh.specs.Running.{SeatComesBack};
 ghost use Rattle.doorbells.specs.Responding.{one_more, count_of, PassesOn, AreFit};
@@ -92,7 +92,7 @@ impl<'a, R: Wait> Devices<'a, R> {
 
 impl<'a, R: Wait> Runner<()> for Devices<'a, R> {
     ghost use Rattle.std.specs.Prelude.{◌≡◌, ◌==◌, ◌&&◌};
-    ghost use Rattle.aio_model.specs.LoopFrame.{Ended};
+    ghost use Rattle.aio_model.specs.Loop.Frame.{Ended};
     ghost use Rattle.doorbells.specs.Responding.{CountsOne, PassesOn, AreFit, answers};
 
     ghost can_run = { λ devices sizes. AreFit sizes.handles devices.answered.items devices.to };

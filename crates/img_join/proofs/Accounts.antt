@@ -2,10 +2,10 @@
 use Rattle.std.proofs.Common.{◌≡◌, ℕ, ◌+◌, ◌<◌, ◌≤◌, ◌==◌, inl, inr, true, false, cond, set, List, [], ◌∷◌, ◌++◌, length, Option, Some, None, option_map, IfSome, refl, sym, ap, subst, ◌∙◌, arith}
 use Rattle.std.proofs.lemmas.Bool.{cases_Bool, eq-eqb, cond-true, cond-false}
 use Rattle.std.proofs.lemmas.List.Sums.{sum_by-cons}
-use Rattle.aio_model.specs.declared.requests.Request.{Request}
-use Rattle.aio_model.specs.declared.requests.Request.TheVariants as request
-use Rattle.aio_model.specs.declared.replies.Reply.TheVariants as reply
-use Rattle.aio_model.specs.Asked.{Asked, request_named}
+use Rattle.aio_model.specs.declared.serving.requests.Request.{Request}
+use Rattle.aio_model.specs.declared.serving.requests.Request.TheVariants as request
+use Rattle.aio_model.specs.declared.serving.replies.Reply.TheVariants as reply
+use Rattle.aio_model.specs.Serving.Asked.{Asked, request_named}
 use Rattle.aio_model.specs.Serving.{length_of, end_of, FindsBytes, bytes_after}
 use Rattle.img_requests.specs.declared.answers.Piece.{Piece}
 use Rattle.img_requests.specs.declared.answers.Piece.TheVariants.{More, Whole, Failed}
@@ -27,8 +27,8 @@ use Rattle.img_shared.specs.Calls.{Enters, Serves, Leaves, IsServing}
 use Rattle.img_shared.specs.Images.{ImageState}
 use Rattle.img_shared.specs.Journals.{entries_of}
 use Rattle.img_shared.specs.Phases.{hold_asked}
-use Rattle.aio_model.specs.RwTable.{wake_one, unlocked}
-use Rattle.aio_model.specs.Readers.{ReadersWriter}
+use Rattle.aio_model.specs.Holds.Table.{wake_one, unlocked}
+use Rattle.aio_model.specs.Holds.Readers.{ReadersWriter}
 use Rattle.img_shared.specs.Notes.{Placement, Bytes, entries_from, told_in, note}
 use Rattle.img_shared.specs.Phases.{phase_at, CanLeave, IsWaiting, taken_up}
 use Rattle.img_join.specs.Accounts.{IsAnsweredBy, AllAnswered, Going, Doing, Account}

@@ -4,10 +4,10 @@ use Rattle.std.specs.List.{AllByRecursion}
 use Rattle.std.proofs.lemmas.Bool.{cases_eq, eq-eqb, ne_eqb, cond-true, cond-false}
 use Rattle.std.proofs.lemmas.List.{length-set}
 use Rattle.std.proofs.lemmas.List.Sums.{sum_by-cons}
-use Rattle.aio_model.specs.declared.replies.Placed.{Placed}
-use Rattle.aio_model.specs.declared.replies.Reply.{Reply}
-use Rattle.aio_model.specs.declared.replies.Reply.TheVariants.{Einval}
-use Rattle.aio_model.specs.SerialHistory.{CountsFrom, is_eio, eios_of}
+use Rattle.aio_model.specs.declared.serving.replies.Placed.{Placed}
+use Rattle.aio_model.specs.declared.serving.replies.Reply.{Reply}
+use Rattle.aio_model.specs.declared.serving.replies.Reply.TheVariants.{Einval}
+use Rattle.aio_model.specs.Serving.SerialHistory.{CountsFrom, is_eio, eios_of}
 use Rattle.img_requests.specs.declared.journal.Mark.{Mark}
 use Rattle.img_requests.specs.declared.journal.Mark.TheVariants as mark
 use Rattle.img_requests.specs.Journal.{reply_of}

@@ -4,14 +4,13 @@ use Rattle.std.specs.List.{AllByRecursion}
 use Rattle.std.proofs.lemmas.Bool.{cases_Bool, cases_lt, cond-true, cond-false}
 use Rattle.std.proofs.lemmas.List.{get_or_at, length-map}
 use Rattle.std.proofs.lemmas.List.Sums.{sum_by-cons}
-use Rattle.aio_model.specs.declared.replies.Reply.{Reply}
-use Rattle.aio_model.specs.declared.replies.Reply.TheVariants.{Einval}
-use Rattle.aio_model.specs.declared.replies.Placed.{Placed}
-use Rattle.aio_model.specs.declared.scripts.Step.{Step}
-use Rattle.aio_model.specs.Asked.{Asked, asked, requests_of}
-use Rattle.aio_model.specs.SerialHistory.{CountsFrom, bytes_left, IsSerialHistory, eios_of}
+use Rattle.aio_model.specs.declared.serving.replies.Reply.{Reply}
+use Rattle.aio_model.specs.declared.serving.replies.Reply.TheVariants.{Einval}
+use Rattle.aio_model.specs.declared.serving.replies.Placed.{Placed}
+use Rattle.aio_model.specs.declared.scripts.image_scripts.Step.{Step}
+use Rattle.aio_model.specs.Serving.Asked.{Asked, asked, requests_of}
+use Rattle.aio_model.specs.Serving.SerialHistory.{CountsFrom, bytes_left, IsSerialHistory, eios_of}
 use Rattle.aio_words.specs.declared.called.DeviceCall.{DeviceCall}
-use Rattle.aio_words.specs.Called.{sizes_asked, failures_in}
 use Rattle.aio_words.specs.Faults.{HasRisenBy}
 use Rattle.img_requests.specs.Journal.{reply_of}
 use Rattle.img_requests.specs.Progress.{Replied}

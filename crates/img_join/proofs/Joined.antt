@@ -4,16 +4,16 @@ use Rattle.std.specs.List.{AllByRecursion}
 use Rattle.std.proofs.lemmas.Bool.{eq-eqb, ne_eqb, cases_Bool, cases_eq, cond-true, cond-false, and_left}
 use Rattle.std.proofs.lemmas.List.{map-append, length-map}
 use Rattle.std.proofs.lemmas.List.Sums.{sum_by-cons}
-use Rattle.aio_model.specs.declared.requests.Request.{Request}
-use Rattle.aio_model.specs.declared.replies.Reply.{Reply}
-use Rattle.aio_model.specs.declared.replies.Reply.TheVariants.{Einval}
-use Rattle.aio_model.specs.declared.replies.Placed.{Placed}
-use Rattle.aio_model.specs.declared.scripts.Step.{Step}
-use Rattle.aio_model.specs.declared.scripts.What.{What}
-use Rattle.aio_model.specs.declared.scripts.What.TheVariants.{Ask, Delay, Move}
-use Rattle.aio_model.specs.Asked.{Asked, is_ask, requests_of, asked_by, asked_below, asked, request_named}
+use Rattle.aio_model.specs.declared.serving.requests.Request.{Request}
+use Rattle.aio_model.specs.declared.serving.replies.Reply.{Reply}
+use Rattle.aio_model.specs.declared.serving.replies.Reply.TheVariants.{Einval}
+use Rattle.aio_model.specs.declared.serving.replies.Placed.{Placed}
+use Rattle.aio_model.specs.declared.scripts.image_scripts.Step.{Step}
+use Rattle.aio_model.specs.declared.scripts.image_scripts.What.{What}
+use Rattle.aio_model.specs.declared.scripts.image_scripts.What.TheVariants.{Ask, Delay, Move}
+use Rattle.aio_model.specs.Serving.Asked.{Asked, is_ask, requests_of, asked_by, asked_below, asked, request_named}
 use Rattle.aio_model.specs.Serving.{Fits, bytes_after}
-use Rattle.aio_model.specs.SerialHistory.{asked_name, placed_name, CountsFrom, indices_of, bytes_behind, bytes_left, FitAlong, IsSerialHistory}
+use Rattle.aio_model.specs.Serving.SerialHistory.{asked_name, placed_name, CountsFrom, indices_of, bytes_behind, bytes_left, FitAlong, IsSerialHistory}
 use Rattle.aio_model.proofs.Names.{CountsFrom-asked}
 use Rattle.img_shared.specs.Journals.{Noted, Chain, of_stream}
 use Rattle.img_join.specs.Answers.{IsAnswered, placed_of}

@@ -2,7 +2,7 @@
 use Rattle.std.proofs.Common.{◌≡◌, ℕ, ◌+◌, ◌==◌, true, false, cond, List, [], ◌∷◌, ◌++◌, length, get_or, IsPermutation, inl, inr, refl, sym, ◌∙◌, ap, subst, arith}
 use Rattle.std.proofs.lemmas.Bool.{eqb-true, eq-eqb, ne_eqb, cases_Bool, cases_eq, cond-true, cond-false}
 use Rattle.std.proofs.lemmas.List.Sorted.{IsPermutation-refl, IsPermutation-cons, IsPermutation-sym, IsPermutation-trans, IsPermutation-middle}
-use Rattle.aio_model.specs.SerialHistory.{CountsFrom}
+use Rattle.aio_model.specs.Serving.SerialHistory.{CountsFrom}
 
 -- the indices of a stream's names
 abbrev pub indices_in : ℕ → List (ℕ × ℕ) → List ℕ

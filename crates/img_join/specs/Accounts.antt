@@ -1,7 +1,7 @@
 -- What a stream's own note and buffers say of its requests.
 use Rattle.std.specs.Prelude.{◌≡◌, ℕ, List, [], ◌∷◌, length, Option, Some, None}
-use Rattle.aio_model.specs.declared.requests.Request.{Request}
-use Rattle.aio_model.specs.Asked.{Asked, request_named}
+use Rattle.aio_model.specs.declared.serving.requests.Request.{Request}
+use Rattle.aio_model.specs.Serving.Asked.{Asked, request_named}
 use Rattle.img_requests.specs.declared.present.Stage.{Stage}
 use Rattle.img_requests.specs.declared.present.Stage.TheVariants.{Begun, Whole, Failed}
 use Rattle.img_requests.specs.Journal.{mark_at, reply_of}

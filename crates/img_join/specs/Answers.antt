@@ -1,9 +1,9 @@
 -- Replies to the requests of a journal's entries.
 use Rattle.std.specs.Prelude.{◌≡◌, ℕ, List, Some}
-use Rattle.aio_model.specs.declared.requests.Request.{Request}
-use Rattle.aio_model.specs.declared.replies.Reply.{Reply}
-use Rattle.aio_model.specs.declared.replies.Placed.{Placed}
-use Rattle.aio_model.specs.Asked.{Asked, request_named}
+use Rattle.aio_model.specs.declared.serving.requests.Request.{Request}
+use Rattle.aio_model.specs.declared.serving.replies.Reply.{Reply}
+use Rattle.aio_model.specs.declared.serving.replies.Placed.{Placed}
+use Rattle.aio_model.specs.Serving.Asked.{Asked, request_named}
 use Rattle.img_requests.specs.Progress.{Replied}
 use Rattle.img_shared.specs.Journals.{Noted}
 

@@ -1,11 +1,11 @@
 -- All streams have retired.
 use Rattle.std.specs.Prelude.{◌≡◌, ℕ, ◌+◌, ◌<◌, ◌≤◌, List, [], ◌∷◌, length, slice_index, Option, option_map}
 use Rattle.std.specs.List.{AllByRecursion}
-use Rattle.aio_model.specs.declared.replies.Placed.{Placed}
-use Rattle.aio_model.specs.declared.replies.Reply.{Reply}
-use Rattle.aio_model.specs.declared.scripts.Step.{Step}
-use Rattle.aio_model.specs.Asked.{asked, requests_of}
-use Rattle.aio_model.specs.SerialHistory.{IsSerialHistory, bytes_left, eios_of}
+use Rattle.aio_model.specs.declared.serving.replies.Placed.{Placed}
+use Rattle.aio_model.specs.declared.serving.replies.Reply.{Reply}
+use Rattle.aio_model.specs.declared.scripts.image_scripts.Step.{Step}
+use Rattle.aio_model.specs.Serving.Asked.{asked, requests_of}
+use Rattle.aio_model.specs.Serving.SerialHistory.{IsSerialHistory, bytes_left, eios_of}
 use Rattle.aio_words.specs.declared.called.DeviceCall.{DeviceCall}
 use Rattle.aio_words.specs.Called.{sizes_asked, failures_in}
 use Rattle.aio_words.specs.Faults.{HasRisenBy}

@@ -1,6 +1,6 @@
 -- Replies put together from the journal and the streams' buffers, entry by entry.
 use Rattle.std.specs.Prelude.{ℕ, ◌<◌, List, [], ◌∷◌, length, slice_index, get_or, set}
-use Rattle.aio_model.specs.declared.replies.Placed.{Placed}
+use Rattle.aio_model.specs.declared.serving.replies.Placed.{Placed}
 use Rattle.img_requests.specs.Journal.{reply_of}
 use Rattle.img_shared.specs.declared.journal.Entry.{Entry}
 

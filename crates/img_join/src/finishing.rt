@@ -1,5 +1,5 @@
 ghost use Rattle.std.specs.Prelude.{◌≡◌, ◌<◌, ◌≤◌, ℕ, List, [], length, vec_capacity};
-ghost use Rattle.aio_model.specs.declared.scripts.Step.{Step};
+ghost use Rattle.aio_model.specs.declared.scripts.image_scripts.Step.{Step};
 ghost use Rattle.img_join.specs.Ended.{HaveOwnIds, AreOurs, HasRetired, IsChargedFor, IsServedWhole};
 ghost use Rattle.img_join.specs.Placing.{placed_from, row_at};
 ghost use Rattle.img_shared.specs.declared.phases.Phase.TheVariants.{Retired};

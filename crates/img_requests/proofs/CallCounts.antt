@@ -1,7 +1,7 @@
 -- What one piece adds to the counts of a device's calls.
 use Rattle.std.proofs.Common.{◌≡◌, ℕ, zero, suc, ◌+◌, Bool, true, false, cond, List, ◌∷◌, refl, sym, ap, subst, ◌∙◌, arith}
-use Rattle.aio_model.specs.declared.requests.Request.{Request}
-use Rattle.aio_model.specs.declared.requests.Request.TheVariants.{Read, Write, Zero, Flush}
+use Rattle.aio_model.specs.declared.serving.requests.Request.{Request}
+use Rattle.aio_model.specs.declared.serving.requests.Request.TheVariants.{Read, Write, Zero, Flush}
 use Rattle.aio_words.specs.declared.called.DeviceAsk.{DeviceAsk}
 use Rattle.aio_words.specs.declared.called.DeviceCall.{DeviceCall}
 use Rattle.aio_words.specs.Called.{device_call, is_size, sizes_asked, failures_in}

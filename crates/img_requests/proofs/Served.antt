@@ -1,6 +1,6 @@
 -- A run of pieces, from the request's beginning to its reply.
 use Rattle.std.proofs.Common.{◌≡◌, ℕ, ◌≤◌, ◌⊎◌, inl, inr, List, length, Option, Some, IfSome, refl, sym, ap, subst, ◌∙◌}
-use Rattle.aio_model.specs.declared.requests.Request.{Request}
+use Rattle.aio_model.specs.declared.serving.requests.Request.{Request}
 use Rattle.aio_model.specs.Serving.{end_of}
 use Rattle.img_requests.specs.declared.answers.Piece.{Piece}
 use Rattle.img_requests.specs.declared.answers.Piece.TheVariants.{More, Whole, Failed}

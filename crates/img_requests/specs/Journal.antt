@@ -1,7 +1,7 @@
 -- The journal: an entry for each request that has its reply, in the order of their places.
 use Rattle.std.specs.Prelude.{ℕ, ◌==◌, List, count_by, Option, Some, None}
-use Rattle.aio_model.specs.declared.replies.Reply.{Reply}
-use Rattle.aio_model.specs.declared.replies.Reply.TheVariants as reply
+use Rattle.aio_model.specs.declared.serving.replies.Reply.{Reply}
+use Rattle.aio_model.specs.declared.serving.replies.Reply.TheVariants as reply
 use Rattle.img_requests.specs.declared.journal.Mark.{Mark}
 use Rattle.img_requests.specs.declared.journal.Mark.TheVariants.{Put, Got, Zeroed, Flushed, Eio, Einval}
 use Rattle.img_requests.specs.declared.journal.Entry.{Entry}

@@ -1,7 +1,7 @@
 -- The calls of the device that one piece of a request makes.
 use Rattle.std.specs.Prelude.{◌≡◌, ℕ, ◌+◌, ◌<◌, Bool, true, false, List, ◌∷◌}
-use Rattle.aio_model.specs.declared.requests.Request.{Request}
-use Rattle.aio_model.specs.declared.requests.Request.TheVariants.{Read, Write, Zero, Flush}
+use Rattle.aio_model.specs.declared.serving.requests.Request.{Request}
+use Rattle.aio_model.specs.declared.serving.requests.Request.TheVariants.{Read, Write, Zero, Flush}
 use Rattle.aio_words.specs.declared.called.DeviceAsk.{DeviceAsk}
 use Rattle.aio_words.specs.declared.called.DeviceAsk.TheVariants as ask
 use Rattle.aio_words.specs.declared.called.DeviceCall.{DeviceCall}

@@ -1,7 +1,7 @@
 -- What one piece of a request does to the device's bytes and to the buffer of a read.
 use Rattle.std.specs.Prelude.{◌≡◌, ◌==◌, if◌then◌else◌, Bool, ℕ, ◌+◌, ◌-◌, ◌<◌, min, List, length, take, drop, replicate, Option, option_map, IfSome}
-use Rattle.aio_model.specs.declared.requests.Request.{Request}
-use Rattle.aio_model.specs.declared.requests.Request.TheVariants.{Read, Write, Zero, Flush}
+use Rattle.aio_model.specs.declared.serving.requests.Request.{Request}
+use Rattle.aio_model.specs.declared.serving.requests.Request.TheVariants.{Read, Write, Zero, Flush}
 use Rattle.aio_model.specs.Serving.{put_at, length_of, IsCutShort}
 use Rattle.img_requests.specs.declared.answers.Piece.{Piece}
 use Rattle.img_requests.specs.declared.answers.Piece.TheVariants.{More, Whole, Failed}

@@ -1,7 +1,7 @@
 -- The present request: what it asks, and how far it has come.
 use Rattle.std.specs.Prelude.{◌≡◌, ℕ, Option, Some, None}
-use Rattle.aio_model.specs.declared.requests.Request.{Request}
-use Rattle.aio_model.specs.declared.requests.Request.TheVariants.{Read, Write, Zero, Flush}
+use Rattle.aio_model.specs.declared.serving.requests.Request.{Request}
+use Rattle.aio_model.specs.declared.serving.requests.Request.TheVariants.{Read, Write, Zero, Flush}
 use Rattle.aio_model.specs.Serving.{place_of, length_of}
 use Rattle.img_requests.specs.declared.present.RequestKind.{RequestKind}
 use Rattle.img_requests.specs.declared.present.RequestKind.TheVariants.{Read as read, Write as write, Zero as zero_out, Flush as flush}

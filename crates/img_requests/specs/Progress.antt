@@ -1,9 +1,9 @@
 -- How pieces join up to a request that is served.
 use Rattle.std.specs.Prelude.{◌≡◌, ℕ, ◌≤◌, List, length, take, drop, replicate, Option, option_map, IfSome}
-use Rattle.aio_model.specs.declared.requests.Request.{Request}
-use Rattle.aio_model.specs.declared.requests.Request.TheVariants.{Read, Write, Zero, Flush}
-use Rattle.aio_model.specs.declared.replies.Reply.{Reply}
-use Rattle.aio_model.specs.declared.replies.Reply.TheVariants.{Put, Got, Zeroed, Flushed}
+use Rattle.aio_model.specs.declared.serving.requests.Request.{Request}
+use Rattle.aio_model.specs.declared.serving.requests.Request.TheVariants.{Read, Write, Zero, Flush}
+use Rattle.aio_model.specs.declared.serving.replies.Reply.{Reply}
+use Rattle.aio_model.specs.declared.serving.replies.Reply.TheVariants.{Put, Got, Zeroed, Flushed}
 use Rattle.aio_model.specs.Serving.{put_at, length_of, end_of, Fits, bytes_after}
 use Rattle.img_requests.specs.ImageState.{ImageState, CanLeave}
 use Rattle.img_requests.specs.Journal.{mark_of, reply_of}

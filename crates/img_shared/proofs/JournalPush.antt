@@ -5,7 +5,7 @@ use Rattle.std.proofs.lemmas.List.{length-map, map-append}
 use Rattle.std.proofs.lemmas.List.Sums.{sum_by-cons}
 use Rattle.std.specs.List.{AllByRecursion}
 use Rattle.std.specs.declared.snapshot.Snapshot.{Snapshot}
-use Rattle.aio_model.specs.SerialHistory.{CountsFrom}
+use Rattle.aio_model.specs.Serving.SerialHistory.{CountsFrom}
 use Rattle.img_requests.specs.declared.journal.Mark.{Mark}
 use Rattle.img_shared.specs.declared.journal.Entry.{Entry}
 use Rattle.img_shared.specs.Journals.{entries_of, entry_next, noted, Noted, Chain, of_stream, indices_noted}

@@ -1,7 +1,7 @@
 -- What an image's invariant shows.
 use Rattle.std.proofs.Common.{◌≡◌, ◌≤◌, ℕ, set, sum, List, [], ◌∷◌, ◌++◌, length, Option, refl}
 use Rattle.aio_model.proofs.Granted.{writer_alone}
-use Rattle.aio_model.specs.RwTable.{unlocked}
+use Rattle.aio_model.specs.Holds.Table.{unlocked}
 use Rattle.aio_words.specs.declared.called.DeviceCall.{DeviceCall}
 use Rattle.img_requests.specs.declared.present.Present.{Present}
 use Rattle.img_requests.specs.Journal.{mark_at}

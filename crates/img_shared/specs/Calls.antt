@@ -2,11 +2,11 @@
 use Rattle.std.specs.Prelude.{◌≡◌, ℕ, ◌+◌, ◌<◌, ◌≤◌, set, sum, count_by, List, [], ◌∷◌, ◌++◌, length, map, slice_index, Option}
 use Rattle.std.specs.List.{AllByRecursion}
 use Rattle.aio_model.specs.declared.holds.RwAnswer.TheVariants as hold
-use Rattle.aio_model.specs.declared.requests.Request.{Request}
+use Rattle.aio_model.specs.declared.serving.requests.Request.{Request}
 use Rattle.aio_model.specs.Holds.{Has, WriterIsAlone}
-use Rattle.aio_model.specs.Readers.{hold_of}
-use Rattle.aio_model.specs.RwTable.{unlocked}
-use Rattle.aio_model.specs.SerialHistory.{CountsFrom}
+use Rattle.aio_model.specs.Holds.Readers.{hold_of}
+use Rattle.aio_model.specs.Holds.Table.{unlocked}
+use Rattle.aio_model.specs.Serving.SerialHistory.{CountsFrom}
 use Rattle.aio_model.specs.Serving.{length_of, end_of}
 use Rattle.aio_words.specs.declared.called.DeviceCall.{DeviceCall}
 use Rattle.aio_words.specs.Called.{sizes_asked, failures_in}

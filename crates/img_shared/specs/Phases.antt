@@ -2,8 +2,8 @@
 use Rattle.std.specs.Prelude.{◌≡◌, ℕ, ◌⊎◌, Bool, true, false, not, List, get_or, count_by}
 use Rattle.aio_model.specs.declared.holds.Hold.{Hold}
 use Rattle.aio_model.specs.declared.holds.Hold.TheVariants.{Free, Reads, Writes, WaitsRead, WaitsWrite}
-use Rattle.aio_model.specs.Readers.{ReadersWriter}
-use Rattle.aio_model.specs.RwTable.{HoldAsked, read_locked, write_locked}
+use Rattle.aio_model.specs.Holds.Readers.{ReadersWriter}
+use Rattle.aio_model.specs.Holds.Table.{HoldAsked, read_locked, write_locked}
 use Rattle.img_requests.specs.declared.present.RequestKind.{RequestKind}
 use Rattle.img_requests.specs.declared.present.RequestKind.TheVariants.{Read, Write, Zero, Flush}
 use Rattle.img_requests.specs.declared.present.Stage.{Stage}

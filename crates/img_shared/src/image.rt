@@ -3,8 +3,8 @@
 ghost use Rattle.std.specs.Prelude.{◌≡◌, ◌≢◌, ◌<◌, ◌≤◌, ◌^◌, ◌↔◌, ℕ, sum, [], ◌∷◌, ◌++◌, set, length, slice_index, replicate, IfOk, IfErr, IfSome, IsTrue};
 ghost use Rattle.aio_model.specs.declared.holds.Hold.TheVariants.{Free};
 ghost use Rattle.aio_model.specs.Holds.{Has, answered};
-ghost use Rattle.aio_model.specs.Readers.{Readers, hold_of};
-ghost use Rattle.aio_model.specs.RwTable.{wake_one, unlocked};
+ghost use Rattle.aio_model.specs.Holds.Readers.{Readers, hold_of};
+ghost use Rattle.aio_model.specs.Holds.Table.{wake_one, unlocked};
 ghost use Rattle.aio_model.specs.Serving.{length_of, end_of};
 ghost use Rattle.img_shared.specs.declared.phases.Phase.TheVariants.{Idle, Retired};
 ghost use Rattle.img_shared.specs.Phases.{held_by, waits_by, hold_asked, still_going, has_retired};

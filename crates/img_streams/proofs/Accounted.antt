@@ -1,7 +1,7 @@
 -- What each call on an image makes of the calling stream's note and account.
 use Rattle.std.proofs.Common.{◌≡◌, ℕ, ◌+◌, ◌<◌, ◌≤◌, Option, IfSome, List, [], ◌∷◌, ◌++◌, set, length, sym, ap, ◌∙◌, subst, length-append}
 use Rattle.std.proofs.lemmas.List.{length-set}
-use Rattle.aio_model.specs.declared.requests.Request.{Request}
+use Rattle.aio_model.specs.declared.serving.requests.Request.{Request}
 use Rattle.aio_model.specs.Serving.{end_of}
 use Rattle.co_state.specs.declared.cx.CoId.{CoId}
 use Rattle.img_requests.specs.declared.answers.Piece.{Piece}

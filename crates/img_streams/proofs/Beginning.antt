@@ -1,10 +1,10 @@
 -- A stream looks at its next line.
 use Rattle.std.proofs.Common.{◌≡◌, ℕ, ◌+◌, ◌<◌, ◌≤◌, ◌⊎◌, inl, inr, false, Option, List, length, take, get_or, sym, ap, ◌∙◌, subst, arith}
-use Rattle.aio_model.specs.declared.scripts.Script.{Script}
-use Rattle.aio_model.specs.declared.scripts.Step.{Step}
-use Rattle.aio_model.specs.declared.scripts.What.{What}
-use Rattle.aio_model.specs.declared.scripts.What.TheVariants.{Ask}
-use Rattle.aio_model.specs.Asked.{requests_of}
+use Rattle.aio_model.specs.declared.scripts.image_scripts.Script.{Script}
+use Rattle.aio_model.specs.declared.scripts.image_scripts.Step.{Step}
+use Rattle.aio_model.specs.declared.scripts.image_scripts.What.{What}
+use Rattle.aio_model.specs.declared.scripts.image_scripts.What.TheVariants.{Ask}
+use Rattle.aio_model.specs.Serving.Asked.{requests_of}
 use Rattle.co_state.specs.Wants.{Wants}
 use Rattle.co_state.specs.declared.co.CoStep.TheVariants as step
 use Rattle.co_mutex.specs.declared.lock.CoMutex.{CoMutex}
@@ -19,7 +19,7 @@ use Rattle.img_streams.specs.Lines.{line_from, StandsAt, Asks}
 use Rattle.img_streams.specs.Own.{own_note}
 use Rattle.img_streams.specs.Streams.{IsStreamOf, StandsSo, Resumes, WaitsForLock, MakesCall}
 use Rattle.img_streams.specs.Streams.{Retiring}
-use Rattle.aio_model.specs.Asked.{is_ask}
+use Rattle.aio_model.specs.Serving.Asked.{is_ask}
 use Rattle.co_state.specs.declared.co.CoStep.{CoStep}
 use Rattle.img_streams.proofs.LinesAlong.{line_inside, line_again, stands_there, above_kept, above_other}
 

@@ -2,8 +2,8 @@
 use Rattle.std.proofs.Common.{◌≡◌, ℕ, ◌+◌, ◌<◌, ◌≤◌, List, [], ◌∷◌, ◌++◌, length, get_or, take, drop, refl, sym, ap, ◌∙◌, subst, arith, append_assoc, append-nil}
 use Rattle.std.proofs.lemmas.List.{drop_all, take_all, drop-drop}
 use Rattle.std.proofs.lemmas.Bool.{eq-eqb}
-use Rattle.aio_model.specs.declared.scripts.Step.{Step}
-use Rattle.aio_model.specs.Asked.{requests_of}
+use Rattle.aio_model.specs.declared.scripts.image_scripts.Step.{Step}
+use Rattle.aio_model.specs.Serving.Asked.{requests_of}
 use Rattle.img_streams.specs.Lines.{next_own, line_from, places_from, places_of}
 use Rattle.img_streams.specs.Rooms.{AddsFor, HaveBuffers, AreGathered}
 use Rattle.img_streams.proofs.LinesAlong.{above_kept, line_again, line_inside, own_at}

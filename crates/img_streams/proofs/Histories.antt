@@ -1,9 +1,9 @@
 -- From the image that a closed lock shows, and the clause of `img_join::finish` on it, to the serial history of a script.
 use Rattle.std.proofs.Common.{◌≡◌, ℕ, ◌<◌, Option, option_map, List, length, subst}
-use Rattle.aio_model.specs.declared.replies.Placed.{Placed}
-use Rattle.aio_model.specs.declared.scripts.Step.{Step}
-use Rattle.aio_model.specs.Asked.{asked}
-use Rattle.aio_model.specs.SerialHistory.{IsSerialHistory, bytes_left, eios_of}
+use Rattle.aio_model.specs.declared.serving.replies.Placed.{Placed}
+use Rattle.aio_model.specs.declared.scripts.image_scripts.Step.{Step}
+use Rattle.aio_model.specs.Serving.Asked.{asked}
+use Rattle.aio_model.specs.Serving.SerialHistory.{IsSerialHistory, bytes_left, eios_of}
 use Rattle.aio_words.specs.Faults.{HasRisenBy}
 use Rattle.img_shared.specs.Images.{ImageState}
 use Rattle.img_join.specs.Ended.{HaveOwnIds, AreOurs, HasRetired, IsServedWhole}

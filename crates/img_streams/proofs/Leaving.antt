@@ -1,7 +1,7 @@
 -- A stream whose request was served whole, or failed.
 use Rattle.std.proofs.Common.{◌≡◌, ℕ, ◌+◌, false, Option, Some, List, [], ◌∷◌, ◌++◌, length, map, sym, ap, subst}
-use Rattle.aio_model.specs.declared.scripts.Script.{Script}
-use Rattle.aio_model.specs.Asked.{asked, requests_of}
+use Rattle.aio_model.specs.declared.scripts.image_scripts.Script.{Script}
+use Rattle.aio_model.specs.Serving.Asked.{asked, requests_of}
 use Rattle.co_state.specs.Wants.{Wants}
 use Rattle.co_state.specs.declared.cx.CoId.{CoId}
 use Rattle.co_state.specs.declared.co.CoStep.TheVariants as step

@@ -4,11 +4,11 @@ use Rattle.std.proofs.lemmas.List.{drop_more, drop_all, take_all, length-drop, g
 use Rattle.std.proofs.Math.Seq.{take-add}
 use Rattle.std.proofs.lemmas.List.Sums.{sum_by-append, sum_by-cons, sum_by_more, sum_by-take-le}
 use Rattle.std.proofs.lemmas.Bool.{cases_Bool, cases_lt, eqb-true, eq-eqb, ne_eqb, and_left, and_right, and_from, cond-true, cond-false}
-use Rattle.aio_model.specs.declared.requests.Request.{Request}
-use Rattle.aio_model.specs.declared.scripts.Step.{Step}
-use Rattle.aio_model.specs.declared.scripts.What.{What}
-use Rattle.aio_model.specs.declared.scripts.What.TheVariants.{Ask, Delay}
-use Rattle.aio_model.specs.Asked.{is_ask, requests_of, asked, request_named}
+use Rattle.aio_model.specs.declared.serving.requests.Request.{Request}
+use Rattle.aio_model.specs.declared.scripts.image_scripts.Step.{Step}
+use Rattle.aio_model.specs.declared.scripts.image_scripts.What.{What}
+use Rattle.aio_model.specs.declared.scripts.image_scripts.What.TheVariants.{Ask, Delay}
+use Rattle.aio_model.specs.Serving.Asked.{is_ask, requests_of, asked, request_named}
 use Rattle.aio_model.specs.Serving.{length_of}
 use Rattle.aio_model.proofs.InOrder.{asked-split, asked_rest}
 use Rattle.aio_model.proofs.Names.{request_named-asked}

@@ -2,7 +2,7 @@
 use Rattle.std.proofs.Common.{◌≡◌, ◌≢◌, ℕ, ◌+◌, ◌<◌, ◌≤◌, ◌==◌, List, length, get_or, set, slice_index, replicate, inl, inr, sym, ap, ◌∙◌, subst, arith, get_or-set_other, get_or-set_same, length-set}
 use Rattle.std.proofs.lemmas.List.{get_or_default, get_or-replicate}
 use Rattle.std.proofs.lemmas.Bool.{cases_Bool, cases_lt, eqb-true, eqb-false}
-use Rattle.aio_model.specs.declared.scripts.Step.{Step}
+use Rattle.aio_model.specs.declared.scripts.image_scripts.Step.{Step}
 use Rattle.img_streams.specs.Lines.{line_from}
 use Rattle.img_streams.specs.Links.{LeadFrom}
 use Rattle.img_streams.proofs.LinesAlong.{next_here, next_past, next_end}

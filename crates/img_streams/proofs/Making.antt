@@ -1,8 +1,8 @@
 -- What a stream did in one turn at the lock.
 use Rattle.std.proofs.Common.{◌≡◌, ℕ, ◌+◌, inr, false, Option, List, ◌++◌, sym, ap, ◌∙◌, subst}
-use Rattle.aio_model.specs.declared.requests.Request.{Request}
-use Rattle.aio_model.specs.declared.scripts.Script.{Script}
-use Rattle.aio_model.specs.declared.scripts.What.TheVariants.{Ask}
+use Rattle.aio_model.specs.declared.serving.requests.Request.{Request}
+use Rattle.aio_model.specs.declared.scripts.image_scripts.Script.{Script}
+use Rattle.aio_model.specs.declared.scripts.image_scripts.What.TheVariants.{Ask}
 use Rattle.co_state.specs.Wants.{Wants}
 use Rattle.co_state.specs.declared.cx.CoId.{CoId}
 use Rattle.co_state.specs.declared.co.CoStep.TheVariants as step

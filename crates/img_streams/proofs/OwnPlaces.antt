@@ -4,7 +4,7 @@ use Rattle.std.specs.List.{AllWithin}
 use Rattle.std.specs.List.Sorted.{IsPartitionedBy, IsPartitionPoint}
 use Rattle.std.proofs.lemmas.List.{drop_more, drop_all}
 use Rattle.std.proofs.lemmas.Bool.{cases_Bool, cond-true, cond-false, ltb-true, ltb-false, lt-ltb}
-use Rattle.aio_model.specs.declared.scripts.Step.{Step}
+use Rattle.aio_model.specs.declared.scripts.image_scripts.Step.{Step}
 use Rattle.img_streams.specs.Lines.{next_own, line_from, places_from, places_of}
 
 own_place : (id at : ℕ) (step : Step) (lines : List Step) → (step.stream == id) ≡ true → places_from id at (step ∷ lines) ≡ at ∷ places_from id (at + 1) lines

@@ -1,6 +1,6 @@
 -- A stream's own note over a turn at the lock.
 use Rattle.std.proofs.Common.{◌≡◌, ℕ, ◌<◌, Bool, Option, List, length, slice_index, sym, ap, ◌∙◌, arith}
-use Rattle.aio_model.specs.LockHistory.{value_of}
+use Rattle.aio_model.specs.Lock.History.{value_of}
 use Rattle.co_state.specs.declared.cx.CoId.{CoId}
 use Rattle.co_mutex.specs.declared.lock.CoMutex.{CoMutex}
 use Rattle.co_mutex.specs.declared.lock.Pass.{Pass}

@@ -1,6 +1,6 @@
 -- What whoever carries coroutines of streams learns of a resume.
 use Rattle.std.proofs.Common.{◌≡◌, ℕ, inl, inr, Option, List, sym, ap, ◌∙◌, subst}
-use Rattle.aio_model.specs.declared.scripts.Script.{Script}
+use Rattle.aio_model.specs.declared.scripts.image_scripts.Script.{Script}
 use Rattle.co_state.specs.Wants.{Wants}
 use Rattle.co_state.specs.declared.co.CoStep.{CoStep}
 use Rattle.co_state.specs.declared.co.CoStep.TheVariants as step

@@ -1,7 +1,7 @@
 -- A stream with no line left.
 use Rattle.std.proofs.Common.{◌≡◌, ℕ, inr, false, Option, List, length, map, take, refl, sym, ap, ◌∙◌, subst, arith}
-use Rattle.aio_model.specs.declared.scripts.Script.{Script}
-use Rattle.aio_model.specs.Asked.{asked, requests_of}
+use Rattle.aio_model.specs.declared.scripts.image_scripts.Script.{Script}
+use Rattle.aio_model.specs.Serving.Asked.{asked, requests_of}
 use Rattle.co_state.specs.Wants.{Wants}
 use Rattle.co_state.specs.declared.cx.CoId.{CoId}
 use Rattle.co_state.specs.declared.co.CoStep.TheVariants as step

@@ -1,10 +1,10 @@
 -- A stream whose request has its hold.
 use Rattle.std.proofs.Common.{◌≡◌, ℕ, false, Option, List, ◌++◌, length, map, refl, sym, ap, ◌∙◌, subst, arith}
-use Rattle.aio_model.specs.declared.requests.Request.{Request}
-use Rattle.aio_model.specs.declared.scripts.Script.{Script}
-use Rattle.aio_model.specs.declared.scripts.What.TheVariants.{Ask}
+use Rattle.aio_model.specs.declared.serving.requests.Request.{Request}
+use Rattle.aio_model.specs.declared.scripts.image_scripts.Script.{Script}
+use Rattle.aio_model.specs.declared.scripts.image_scripts.What.TheVariants.{Ask}
 use Rattle.aio_model.specs.Serving.{length_of}
-use Rattle.aio_model.specs.Asked.{asked, request_named, requests_of}
+use Rattle.aio_model.specs.Serving.Asked.{asked, request_named, requests_of}
 use Rattle.co_state.specs.Wants.{Wants}
 use Rattle.co_state.specs.declared.cx.CoId.{CoId}
 use Rattle.co_state.specs.declared.co.CoStep.TheVariants as step

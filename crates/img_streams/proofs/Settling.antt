@@ -1,8 +1,8 @@
 -- The image behind a lock that is closed has each stream's note as its pass left it.
 use Rattle.std.proofs.Common.{◌≡◌, ℕ, ◌<◌, false, Option, List, [], ◌∷◌, length, map, slice_index, refl, sym, ap, ◌∙◌, subst, arith}
-use Rattle.aio_model.specs.declared.scripts.Step.{Step}
-use Rattle.aio_model.specs.Asked.{Asked, asked, requests_of}
-use Rattle.aio_model.specs.LockHistory.{LockEntry, value_of, made_by, maker_of, AreBelow}
+use Rattle.aio_model.specs.declared.scripts.image_scripts.Step.{Step}
+use Rattle.aio_model.specs.Serving.Asked.{Asked, asked, requests_of}
+use Rattle.aio_model.specs.Lock.History.{LockEntry, value_of, made_by, maker_of, AreBelow}
 use Rattle.co_mutex.specs.declared.lock.CoMutex.{CoMutex}
 use Rattle.co_mutex.specs.declared.lock.Pass.{Pass}
 use Rattle.co_mutex.specs.Closing.{In, AreAll, Gathers}
@@ -18,7 +18,7 @@ use Rattle.img_join.proofs.Accounts.{length_from}
 use Rattle.img_streams.specs.Own.{own_note}
 use Rattle.img_streams.specs.Retired.{IsRetired, ArePartsOf, AreUnused, HaveRetired, ShowsRetired}
 use Rattle.img_shared.specs.declared.phases.Phase.TheVariants.{Retired}
-use Rattle.aio_model.specs.declared.scripts.Script.{Script}
+use Rattle.aio_model.specs.declared.scripts.image_scripts.Script.{Script}
 use Rattle.img_streams.specs.declared.progress.At.{At}
 use Rattle.img_streams.specs.declared.progress.At.TheVariants as at
 use Rattle.img_streams.specs.declared.stream.Stream.{Stream}

@@ -1,9 +1,9 @@
 -- A new coroutine is of its lock and script.
 use Rattle.std.proofs.Common.{◌≡◌, ℕ, zero, suc, false, Option, List, [], ◌∷◌, length, map, replicate, refl, sym, ap, ◌∙◌, subst, arith}
 use Rattle.std.proofs.lemmas.List.{length-replicate}
-use Rattle.aio_model.specs.declared.scripts.Script.{Script}
-use Rattle.aio_model.specs.Asked.{asked, requests_of}
-use Rattle.aio_model.specs.LockHistory.{value_of}
+use Rattle.aio_model.specs.declared.scripts.image_scripts.Script.{Script}
+use Rattle.aio_model.specs.Serving.Asked.{asked, requests_of}
+use Rattle.aio_model.specs.Lock.History.{value_of}
 use Rattle.co_state.specs.declared.cx.CoId.{CoId}
 use Rattle.co_mutex.specs.declared.lock.CoMutex.{CoMutex}
 use Rattle.co_mutex.specs.declared.lock.Pass.{Pass}

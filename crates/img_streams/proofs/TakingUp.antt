@@ -1,9 +1,9 @@
 -- A stream that waits for its hold.
 use Rattle.std.proofs.Common.{◌≡◌, ℕ, ◌≤◌, Bool, false, Option, Some, IfSome, List, ◌++◌, length, map, refl, sym, ap, ◌∙◌, subst, arith}
-use Rattle.aio_model.specs.declared.requests.Request.{Request}
-use Rattle.aio_model.specs.declared.scripts.Script.{Script}
-use Rattle.aio_model.specs.declared.scripts.What.TheVariants.{Ask}
-use Rattle.aio_model.specs.Asked.{asked, requests_of}
+use Rattle.aio_model.specs.declared.serving.requests.Request.{Request}
+use Rattle.aio_model.specs.declared.scripts.image_scripts.Script.{Script}
+use Rattle.aio_model.specs.declared.scripts.image_scripts.What.TheVariants.{Ask}
+use Rattle.aio_model.specs.Serving.Asked.{asked, requests_of}
 use Rattle.aio_model.specs.Serving.{end_of}
 use Rattle.co_state.specs.Wants.{Wants}
 use Rattle.co_state.specs.declared.cx.CoId.{CoId}

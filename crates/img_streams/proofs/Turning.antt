@@ -1,7 +1,7 @@
 -- What a pass knows after a turn at the lock.
 use Rattle.std.proofs.Common.{◌≡◌, ◌≢◌, ℕ, Bool, true, false, Option, Some, None, List, [], ◌∷◌, ◌++◌, refl, sym, ap, ◌∙◌, subst}
-use Rattle.aio_model.specs.LockHistory.{LockEntry, Got, Wait, Grant, Release, value_of}
-use Rattle.aio_model.specs.LockNotes.{SameNotes}
+use Rattle.aio_model.specs.Lock.History.{LockEntry, Got, Wait, Grant, Release, value_of}
+use Rattle.aio_model.specs.Lock.Notes.{SameNotes}
 use Rattle.co_state.specs.declared.cx.CoId.{CoId}
 use Rattle.co_mutex.specs.Places.{AtRest, Queued}
 use Rattle.co_mutex.specs.Known.{Known}

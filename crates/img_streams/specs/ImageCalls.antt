@@ -1,10 +1,10 @@
 -- What one turn at the lock does on the image: it notes where the stream is, and makes one call. A stream that takes up
 -- its hold is served the first piece of its request too.
 use Rattle.std.specs.Prelude.{◌≡◌, ℕ, set, slice_index, List, Option, option_map}
-use Rattle.aio_model.specs.declared.requests.Request.{Request}
+use Rattle.aio_model.specs.declared.serving.requests.Request.{Request}
 use Rattle.aio_model.specs.Holds.{Has}
-use Rattle.aio_model.specs.Readers.{hold_of}
-use Rattle.aio_model.specs.RwTable.{wake_one, unlocked}
+use Rattle.aio_model.specs.Holds.Readers.{hold_of}
+use Rattle.aio_model.specs.Holds.Table.{wake_one, unlocked}
 use Rattle.co_state.specs.declared.cx.CoId.{CoId}
 use Rattle.img_requests.specs.declared.answers.Piece.{Piece}
 use Rattle.img_requests.specs.Presents.{begun_of}

@@ -1,6 +1,6 @@
 -- Links through the lines of each stream.
 use Rattle.std.specs.Prelude.{◌≡◌, ℕ, ◌+◌, ◌<◌, ◌≤◌, List, length, get_or, slice_index}
-use Rattle.aio_model.specs.declared.scripts.Step.{Step}
+use Rattle.aio_model.specs.declared.scripts.image_scripts.Step.{Step}
 use Rattle.img_streams.specs.declared.links.LineLinks.{LineLinks}
 use Rattle.img_streams.specs.Lines.{line_from}
 

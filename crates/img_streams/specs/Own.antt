@@ -1,6 +1,6 @@
 -- What a pass knows of its stream, and what one turn at the lock makes of it.
 use Rattle.std.specs.Prelude.{◌≡◌, ℕ, ◌<◌, Bool, true, false, List, length, Option}
-use Rattle.aio_model.specs.LockHistory.{value_of}
+use Rattle.aio_model.specs.Lock.History.{value_of}
 use Rattle.co_state.specs.declared.cx.CoId.{CoId}
 use Rattle.co_mutex.specs.declared.lock.CoMutex.{CoMutex}
 use Rattle.co_mutex.specs.declared.lock.Pass.{Pass}

@@ -1,7 +1,7 @@
 -- What each call of a stream makes of its account.
 use Rattle.std.specs.Prelude.{◌≡◌, ◌≤◌, ℕ, List, [], ◌∷◌, ◌++◌, ◌+◌, length, Option, Some}
-use Rattle.aio_model.specs.declared.requests.Request.{Request}
-use Rattle.aio_model.specs.Asked.{Asked, request_named}
+use Rattle.aio_model.specs.declared.serving.requests.Request.{Request}
+use Rattle.aio_model.specs.Serving.Asked.{Asked, request_named}
 use Rattle.aio_model.specs.Serving.{length_of, end_of}
 use Rattle.img_requests.specs.declared.answers.Enter.{Enter}
 use Rattle.img_requests.specs.declared.answers.Enter.TheVariants.{Begun, Queued, Refused}

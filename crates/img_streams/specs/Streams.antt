@@ -1,10 +1,10 @@
 -- The coroutine of a stream: of which lock and script it is, and what one resume does.
 use Rattle.std.specs.Prelude.{◌≡◌, ℕ, zero, suc, ◌^◌, ◌+◌, ◌<◌, ◌≤◌, ◌⊎◌, ◌==◌, Bool, true, false, Option, List, [], ◌∷◌, ◌++◌, length, map, slice_index, take, vec_capacity}
-use Rattle.aio_model.specs.declared.requests.Request.{Request}
-use Rattle.aio_model.specs.declared.scripts.Script.{Script}
-use Rattle.aio_model.specs.declared.scripts.Step.{Step}
-use Rattle.aio_model.specs.declared.scripts.What.TheVariants.{Ask, Delay, Move}
-use Rattle.aio_model.specs.Asked.{asked, requests_of}
+use Rattle.aio_model.specs.declared.serving.requests.Request.{Request}
+use Rattle.aio_model.specs.declared.scripts.image_scripts.Script.{Script}
+use Rattle.aio_model.specs.declared.scripts.image_scripts.Step.{Step}
+use Rattle.aio_model.specs.declared.scripts.image_scripts.What.TheVariants.{Ask, Delay, Move}
+use Rattle.aio_model.specs.Serving.Asked.{asked, requests_of}
 use Rattle.aio_model.specs.Serving.{end_of}
 use Rattle.co_state.specs.Wants.{Wants, nothing_asked}
 use Rattle.co_state.specs.declared.cx.CoId.{CoId}

@@ -1,6 +1,6 @@
 -- One turn of a pass at its lock: it holds the lock once, or goes on waiting for it.
 use Rattle.std.specs.Prelude.{◌≡◌, ℕ, Bool, true, false, Option, None, List, [], ◌∷◌}
-use Rattle.aio_model.specs.LockHistory.{LockEntry, Got, Wait, Grant, Release}
+use Rattle.aio_model.specs.Lock.History.{LockEntry, Got, Wait, Grant, Release}
 use Rattle.co_state.specs.declared.cx.CoId.{CoId}
 use Rattle.co_mutex.specs.declared.answers.Lock.{Lock}
 use Rattle.co_mutex.specs.declared.answers.Lock.TheVariants.{Held, Queued as Waits}

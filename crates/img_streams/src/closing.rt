@@ -1,7 +1,7 @@
 //! The end of a run: the coroutines of streams that have retired are taken apart, and their lock is closed.
 ghost use Rattle.std.specs.Prelude.{◌≡◌, ◌<◌, ℕ, List, map};
-ghost use Rattle.aio_model.specs.declared.scripts.Script.{Script};
-ghost use Rattle.aio_model.specs.declared.scripts.Step.{Step};
+ghost use Rattle.aio_model.specs.declared.scripts.image_scripts.Script.{Script};
+ghost use Rattle.aio_model.specs.declared.scripts.image_scripts.Step.{Step};
 ghost use Rattle.co_mutex.specs.declared.lock.CoMutex.{CoMutex};
 ghost use Rattle.co_mutex.specs.Closing.{AreAll};
 ghost use Rattle.co_mutex.specs.Passes.{built_of, passes_of};

@@ -1,6 +1,6 @@
 //! A stream's lines in a script.
 ghost use Rattle.std.specs.Prelude.{◌≡◌, ◌<◌, ◌≤◌, ℕ, length, get_or};
-ghost use Rattle.aio_model.specs.declared.scripts.Step.{Step};
+ghost use Rattle.aio_model.specs.declared.scripts.image_scripts.Step.{Step};
 ghost use Rattle.img_streams.specs.Lines.{line_from, places_of, Asks};
 
 use aio_model::{Request, Step, What};

@@ -1,6 +1,6 @@
 //! The coroutine of a stream, and what it is lent.
 ghost use Rattle.std.specs.Prelude.{◌≡◌, IsTrue};
-ghost use Rattle.aio_model.specs.declared.scripts.Script.{Script};
+ghost use Rattle.aio_model.specs.declared.scripts.image_scripts.Script.{Script};
 ghost use Rattle.co_mutex.specs.declared.lock.CoMutex.{CoMutex};
 ghost use Rattle.img_streams.specs.Rooms.{CanStart};
 ghost use Rattle.img_streams.specs.Streams.{IsStreamOf, source, HasGone};

@@ -1,6 +1,6 @@
 //! Threads that each take the lock over and over and count that, and wake each coroutine that is named.
 ghost use Rattle.std.specs.Prelude.{◌≡◌, ◌<◌, ◌+◌, vec_len};
-ghost use Rattle.aio_model.specs.LockHistory.{value_of};
+ghost use Rattle.aio_model.specs.Lock.History.{value_of};
 ghost use Rattle.co_mutex.specs.Places.{AtRest, Holds};
 ghost use Rattle.co_mutex.specs.Passes.{IsPassOf, built_of, known};
 ghost use Rattle.co_mutex.specs.Decks.{IsResting, AreResting};

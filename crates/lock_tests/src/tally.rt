@@ -1,4 +1,4 @@
-ghost use Rattle.aio_model.specs.LockNotes.{SameNotes};
+ghost use Rattle.aio_model.specs.Lock.Notes.{SameNotes};
 ghost use Rattle.lock_tests.specs.Tallies.{own_of};
 
 use co_mutex::LockRule;

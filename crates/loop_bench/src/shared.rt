@@ -1,6 +1,6 @@
 //! Rounds of one thread on the shared loop.
 ghost use Rattle.std.specs.Prelude.{◌≡◌, ◌<◌};
-ghost use Rattle.aio_model.specs.InFlight.{AtRest};
+ghost use Rattle.aio_model.specs.Loop.InFlight.{AtRest};
 ghost use Rattle.aio_core.specs.Known.{empty_stage};
 ghost use Rattle.aio_core.specs.Calls.{IsSeatOf};
 ghost use Rattle.aio_bh.specs.OneShots.{ServesHome};

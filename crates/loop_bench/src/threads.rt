@@ -1,7 +1,7 @@
 //! Two threads schedule while the home polls, until each has said by a handle of its own that it is done.
 ghost use Rattle.std.specs.Prelude.{◌≡◌, ◌<◌};
 ghost use Rattle.std.specs.Thread.{IsSync};
-ghost use Rattle.aio_model.specs.InFlight.{Announced as announced};
+ghost use Rattle.aio_model.specs.Loop.InFlight.{Announced as announced};
 ghost use Rattle.aio_core.specs.Calls.{IsSeatOf};
 ghost use Rattle.aio_core.specs.Known.{empty_stage};
 ghost use Rattle.aio_bh.specs.Ready.{IsReady};

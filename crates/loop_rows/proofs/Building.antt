@@ -1,7 +1,7 @@
 -- Loops as they are built, one after another.
 use Rattle.std.proofs.Common.{◌≡◌, ℕ, ◌<◌, ◌+◌, List, [], ◌∷◌, ◌++◌, length, slice_index_or, subst, sym, ap, ◌∙◌, arith}
 use Rattle.std.proofs.lemmas.List.{get_or_at, get_or_append_left}
-use Rattle.aio_model.specs.LoopHistory.{Sizes}
+use Rattle.aio_model.specs.Loop.History.{Sizes}
 use Rattle.lot_pool.specs.Pools.{PassState}
 use Rattle.aio_core.specs.Known.{Known, is_running}
 use Rattle.co_schedule.specs.Known.{Known as CoKnown}

@@ -1,6 +1,6 @@
 -- A post through the seats of a loop.
 use Rattle.std.specs.Prelude.{◌≡◌, ◌≢◌, ℕ, Bool, Option, List, slice_index_or}
-use Rattle.aio_model.specs.declared.causes.Cause.{Cause}
+use Rattle.aio_model.specs.declared.coroutines.causes.Cause.{Cause}
 use Rattle.aio_bh.specs.Ready.{IsReady}
 use Rattle.co_schedule.specs.Words.{mark_at}
 use Rattle.co_schedule.specs.Known.{MarkCompare}

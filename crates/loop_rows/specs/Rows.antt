@@ -3,7 +3,7 @@ use Rattle.std.specs.Prelude.{◌≡◌, ℕ, ◌<◌, ◌≤◌, ◌+◌, List,
 use Rattle.aio_core.specs.Splitting.{front_known, back_known}
 use Rattle.aio_core.specs.Joining.{joined_known, told_of, IsJoined}
 use Rattle.aio_bh.specs.Ready.{IsReady}
-use Rattle.aio_model.specs.CoroutineHistory.{seat_of, IsLegal}
+use Rattle.aio_model.specs.Coroutines.History.{seat_of, IsLegal}
 use Rattle.table_seats.specs.Calls.{IsJoined as IsCoJoined}
 use Rattle.co_schedule.specs.Seating.{front_known as front_co, back_known as back_co, joined_known as joined_co, told_by}
 use Rattle.co_schedule.specs.Calls.{IsSeatOf as IsCoSeatOf}

@@ -1,7 +1,7 @@
 -- Steps on one loop by a row.
 use Rattle.std.specs.Prelude.{◌≡◌, ◌≢◌, ℕ, List, slice_index_or}
-use Rattle.aio_model.specs.declared.flags.Flags.{Flags}
-use Rattle.aio_model.specs.LoopHistory.{ToCall}
+use Rattle.aio_model.specs.declared.loops.flags.Flags.{Flags}
+use Rattle.aio_model.specs.Loop.History.{ToCall}
 use Rattle.aio_bh.specs.Enqueuing.{Schedules}
 use Rattle.aio_notify.specs.Setting.{SetsAndNotifies}
 use Rattle.loop_rows.specs.declared.seats.Seats.{Seats}

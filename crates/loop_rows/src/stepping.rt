@@ -1,6 +1,6 @@
 //! What a thread does on any loop by its row.
 ghost use Rattle.std.specs.Prelude.{◌≡◌, ◌<◌, length};
-ghost use Rattle.aio_model.specs.LoopHistory.{ToCall};
+ghost use Rattle.aio_model.specs.Loop.History.{ToCall};
 ghost use Rattle.aio_bh.specs.Enqueuing.{Schedules};
 ghost use Rattle.aio_notify.specs.Setting.{SetsAndNotifies};
 ghost use Rattle.loop_rows.specs.Rows.{AreSeatsOf, IsRow, HasNumbers};

@@ -5,8 +5,8 @@ use Rattle.std.proofs.lemmas.List.{nil_from_length, append_assoc}
 use Rattle.table_seats.specs.Seats.{Numbers, owns, own_entries}
 use Rattle.table_seats.proofs.Entries.{own-append}
 use Rattle.table_seats.proofs.Splitting.{own_fewer}
-use Rattle.aio_model.specs.LoopLists.{seat_of}
-use Rattle.aio_model.specs.CoroutineHistory.{seat_of as co_seat_of}
+use Rattle.aio_model.specs.Loop.Lists.{seat_of}
+use Rattle.aio_model.specs.Coroutines.History.{seat_of as co_seat_of}
 use Rattle.aio_core.specs.Known.{Known, numbers_of}
 use Rattle.co_schedule.specs.Known.{Known as CoKnown, numbers_of as co_numbers_of}
 use Rattle.loop_rows.specs.declared.shared.LoopShared.{LoopShared}

@@ -1,9 +1,9 @@
 -- What stands within the seat of all other numbers stands in the whole histories of its loop.
 use Rattle.std.proofs.Common.{◌≡◌, ℕ, ◌+◌, ◌≤◌, ◌++◌, sym, ap, ◌∙◌, subst, arith}
 use Rattle.table_seats.specs.Seats.{IsPart, own_entries}
-use Rattle.aio_model.specs.LoopHistory.{History}
-use Rattle.aio_model.specs.LoopLists.{seat_of}
-use Rattle.aio_model.specs.CoroutineHistory.{seat_of as co_seat_of}
+use Rattle.aio_model.specs.Loop.History.{History}
+use Rattle.aio_model.specs.Loop.Lists.{seat_of}
+use Rattle.aio_model.specs.Coroutines.History.{seat_of as co_seat_of}
 use Rattle.aio_core.specs.Known.{Known, numbers_of}
 use Rattle.aio_notify.specs.Settling.{EndsQuiet}
 use Rattle.co_schedule.specs.Known.{Known as CoKnown, numbers_of as co_numbers_of}

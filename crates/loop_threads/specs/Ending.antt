@@ -1,6 +1,6 @@
 -- The end of a loop.
 use Rattle.std.specs.Prelude.{◌≡◌, ℕ, ◌+◌, ◌<◌, ◌≤◌, None, true, Option, List, [], ◌∷◌, ◌++◌, slice_index_or, vec_len}
-use Rattle.aio_model.specs.declared.commits.Commit.TheVariants.{Sleep}
+use Rattle.aio_model.specs.declared.loops.commits.Commit.TheVariants.{Sleep}
 use Rattle.aio_core.specs.Scans.{SameButSleep}
 use Rattle.aio_core.specs.Calls.{TableState, SeatState, IsSeatOf}
 use Rattle.aio_notify.specs.Commits.{Commits}

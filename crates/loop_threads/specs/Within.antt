@@ -1,10 +1,10 @@
 -- What a seat that was joined into another has made, in what the other has seen.
 use Rattle.std.specs.Prelude.{◌≡◌, ℕ, ◌<◌, ◌≤◌, List, slice_index_or}
 use Rattle.table_seats.specs.Seats.{IsPart, own_entries}
-use Rattle.aio_model.specs.LoopHistory.{History}
-use Rattle.aio_model.specs.LoopLists.{seat_of}
+use Rattle.aio_model.specs.Loop.History.{History}
+use Rattle.aio_model.specs.Loop.Lists.{seat_of}
 use Rattle.aio_core.specs.Known.{numbers_of}
-use Rattle.aio_model.specs.CoroutineHistory.{History as CoHistory, seat_of as co_seat_of}
+use Rattle.aio_model.specs.Coroutines.History.{History as CoHistory, seat_of as co_seat_of}
 use Rattle.co_schedule.specs.Known.{numbers_of as co_numbers_of}
 use Rattle.loop_rows.specs.declared.seats.Seats.{Seats}
 use Rattle.loop_threads.specs.declared.parts.Part.{Part}

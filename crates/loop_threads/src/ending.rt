@@ -1,6 +1,6 @@
 //! The end of each loop, once all threads are joined: its home sleeps, takes in all numbers, and finds nothing left.
 ghost use Rattle.std.specs.Prelude.{◌≡◌, ◌≤◌, true, vec_len, vec_capacity, MatchOption};
-ghost use Rattle.aio_model.specs.InFlight.{AtRest};
+ghost use Rattle.aio_model.specs.Loop.InFlight.{AtRest};
 ghost use Rattle.aio_notify.specs.Commits.{Commits};
 ghost use Rattle.aio_notify.specs.Settling.{is_committed, EndsQuiet};
 ghost use Rattle.aio_core.specs.Calls.{IsSeatOf};

@@ -1,5 +1,5 @@
 -- The phase of a seat that is to do this next, where its flight is that of the phase which it has.
-use Rattle.aio_model.specs.InFlight.{Phase, AtRest, Announced, Linked, ToStore, ToLoad, ToSet, flight_of}
+use Rattle.aio_model.specs.Loop.InFlight.{Phase, AtRest, Announced, Linked, ToStore, ToLoad, ToSet, flight_of}
 use Rattle.order_tests.specs.declared.debt.Debt.{Debt}
 use Rattle.order_tests.specs.declared.debt.Debt.TheVariants.{Announce, Aim, Link, StoreNotified, LoadNotifyMe, SetNotifier, Nothing}
 

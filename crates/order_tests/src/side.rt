@@ -1,5 +1,5 @@
 ghost use Rattle.std.specs.Prelude.{◌≡◌, ◌<◌};
-ghost use Rattle.aio_model.specs.InFlight.{AtRest, Linked, ToLoad, flight_of};
+ghost use Rattle.aio_model.specs.Loop.InFlight.{AtRest, Linked, ToLoad, flight_of};
 ghost use Rattle.aio_core.specs.Calls.{IsSeatOf};
 ghost use Rattle.order_tests.specs.Phases.{phase_at};
 

@@ -1,9 +1,9 @@
 -- A reply is found by its name among the served ones, where its stream's replies stand in their order.
 use Rattle.std.proofs.Common.{◌≡◌, ℕ, zero, suc, ◌+◌, ◌<◌, ◌==◌, ◌&&◌, true, List, [], ◌∷◌, length, map, get_or, Some, inl, inr, sym, ◌∙◌, ap, subst, arith}
 use Rattle.std.proofs.lemmas.Bool.{cases_Bool, eq-eqb, ne_eqb, and_left, and_right, and_from, cond-true, cond-false}
-use Rattle.aio_model.specs.declared.replies.Placed.{Placed}
-use Rattle.aio_model.specs.SerialHistory.{CountsFrom, indices_of}
-use Rattle.aio_model.specs.PrintedText.{Standing, standing_from}
+use Rattle.aio_model.specs.declared.serving.replies.Placed.{Placed}
+use Rattle.aio_model.specs.Serving.SerialHistory.{CountsFrom, indices_of}
+use Rattle.aio_model.specs.Scripts.PrintedText.{Standing, standing_from}
 use Rattle.reply_printing.specs.Standings.{standings_of}
 
 module _ (stream : ℕ) (d : Standing) where

@@ -3,8 +3,8 @@ use Rattle.std.proofs.Common.{◌≡◌, ℕ, ◌+◌, ◌<◌, ◌≤◌, ◌�
 use Rattle.std.proofs.Math.Seq.{drop-length}
 use Rattle.std.proofs.lemmas.Bool.{cases_Bool, eqb-true, eqb-false, cond-true, cond-false}
 use Rattle.std.proofs.lemmas.List.{drop_more, get_or_default}
-use Rattle.aio_model.specs.declared.replies.Placed.{Placed}
-use Rattle.aio_model.specs.PrintedText.{Standing}
+use Rattle.aio_model.specs.declared.serving.replies.Placed.{Placed}
+use Rattle.aio_model.specs.Scripts.PrintedText.{Standing}
 use Rattle.reply_printing.specs.Standings.{standings_of, StandsAmong, LeadThrough, LeadThroughAll}
 
 -- all stand at this place or behind it

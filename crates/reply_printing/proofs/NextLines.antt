@@ -6,14 +6,14 @@ use Rattle.std.proofs.lemmas.List.{append-nil, take_more, drop_more, take-append
 use Rattle.std.proofs.lemmas.List.Sums.{sum_by-append}
 use Rattle.std.proofs.lemmas.List.Elements.{All-from_recursion}
 use Rattle.std.proofs.lemmas.Grind.{flat_map-append}
-use Rattle.aio_model.specs.declared.requests.Request.{Request}
-use Rattle.aio_model.specs.declared.replies.Placed.{Placed}
-use Rattle.aio_model.specs.declared.replies.Reply.TheVariants.{Flushed}
-use Rattle.aio_model.specs.declared.scripts.Step.{Step}
-use Rattle.aio_model.specs.declared.scripts.What.{What}
-use Rattle.aio_model.specs.declared.scripts.What.TheVariants.{Ask, Delay, Move}
-use Rattle.aio_model.specs.Asked.{Asked, is_ask, requests_of, asked_by, asked}
-use Rattle.aio_model.specs.PrintedText.{Standing, line_of, line_for, line_standing, standing_from}
+use Rattle.aio_model.specs.declared.serving.requests.Request.{Request}
+use Rattle.aio_model.specs.declared.serving.replies.Placed.{Placed}
+use Rattle.aio_model.specs.declared.serving.replies.Reply.TheVariants.{Flushed}
+use Rattle.aio_model.specs.declared.scripts.image_scripts.Step.{Step}
+use Rattle.aio_model.specs.declared.scripts.image_scripts.What.{What}
+use Rattle.aio_model.specs.declared.scripts.image_scripts.What.TheVariants.{Ask, Delay, Move}
+use Rattle.aio_model.specs.Serving.Asked.{Asked, is_ask, requests_of, asked_by, asked}
+use Rattle.aio_model.specs.Scripts.PrintedText.{Standing, line_of, line_for, line_standing, standing_from}
 use Rattle.aio_model.proofs.InOrder.{asked_at, asked_rest, asked-more, asked-split}
 use Rattle.aio_model.proofs.Names.{requests_of-push}
 use Rattle.reply_printing.specs.Standings.{AreInOrder, HaveStreamsBelow, LeadThrough, standings_of}

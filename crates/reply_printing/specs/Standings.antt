@@ -1,11 +1,11 @@
 -- The replies of each stream among the served ones, and the links that lead through them.
 use Rattle.std.specs.Prelude.{◌≡◌, ℕ, ◌+◌, ◌<◌, ◌==◌, List, [], ◌∷◌, length, map, get_or, slice_index, if◌then◌else◌, IsPermutation}
 use Rattle.std.specs.List.{AllByRecursion}
-use Rattle.aio_model.specs.declared.replies.Placed.{Placed}
-use Rattle.aio_model.specs.declared.scripts.Step.{Step}
-use Rattle.aio_model.specs.Asked.{asked}
-use Rattle.aio_model.specs.SerialHistory.{asked_name, placed_name, CountsFrom, indices_of}
-use Rattle.aio_model.specs.PrintedText.{Standing}
+use Rattle.aio_model.specs.declared.serving.replies.Placed.{Placed}
+use Rattle.aio_model.specs.declared.scripts.image_scripts.Step.{Step}
+use Rattle.aio_model.specs.Serving.Asked.{asked}
+use Rattle.aio_model.specs.Serving.SerialHistory.{asked_name, placed_name, CountsFrom, indices_of}
+use Rattle.aio_model.specs.Scripts.PrintedText.{Standing}
 
 -- each line is of a stream below this number
 abbrev pub HaveStreamsBelow : ℕ → List Step → Type 0

@@ -1,6 +1,6 @@
 //! Arrays that lead through the places of each stream's replies, first to last.
 ghost use Rattle.std.specs.Prelude.{◌≡◌, ◌<◌, ◌≤◌, ◌^◌, length, set, slice_index};
-ghost use Rattle.aio_model.specs.declared.replies.Placed.{Placed};
+ghost use Rattle.aio_model.specs.declared.serving.replies.Placed.{Placed};
 ghost use Rattle.reply_printing.specs.Standings.{AreOfStreamsBelow, LeadThroughAll};
 
 use aio_model::Placed;

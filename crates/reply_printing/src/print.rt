@@ -1,8 +1,8 @@
 ghost use Rattle.std.specs.Prelude.{◌≡◌, ◌+◌, ◌<◌, ◌≤◌, ◌^◌, ℕ, [], length, map, IsPermutation};
 ghost use Rattle.std.specs.List.{flat_map};
-ghost use Rattle.aio_model.specs.Asked.{asked};
-ghost use Rattle.aio_model.specs.SerialHistory.{asked_name, placed_name, CountsFrom, indices_of, errors_of};
-ghost use Rattle.aio_model.specs.PrintedText.{line_for, line_of, end_line, printed_text};
+ghost use Rattle.aio_model.specs.Serving.Asked.{asked};
+ghost use Rattle.aio_model.specs.Serving.SerialHistory.{asked_name, placed_name, CountsFrom, indices_of, errors_of};
+ghost use Rattle.aio_model.specs.Scripts.PrintedText.{line_for, line_of, end_line, printed_text};
 ghost use Rattle.aio_script.specs.Printing.{PutsOnPage, Prints};
 ghost use Rattle.reply_printing.specs.Standings.{AreInOrder, HaveStreamsBelow, LeadThroughAll};
 

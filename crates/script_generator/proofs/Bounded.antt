@@ -5,11 +5,11 @@ use Rattle.std.proofs.Math.Nat.{mod-lt}
 use Rattle.std.proofs.lemmas.List.{length-append}
 use Rattle.std.proofs.lemmas.List.Sums.{sum_by-append}
 use Rattle.aio_model.specs.declared.memory.NoMemory.{NoMemory}
-use Rattle.aio_model.specs.declared.requests.Request.TheVariants.{Read, Write, Zero, Flush}
-use Rattle.aio_model.specs.declared.scripts.Script.{Script}
-use Rattle.aio_model.specs.declared.scripts.Step.{Step}
-use Rattle.aio_model.specs.declared.scripts.What.TheVariants.{Ask, Move}
-use Rattle.aio_model.specs.Asked.{is_ask}
+use Rattle.aio_model.specs.declared.serving.requests.Request.TheVariants.{Read, Write, Zero, Flush}
+use Rattle.aio_model.specs.declared.scripts.image_scripts.Script.{Script}
+use Rattle.aio_model.specs.declared.scripts.image_scripts.Step.{Step}
+use Rattle.aio_model.specs.declared.scripts.image_scripts.What.TheVariants.{Ask, Move}
+use Rattle.aio_model.specs.Serving.Asked.{is_ask}
 use Rattle.aio_model.specs.Serving.{length_of}
 use Rattle.aio_script.specs.Bounds.{AreApart, IsAtHome, IsBounded, IsWithin}
 use Rattle.aio_script.specs.Grammar.{bytes_moved, has_stream}

@@ -1,12 +1,12 @@
 -- The generated script. It has four loops and eight streams. Its requests go to the streams in turn, and their places
 -- are made of numbers that each follow from the one before.
 use Rattle.std.specs.Prelude.{ℕ, ◌+◌, ◌*◌, ◌/◌, ◌%◌, ◌==◌, zero, suc, nat_lt, List, [], ◌∷◌, ◌++◌, if◌then◌else◌}
-use Rattle.aio_model.specs.declared.requests.Request.{Request}
-use Rattle.aio_model.specs.declared.requests.Request.TheVariants.{Read, Write, Zero, Flush}
-use Rattle.aio_model.specs.declared.scripts.Stream.{Stream}
-use Rattle.aio_model.specs.declared.scripts.Step.{Step}
-use Rattle.aio_model.specs.declared.scripts.What.TheVariants.{Ask, Move}
-use Rattle.aio_model.specs.declared.scripts.Script.{Script}
+use Rattle.aio_model.specs.declared.serving.requests.Request.{Request}
+use Rattle.aio_model.specs.declared.serving.requests.Request.TheVariants.{Read, Write, Zero, Flush}
+use Rattle.aio_model.specs.declared.scripts.image_scripts.Stream.{Stream}
+use Rattle.aio_model.specs.declared.scripts.image_scripts.Step.{Step}
+use Rattle.aio_model.specs.declared.scripts.image_scripts.What.TheVariants.{Ask, Move}
+use Rattle.aio_model.specs.declared.scripts.image_scripts.Script.{Script}
 
 -- the number that follows this one
 abbrev pub drawn_after : ℕ → ℕ

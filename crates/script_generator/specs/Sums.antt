@@ -1,10 +1,10 @@
 -- What a run of the generated script comes to, and the four lines that tell it.
 use Rattle.std.specs.Prelude.{ℕ, ◌-◌, ◌^◌, min, List, ◌++◌, codes, decimal, length, map, sum}
-use Rattle.aio_model.specs.declared.replies.Reply.{Reply}
-use Rattle.aio_model.specs.declared.replies.Reply.TheVariants.{Put, Got, Zeroed}
-use Rattle.aio_model.specs.declared.replies.Placed.{Placed}
-use Rattle.aio_model.specs.PrintedText.{end_line}
-use Rattle.aio_model.specs.SerialHistory.{errors_of}
+use Rattle.aio_model.specs.declared.serving.replies.Reply.{Reply}
+use Rattle.aio_model.specs.declared.serving.replies.Reply.TheVariants.{Put, Got, Zeroed}
+use Rattle.aio_model.specs.declared.serving.replies.Placed.{Placed}
+use Rattle.aio_model.specs.Scripts.PrintedText.{end_line}
+use Rattle.aio_model.specs.Serving.SerialHistory.{errors_of}
 use Rattle.script_generator.specs.declared.sums.Sums.{Sums}
 
 -- how many bytes a reply tells as written, as found by a read, and as made zero

@@ -1,6 +1,6 @@
 //! The four lines of a run of the generated script.
 ghost use Rattle.std.specs.Prelude.{◌≡◌, ◌++◌, ◌≤◌, OnOk, OnErr};
-ghost use Rattle.aio_model.specs.PrintedText.{end_line};
+ghost use Rattle.aio_model.specs.Scripts.PrintedText.{end_line};
 ghost use Rattle.aio_words.specs.Content.{with_piece, AppendsFront};
 ghost use Rattle.aio_words.specs.Faults.{HasRisen};
 ghost use Rattle.aio_script.specs.Printing.{Prints};

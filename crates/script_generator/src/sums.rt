@@ -1,6 +1,6 @@
 //! What a run of the generated script comes to.
 ghost use Rattle.std.specs.Prelude.{◌≡◌, ◌<◌, ◌^◌, length};
-ghost use Rattle.aio_model.specs.SerialHistory.{errors_of};
+ghost use Rattle.aio_model.specs.Serving.SerialHistory.{errors_of};
 ghost use Rattle.script_generator.specs.Sums.{got_by, got_in, held, sums_of, written_by, written_in, zeroed_by, zeroed_in};
 
 use aio_model::{Placed, Reply};

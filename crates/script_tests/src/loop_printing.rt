@@ -1,6 +1,6 @@
 //! Lines of replies of the loop.
 ghost use Rattle.std.specs.Prelude.{◌≡◌, length};
-ghost use Rattle.aio_model.specs.LoopLines.{HasLine};
+ghost use Rattle.aio_model.specs.Scripts.LoopLines.{HasLine};
 
 use aio_model::{Commit, Flags, Why};
 use aio_script::{Called, Command, LoopReply, Page, RanList, WriteFault, hand_over, print_reply};

@@ -4,11 +4,11 @@ use Rattle.std.specs.List.{slice_get}
 use Rattle.std.proofs.lemmas.Bool.{true≢false, cases_Bool, eqb-true, cond-true, cond-false}
 use Rattle.std.proofs.lemmas.List.{take_all}
 use Rattle.std.proofs.lemmas.Option.{slice_get-get_or}
-use Rattle.aio_model.specs.declared.requests.Request.{Request}
-use Rattle.aio_model.specs.declared.replies.Placed.{Placed}
-use Rattle.aio_model.specs.declared.scripts.Step.{Step}
-use Rattle.aio_model.specs.declared.scripts.What.TheVariants.{Ask}
-use Rattle.aio_model.specs.Asked.{asked, is_ask, request_named, requests_of}
+use Rattle.aio_model.specs.declared.serving.requests.Request.{Request}
+use Rattle.aio_model.specs.declared.serving.replies.Placed.{Placed}
+use Rattle.aio_model.specs.declared.scripts.image_scripts.Step.{Step}
+use Rattle.aio_model.specs.declared.scripts.image_scripts.What.TheVariants.{Ask}
+use Rattle.aio_model.specs.Serving.Asked.{asked, is_ask, request_named, requests_of}
 use Rattle.served_check.specs.declared.cursors.Cursor.{Cursor}
 use Rattle.served_check.specs.declared.cursors.Cursors.{Cursors}
 use Rattle.served_check.specs.Cursors.{cursor_at, done_at, one_more, is_of, IsNextAt, CursorStands, AreAt, AreLinked, IsAsked}

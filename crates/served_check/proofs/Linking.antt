@@ -4,8 +4,8 @@ use Rattle.std.specs.List.{slice_get}
 use Rattle.std.proofs.lemmas.Bool.{true≢false, cases_Bool, cases_eq, eqb-true, and_from, and_left, and_right, and_parts, cond-true, cond-false}
 use Rattle.std.proofs.lemmas.List.{length-set}
 use Rattle.std.proofs.lemmas.Option.{slice_get-get_or}
-use Rattle.aio_model.specs.declared.scripts.Step.{Step}
-use Rattle.aio_model.specs.Asked.{is_ask, requests_of}
+use Rattle.aio_model.specs.declared.scripts.image_scripts.Step.{Step}
+use Rattle.aio_model.specs.Serving.Asked.{is_ask, requests_of}
 use Rattle.served_check.specs.declared.cursors.Cursor.{Cursor}
 use Rattle.served_check.specs.declared.cursors.Cursors.{Cursors}
 use Rattle.served_check.specs.Cursors.{cursor_at, done_at, is_of, IsNextAt, AreLinked, AreAt, Notes}

@@ -2,10 +2,10 @@
 use Rattle.std.proofs.Common.{◌≡◌, ℕ, ◌+◌, ◌==◌, true, false, List, ◌∷◌, map, Some, inl, inr, refl, sym, ◌∙◌, ap, subst}
 use Rattle.std.proofs.lemmas.Bool.{cases_Bool, eqb-true, eq-eqb, cond-true, cond-false}
 use Rattle.std.proofs.lemmas.Option.{same_Some}
-use Rattle.aio_model.specs.declared.replies.Placed.{Placed}
-use Rattle.aio_model.specs.Asked.{Asked}
+use Rattle.aio_model.specs.declared.serving.replies.Placed.{Placed}
+use Rattle.aio_model.specs.Serving.Asked.{Asked}
 use Rattle.aio_model.specs.Serving.{bytes_after}
-use Rattle.aio_model.specs.SerialHistory.{CountsFrom, FitAlong, indices_of}
+use Rattle.aio_model.specs.Serving.SerialHistory.{CountsFrom, FitAlong, indices_of}
 use Rattle.served_check.specs.Cursors.{one_more}
 use Rattle.served_check.specs.Judging.{RepliesGoOn, IsNext, Advances}
 

@@ -2,11 +2,11 @@
 use Rattle.std.proofs.Common.{◌≡◌, ◌↔◌, ℕ, ◌+◌, ◌<◌, false, IsTrue, List, [], ◌∷◌, ◌++◌, length, take, drop, get_or, refl, sym, ◌∙◌, ap, subst}
 use Rattle.std.proofs.lemmas.Bool.{false≢true}
 use Rattle.std.proofs.lemmas.List.{take_more, drop_more}
-use Rattle.aio_model.specs.declared.replies.Placed.{Placed}
-use Rattle.aio_model.specs.declared.scripts.Step.{Step}
-use Rattle.aio_model.specs.Asked.{asked}
+use Rattle.aio_model.specs.declared.serving.replies.Placed.{Placed}
+use Rattle.aio_model.specs.declared.scripts.image_scripts.Step.{Step}
+use Rattle.aio_model.specs.Serving.Asked.{asked}
 use Rattle.aio_model.specs.Serving.{bytes_after}
-use Rattle.aio_model.specs.SerialHistory.{bytes_left, CountsFrom, indices_of}
+use Rattle.aio_model.specs.Serving.SerialHistory.{bytes_left, CountsFrom, indices_of}
 use Rattle.aio_model.proofs.Along.{bytes_left-push}
 use Rattle.served_check.specs.declared.cursors.Cursors.{Cursors}
 use Rattle.served_check.specs.Cursors.{done_at, none_done, AreAt}

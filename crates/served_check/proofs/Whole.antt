@@ -3,11 +3,11 @@ use Rattle.std.proofs.Common.{◌≡◌, ℕ, ◌+◌, ◌<◌, ◌≤◌, ◌==
 use Rattle.std.proofs.lemmas.Bool.{cases_Bool, eqb-true, eq-eqb, and_parts, cond-true, cond-false}
 use Rattle.std.proofs.lemmas.List.{length-map}
 use Rattle.std.proofs.lemmas.List.Sorted.{IsPermutation-refl, IsPermutation-cons, IsPermutation-trans, IsPermutation-middle, length_permutation}
-use Rattle.aio_model.specs.declared.requests.Request.{Request}
-use Rattle.aio_model.specs.declared.replies.Placed.{Placed}
-use Rattle.aio_model.specs.Asked.{Asked, request_named}
+use Rattle.aio_model.specs.declared.serving.requests.Request.{Request}
+use Rattle.aio_model.specs.declared.serving.replies.Placed.{Placed}
+use Rattle.aio_model.specs.Serving.Asked.{Asked, request_named}
 use Rattle.aio_model.specs.Serving.{bytes_after}
-use Rattle.aio_model.specs.SerialHistory.{asked_name, placed_name, CountsFrom, FitAlong, indices_of, IsSerialHistory}
+use Rattle.aio_model.specs.Serving.SerialHistory.{asked_name, placed_name, CountsFrom, FitAlong, indices_of, IsSerialHistory}
 use Rattle.served_check.specs.Cursors.{none_done, one_more}
 use Rattle.served_check.specs.Judging.{RepliesGoOn}
 use Rattle.served_check.proofs.RepliesGoOn.{counts_on, counts_first}

@@ -1,10 +1,10 @@
 -- A serial history, from any of its places on.
 use Rattle.std.specs.Prelude.{◌≡◌, ℕ, List, Some}
-use Rattle.aio_model.specs.declared.requests.Request.{Request}
-use Rattle.aio_model.specs.declared.replies.Placed.{Placed}
-use Rattle.aio_model.specs.Asked.{Asked, request_named}
+use Rattle.aio_model.specs.declared.serving.requests.Request.{Request}
+use Rattle.aio_model.specs.declared.serving.replies.Placed.{Placed}
+use Rattle.aio_model.specs.Serving.Asked.{Asked, request_named}
 use Rattle.aio_model.specs.Serving.{Fits, bytes_after}
-use Rattle.aio_model.specs.SerialHistory.{CountsFrom, FitAlong, indices_of}
+use Rattle.aio_model.specs.Serving.SerialHistory.{CountsFrom, FitAlong, indices_of}
 use Rattle.served_check.specs.Cursors.{one_more}
 
 -- The replies go on from here: each stream's indices count from the number of its requests that were served, and each

@@ -1,7 +1,7 @@
 //! Which request of a script each stream is to have next.
 ghost use Rattle.std.specs.Prelude.{◌≡◌, ◌+◌, ◌<◌, ◌==◌, ◌&&◌, ℕ, false, length, set, Some, IfOk, MatchOption, if◌then◌else◌};
-ghost use Rattle.aio_model.specs.Asked.{asked, is_ask, request_named};
-ghost use Rattle.aio_model.specs.declared.scripts.What.TheVariants.{Ask};
+ghost use Rattle.aio_model.specs.Serving.Asked.{asked, is_ask, request_named};
+ghost use Rattle.aio_model.specs.declared.scripts.image_scripts.What.TheVariants.{Ask};
 ghost use Rattle.served_check.specs.Cursors.{cursor_at, done_at, AreAt, IsAsked, CursorStands, Notes};
 
 use aio_model::{NoMemory, Placed, Request, Step, What};

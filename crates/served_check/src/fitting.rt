@@ -1,7 +1,7 @@
 //! Whether a reply is one that a request may get on these bytes.
 ghost use Rattle.std.specs.Prelude.{◌≡◌, ◌↔◌, ◌+◌, ◌%◌, ◌<◌, ◌≤◌, IsTrue, Some, length, take, drop};
 ghost use Rattle.aio_model.specs.Serving.{end_of, length_of, place_of, FindsBytes, Fits, IsCutShort, IsGood};
-ghost use Rattle.aio_model.specs.declared.replies.Reply.TheVariants.{Flushed, Got, Put, Zeroed};
+ghost use Rattle.aio_model.specs.declared.serving.replies.Reply.TheVariants.{Flushed, Got, Put, Zeroed};
 
 use aio_model::{Reply, Request};
 

@@ -1,7 +1,7 @@
 //! Serving a script once more, as a list of replies says that it was.
 ghost use Rattle.std.specs.Prelude.{◌≡◌, ◌↔◌, ◌≤◌, IsTrue, Some, length, IfOk, MatchBool, MatchOption, count_by};
-ghost use Rattle.aio_model.specs.Asked.{asked, is_ask};
-ghost use Rattle.aio_model.specs.SerialHistory.{bytes_left, IsSerialHistory};
+ghost use Rattle.aio_model.specs.Serving.Asked.{asked, is_ask};
+ghost use Rattle.aio_model.specs.Serving.SerialHistory.{bytes_left, IsSerialHistory};
 ghost use Rattle.served_check.specs.Cursors.{done_at, none_done, AreAt};
 ghost use Rattle.served_check.specs.Judging.{Advances, RepliesGoOn, IsNext};
 

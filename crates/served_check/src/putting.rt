@@ -1,7 +1,7 @@
 //! What a served request does to the bytes.
 ghost use Rattle.std.specs.Prelude.{◌≡◌, ◌+◌, ◌≤◌, length, replicate};
 ghost use Rattle.aio_model.specs.Serving.{bytes_after, put_at, MayAnswer};
-ghost use Rattle.aio_model.specs.declared.requests.Request.TheVariants.{Write, Zero};
+ghost use Rattle.aio_model.specs.declared.serving.requests.Request.TheVariants.{Write, Zero};
 
 use aio_model::{Bytes, Reply, Request};
 

@@ -11,7 +11,7 @@ use Rattle.img_join.proofs.Accounts.{length_from}
 use Rattle.shared_tests.specs.declared.player.Player.{Player}
 use Rattle.shared_tests.specs.declared.turn.Turn.{Turn}
 use Rattle.shared_tests.specs.declared.turn.Turn.TheVariants.{Rest}
-use Rattle.aio_model.specs.declared.requests.Request.{Request}
+use Rattle.aio_model.specs.declared.serving.requests.Request.{Request}
 use Rattle.shared_tests.specs.Sits.{Sits, TurnedTo}
 use Rattle.shared_tests.specs.Tables.{SitsAt, AllSit, AreFresh}
 

@@ -1,7 +1,7 @@
 -- A stream's player goes on as its request is entered.
 use Rattle.std.proofs.Common.{ℕ, ◌<◌, sym, subst, refl, arith, get_or-set_same}
 use Rattle.std.proofs.lemmas.List.{length-set}
-use Rattle.aio_model.specs.declared.requests.Request.{Request}
+use Rattle.aio_model.specs.declared.serving.requests.Request.{Request}
 use Rattle.img_requests.specs.Presents.{begun_of}
 use Rattle.img_requests.specs.declared.answers.Enter.TheVariants as entered
 use Rattle.img_shared.specs.declared.phases.Phase.{Phase}

@@ -1,10 +1,10 @@
 -- A stream can start, and the passes and the memory are dealt one by one.
 use Rattle.std.proofs.Common.{◌≡◌, ℕ, zero, suc, ◌+◌, ◌<◌, max, Option, List, [], ◌∷◌, ◌++◌, length, replicate, get_or, slice_index, refl, sym, ap, ◌∙◌, subst, arith}
 use Rattle.std.proofs.lemmas.List.{length-map, length_push}
-use Rattle.aio_model.specs.declared.scripts.Script.{Script}
-use Rattle.aio_model.specs.declared.scripts.Stream.{Stream as StreamLine}
-use Rattle.aio_model.specs.Asked.{requests_of}
-use Rattle.aio_model.specs.Readers.{Readers}
+use Rattle.aio_model.specs.declared.scripts.image_scripts.Script.{Script}
+use Rattle.aio_model.specs.declared.scripts.image_scripts.Stream.{Stream as StreamLine}
+use Rattle.aio_model.specs.Serving.Asked.{requests_of}
+use Rattle.aio_model.specs.Holds.Readers.{Readers}
 use Rattle.aio_script.specs.Bounds.{IsBounded}
 use Rattle.co_mutex.specs.declared.lock.CoMutex.{CoMutex}
 use Rattle.co_mutex.specs.declared.lock.Pass.{Pass}

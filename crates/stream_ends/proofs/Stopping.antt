@@ -4,11 +4,11 @@ use Rattle.std.proofs.lemmas.Bool.{cases_lt}
 use Rattle.std.proofs.lemmas.List.{length-map}
 use lib.ListN.{get_elem?}
 use mathlib.Core.Option.{some}
-use Rattle.aio_model.specs.declared.replies.Placed.{Placed}
-use Rattle.aio_model.specs.declared.scripts.Script.{Script}
-use Rattle.aio_model.specs.declared.scripts.Step.{Step}
-use Rattle.aio_model.specs.Asked.{asked, requests_of}
-use Rattle.aio_model.specs.SerialHistory.{IsSerialHistory, bytes_left}
+use Rattle.aio_model.specs.declared.serving.replies.Placed.{Placed}
+use Rattle.aio_model.specs.declared.scripts.image_scripts.Script.{Script}
+use Rattle.aio_model.specs.declared.scripts.image_scripts.Step.{Step}
+use Rattle.aio_model.specs.Serving.Asked.{asked, requests_of}
+use Rattle.aio_model.specs.Serving.SerialHistory.{IsSerialHistory, bytes_left}
 use Rattle.aio_model.proofs.Along.{bytes_left-keeps}
 use Rattle.aio_script.specs.Bounds.{IsBounded}
 use Rattle.aio_words.specs.declared.called.DeviceCall.{DeviceCall}

@@ -1,10 +1,10 @@
 -- The image of a script, and the lock that it lies behind.
 use Rattle.std.specs.Prelude.{◌≡◌, ℕ, max, List, [], length, map, replicate}
-use Rattle.aio_model.specs.declared.scripts.Script.{Script}
-use Rattle.aio_model.specs.declared.scripts.Step.{Step}
-use Rattle.aio_model.specs.declared.scripts.Stream.{Stream as StreamLine}
-use Rattle.aio_model.specs.Asked.{requests_of}
-use Rattle.aio_model.specs.Readers.{Readers}
+use Rattle.aio_model.specs.declared.scripts.image_scripts.Script.{Script}
+use Rattle.aio_model.specs.declared.scripts.image_scripts.Step.{Step}
+use Rattle.aio_model.specs.declared.scripts.image_scripts.Stream.{Stream as StreamLine}
+use Rattle.aio_model.specs.Serving.Asked.{requests_of}
+use Rattle.aio_model.specs.Holds.Readers.{Readers}
 use Rattle.co_mutex.specs.declared.lock.CoMutex.{CoMutex}
 use Rattle.co_mutex.specs.Passes.{built_of, passes_of}
 use Rattle.img_shared.specs.declared.phases.Phase.TheVariants.{Idle}

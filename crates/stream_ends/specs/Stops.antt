@@ -1,9 +1,9 @@
 -- Coroutines that have retired, and the replies of the whole script.
 use Rattle.std.specs.Prelude.{◌≡◌, ℕ, List, length, map, drop, Option, option_map}
-use Rattle.aio_model.specs.declared.replies.Placed.{Placed}
-use Rattle.aio_model.specs.declared.scripts.Script.{Script}
-use Rattle.aio_model.specs.Asked.{asked}
-use Rattle.aio_model.specs.SerialHistory.{IsSerialHistory, bytes_left}
+use Rattle.aio_model.specs.declared.serving.replies.Placed.{Placed}
+use Rattle.aio_model.specs.declared.scripts.image_scripts.Script.{Script}
+use Rattle.aio_model.specs.Serving.Asked.{asked}
+use Rattle.aio_model.specs.Serving.SerialHistory.{IsSerialHistory, bytes_left}
 use Rattle.co_mutex.specs.declared.lock.CoMutex.{CoMutex}
 use Rattle.img_shared.specs.Images.{ImageState}
 use Rattle.img_shared.specs.Notes.{Note}

@@ -1,7 +1,7 @@
 -- Lines that ask for few bytes.
 use Rattle.std.proofs.Common.{◌≡◌, ℕ, ◌+◌, ◌<◌, List, [], ◌∷◌, ◌++◌, length, get_or, take, sym, ap, ◌∙◌, subst}
 use Rattle.std.proofs.lemmas.List.{take_more}
-use Rattle.aio_model.specs.declared.scripts.Step.{Step}
+use Rattle.aio_model.specs.declared.scripts.image_scripts.Step.{Step}
 use Rattle.img_streams.specs.Lines.{IsShort, AreShort}
 
 short_push : (lines : List Step) (step : Step) → AreShort lines → IsShort step.what → AreShort (lines ++ step ∷ [])

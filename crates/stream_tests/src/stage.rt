@@ -1,6 +1,6 @@
 //! How a lock for one stream is set up.
 ghost use Rattle.std.specs.Prelude.{◌≡◌, ◌<◌, ◌≤◌, ◌^◌, ◌==◌, ◌&&◌, IsTrue, length, map, slice_index};
-ghost use Rattle.aio_model.specs.Asked.{requests_of, is_ask};
+ghost use Rattle.aio_model.specs.Serving.Asked.{requests_of, is_ask};
 ghost use Rattle.co_mutex.specs.Passes.{passes_of};
 ghost use Rattle.img_streams.specs.Lines.{AreShort, IsShort};
 ghost use Rattle.img_streams.specs.Rooms.{CanStart};

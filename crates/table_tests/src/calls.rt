@@ -1,5 +1,5 @@
 ghost use Rattle.std.specs.Prelude.{◌≡◌, ◌<◌, true, length, None};
-ghost use Rattle.aio_model.specs.InFlight.{AtRest};
+ghost use Rattle.aio_model.specs.Loop.InFlight.{AtRest};
 ghost use Rattle.aio_core.specs.Known.{Armed, is_running};
 ghost use Rattle.aio_core.specs.Standing.{may_notify};
 ghost use Rattle.aio_core.specs.SleepSteps.{watched_in};

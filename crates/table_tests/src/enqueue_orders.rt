@@ -1,6 +1,6 @@
 //! The table beside plain loops: two seats that enqueue and a home that polls, in each order of their steps, all on one thread.
 ghost use Rattle.std.specs.Prelude.{◌≡◌, ◌<◌, true, [], None, IfSome, MatchOption, MatchResult};
-ghost use Rattle.aio_model.specs.InFlight.{AtRest, Announced as announced, Linked};
+ghost use Rattle.aio_model.specs.Loop.InFlight.{AtRest, Announced as announced, Linked};
 ghost use Rattle.aio_core.specs.Standing.{may_notify};
 ghost use Rattle.aio_core.specs.Calls.{IsSeatOf};
 ghost use Rattle.std.proofs.Props.{props};

@@ -1,9 +1,9 @@
 //! A runner that responds to its first entries.
 ghost use Rattle.std.specs.Prelude.{◌≡◌, ◌<◌, List, []};
-ghost use Rattle.aio_model.specs.LoopHistory.{History};
-ghost use Rattle.aio_model.specs.LoopLegal.{IsLegal};
-ghost use Rattle.aio_model.specs.declared.handler_calls.HandlerCall.{HandlerCall};
-ghost use Rattle.aio_model.specs.declared.timer_calls.TimerCall.{TimerCall};
+ghost use Rattle.aio_model.specs.Loop.History.{History};
+ghost use Rattle.aio_model.specs.Loop.Legal.{IsLegal};
+ghost use Rattle.aio_model.specs.declared.handlers.calls.HandlerCall.{HandlerCall};
+ghost use Rattle.aio_model.specs.declared.timers.calls.TimerCall.{TimerCall};
 ghost use Rattle.aio_bh.specs.Ready.{IsReady};
 ghost use Rattle.aio_bh.specs.Running.{SeatComesBack};
 ghost use Rattle.aio_loop.specs.Entering.{EachPasses, is_callees_on_handlers, is_callees_on_timers, ChangesSide};

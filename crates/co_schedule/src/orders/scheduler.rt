@@ -1,6 +1,6 @@
 //! A seat that schedules a coroutine, by its next step. The coroutine sleeps elsewhere: no state goes with it.
 ghost use Rattle.std.specs.Prelude.{◌≡◌, ◌<◌, ◌+◌, None, Some, false, [], ◌∷◌};
-ghost use Rattle.aio_model.specs.declared.causes.Cause.TheVariants.{Wake};
+ghost use Rattle.aio_model.specs.declared.coroutines.causes.Cause.TheVariants.{Wake};
 ghost use Rattle.co_schedule.specs.Known.{AtRest, Marked, HeadLoaded, Linked};
 
 use crate::orders::wake::Sleeper;

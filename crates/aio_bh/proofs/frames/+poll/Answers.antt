@@ -1,6 +1,6 @@
 use Rattle.std.proofs.Common.{◌≡◌, ◌-◌, option_map, length, true, false, None, refl, sym, ap, ◌∙◌, subst, arith}
-use Rattle.aio_model.specs.LoopFlags.{are_due, is_lot}
-use Rattle.aio_model.specs.LoopFrame.{Nests, Frame, nests_above}
+use Rattle.aio_model.specs.Loop.Flags.{are_due, is_lot}
+use Rattle.aio_model.specs.Loop.Frame.{Nests, Frame, nests_above}
 use Rattle.aio_bh.specs.PollFrames.{far, GoesFurther, CallsBody, FreesLot, FollowsDequeue, BehindNest}
 use Rattle.aio_bh.proofs.Parts.{GoesFurther-then, GoesFurther-turn}
 use Rattle.aio_bh.proofs.Turning.{between-take, between-finished, finished_same_out, finishes_handle, GoesFurther-ends, GoesFurther-take}

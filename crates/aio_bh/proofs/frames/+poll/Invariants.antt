@@ -1,6 +1,6 @@
 use Rattle.std.proofs.Common.{◌+◌, ◌*◌, length}
-use Rattle.aio_model.specs.LoopFrame.{Frame, nests_above}
-use Rattle.aio_model.specs.LoopLists.{out_of}
+use Rattle.aio_model.specs.Loop.Frame.{Frame, nests_above}
+use Rattle.aio_model.specs.Loop.Lists.{out_of}
 use Rattle.lot_pool.specs.Pools.{IsHomeOf}
 use Rattle.aio_bh.specs.OneShots.{GivesFreed}
 use Rattle.aio_bh.specs.PollFrames.{far, GoesFurther, IsBetween, TakesAndSome}

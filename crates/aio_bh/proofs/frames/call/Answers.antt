@@ -1,6 +1,6 @@
 use Rattle.std.proofs.Common.{◌≡◌, option_map, true, sym, ap, ◌∙◌}
-use Rattle.aio_model.specs.LoopFlags.{are_due}
-use Rattle.aio_model.specs.LoopFrame.{Frame, nests_above}
+use Rattle.aio_model.specs.Loop.Flags.{are_due}
+use Rattle.aio_model.specs.Loop.Frame.{Frame, nests_above}
 use Rattle.aio_bh.specs.PollFrames.{far}
 use Rattle.aio_bh.proofs.Steps.{GoesFurther-called, GoesFurther-passed, GoesFurther-renamed}
 use Rattle.aio_bh.proofs.frames.call.Goals as goal

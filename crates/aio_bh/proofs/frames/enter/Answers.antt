@@ -1,5 +1,5 @@
 use Rattle.std.proofs.Common.{◌≡◌, option_map, sym, subst}
-use Rattle.aio_model.specs.LoopFrame.{Nests, EntersRunner, Frame, lent_of}
+use Rattle.aio_model.specs.Loop.Frame.{EntersRunner, Frame, lent_of}
 use Rattle.aio_bh.specs.Running.{answer_by}
 use Rattle.aio_bh.specs.PollFrames.{far, GoesFurther}
 use Rattle.aio_bh.proofs.Parts.{GoesFurther-enter}

@@ -1,5 +1,5 @@
 use Rattle.std.proofs.Common.{◌≡◌, ℕ, List}
-use Rattle.aio_model.specs.InFlight.{AtRest}
+use Rattle.aio_model.specs.Loop.InFlight.{AtRest}
 use Rattle.aio_core.specs.Calls.{IsSeatOf}
 use Rattle.lot_pool.specs.Pools.{IsPassOf}
 use Rattle.aio_bh.specs.OneShots.{FindsEachTaken}

@@ -1,5 +1,5 @@
 use Rattle.std.proofs.Common.{◌≡◌, ◌≤◌, ◌<◌, List, ℕ, subst}
-use Rattle.aio_model.specs.declared.scripts.Script.{Script}
+use Rattle.aio_model.specs.declared.scripts.image_scripts.Script.{Script}
 use Rattle.aio_words.specs.Content.{with_piece, AppendsFront}
 use Rattle.aio_cli.specs.Answers.{OnRun, OnTooLarge}
 use Rattle.aio_cli.proofs.Served.{runs_written, runs_cut}

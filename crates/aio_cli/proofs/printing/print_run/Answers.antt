@@ -1,7 +1,7 @@
 use Rattle.std.proofs.Common.{List, sym, subst}
-use Rattle.aio_model.specs.declared.scripts.Step.{Step}
-use Rattle.aio_model.specs.Asked.{asked}
-use Rattle.aio_model.specs.PrintedText.{printed_text}
+use Rattle.aio_model.specs.declared.scripts.image_scripts.Step.{Step}
+use Rattle.aio_model.specs.Serving.Asked.{asked}
+use Rattle.aio_model.specs.Scripts.PrintedText.{printed_text}
 use Rattle.aio_script.specs.Printing.{Prints}
 use Rattle.reply_printing.specs.Standings.{HaveStreamsBelow}
 use Rattle.reply_printing.proofs.ReadScripts.{IsBounded-streams}

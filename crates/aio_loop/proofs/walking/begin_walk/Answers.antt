@@ -1,5 +1,5 @@
 use Rattle.std.proofs.Common.{ap, ◌∙◌, sym, subst}
-use Rattle.aio_model.specs.LoopLegal.{IsLegal}
+use Rattle.aio_model.specs.Loop.Legal.{IsLegal}
 use Rattle.aio_core.specs.Known.{Known}
 use Rattle.aio_loop.proofs.Behind.{finds_running}
 use Rattle.aio_loop.proofs.walking.begin_walk.Goals as goal

@@ -1,5 +1,5 @@
 use Rattle.std.proofs.Common.{IsTrue}
-use Rattle.aio_model.specs.LoopLegal.{IsLegal}
+use Rattle.aio_model.specs.Loop.Legal.{IsLegal}
 use Rattle.aio_loop.specs.Homes.{IsHomeFree}
 use Rattle.aio_loop.specs.Walks.{loop_far}
 use Rattle.aio_loop.proofs.TurnParts.{ReadySoFar}

@@ -1,6 +1,6 @@
 use Rattle.std.proofs.Common.{◌≡◌, ◌<◌, false, sym, ap, ◌∙◌, subst}
-use Rattle.aio_model.specs.LoopHistory.{History}
-use Rattle.aio_model.specs.LoopLists.{is_set}
+use Rattle.aio_model.specs.Loop.History.{History}
+use Rattle.aio_model.specs.Loop.Lists.{is_set}
 use Rattle.aio_core.specs.Known.{Known}
 use Rattle.aio_notify.proofs.Ends.{none_next, events_further, same_further}
 use Rattle.aio_notify.proofs.settling.first_event.Goals as goal

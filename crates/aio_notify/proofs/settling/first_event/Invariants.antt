@@ -1,7 +1,7 @@
 use Rattle.aio_core.specs.Calls.{IsSeatOf}
 use Rattle.aio_notify.specs.Settling.{LooksAtEvents, SameButDone}
 use Rattle.aio_notify.proofs.Ends.{NoneSoFar}
-use Rattle.aio_model.specs.LoopLists.{is_set}
+use Rattle.aio_model.specs.Loop.Lists.{is_set}
 use Rattle.aio_notify.proofs.settling.first_event.Given as goal
 
 abbrev pub invariant-loop-event : goal.invariant-loop-event

@@ -1,6 +1,6 @@
 use Rattle.std.proofs.Common.{◌≡◌, ◌<◌, false, sym, ap, ◌∙◌, subst}
-use Rattle.aio_model.specs.LoopHistory.{History}
-use Rattle.aio_model.specs.LoopFlags.{is_pending}
+use Rattle.aio_model.specs.Loop.History.{History}
+use Rattle.aio_model.specs.Loop.Flags.{is_pending}
 use Rattle.aio_core.specs.Known.{Known}
 use Rattle.aio_notify.proofs.Ends.{none_next, flags_further, same_further}
 use Rattle.aio_notify.proofs.settling.first_pending.Goals as goal

@@ -1,7 +1,7 @@
 use Rattle.aio_core.specs.Calls.{IsSeatOf}
 use Rattle.aio_notify.specs.Settling.{LooksAtFlags, SameButDone}
 use Rattle.aio_notify.proofs.Ends.{NoneSoFar}
-use Rattle.aio_model.specs.LoopFlags.{is_pending}
+use Rattle.aio_model.specs.Loop.Flags.{is_pending}
 use Rattle.aio_core.specs.Words.{index_count}
 use Rattle.aio_notify.proofs.settling.first_pending.Given as goal
 

@@ -1,5 +1,5 @@
 use Rattle.std.proofs.Common.{ℕ, ◌++◌, ap, codes, decimal}
-use Rattle.aio_model.specs.declared.commits.Commit.TheVariants.{Awake}
+use Rattle.aio_model.specs.declared.loops.commits.Commit.TheVariants.{Awake}
 use Rattle.aio_script.proofs.LoopTexts.{PutsOnPage-commit}
 use Rattle.aio_script.proofs.Gathered.{PutsOnPage-same}
 use Rattle.aio_script.proofs.loop_print.print_awake.Goals as goal

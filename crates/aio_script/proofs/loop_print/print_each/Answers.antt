@@ -1,6 +1,6 @@
 use Rattle.std.specs.List.{flat_map}
 use Rattle.std.proofs.Common.{◌+◌, drop, Ok}
-use Rattle.aio_model.specs.LoopLines.{behind_space}
+use Rattle.aio_model.specs.Scripts.LoopLines.{behind_space}
 use Rattle.aio_script.proofs.Gathered.{PutsOnPage-then, PutsOnPage-stops, PutsOnPage-same}
 use Rattle.aio_script.proofs.Texts.{flat_map_around, flat_map_next}
 use Rattle.aio_script.proofs.loop_print.print_each.Goals as goal

@@ -1,7 +1,7 @@
 -- Those so far were put on the page.
 use Rattle.std.proofs.Common.{take, Ok}
 use Rattle.std.specs.List.{flat_map}
-use Rattle.aio_model.specs.LoopLines.{behind_space}
+use Rattle.aio_model.specs.Scripts.LoopLines.{behind_space}
 use Rattle.aio_script.specs.Printing.{PutsOnPage}
 use Rattle.aio_script.proofs.loop_print.print_each.Given as goal
 

@@ -1,5 +1,5 @@
 use Rattle.std.proofs.Common.{ap, sym}
-use Rattle.aio_model.specs.LoopLines.{reply_text}
+use Rattle.aio_model.specs.Scripts.LoopLines.{reply_text}
 use Rattle.aio_script.proofs.Gathered.{PutsOnPage-same}
 use Rattle.aio_script.proofs.loop_print.print_poll.Goals as goal
 

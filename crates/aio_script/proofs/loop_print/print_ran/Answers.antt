@@ -1,5 +1,5 @@
 use Rattle.std.proofs.Common.{ℕ, ◌++◌, List, Bool, codes, decimal}
-use Rattle.aio_model.specs.LoopLines.{list_text, more_text, progress_text}
+use Rattle.aio_model.specs.Scripts.LoopLines.{list_text, more_text, progress_text}
 use Rattle.aio_script.proofs.Gathered.{PutsOnPage-then, PutsOnPage-stops}
 use Rattle.aio_script.proofs.loop_print.print_ran.Goals as goal
 

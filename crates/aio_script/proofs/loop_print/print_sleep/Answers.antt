@@ -1,5 +1,5 @@
 use Rattle.std.proofs.Common.{ap}
-use Rattle.aio_model.specs.declared.commits.Commit.TheVariants.{Sleep}
+use Rattle.aio_model.specs.declared.loops.commits.Commit.TheVariants.{Sleep}
 use Rattle.aio_script.proofs.LoopTexts.{PutsOnPage-commit}
 use Rattle.aio_script.proofs.loop_print.print_sleep.Goals as goal
 

@@ -1,6 +1,6 @@
 use Rattle.std.proofs.Common.{◌≡◌, ℕ, ◌+◌, ◌++◌, ◌∷◌, [], List, sym, ap, ◌∙◌, subst, arith, Err, rules}
-use Rattle.aio_model.specs.declared.scripts.Stream.{Stream}
-use Rattle.aio_model.specs.declared.scripts.Step.{Step}
+use Rattle.aio_model.specs.declared.scripts.image_scripts.Stream.{Stream}
+use Rattle.aio_model.specs.declared.scripts.image_scripts.Step.{Step}
 use Rattle.aio_script.specs.declared.said.Counts.{Counts}
 use Rattle.aio_script.specs.Grammar.{counts_of, script_below, streams_in, steps_in}
 use Rattle.aio_script.specs.Lines.{Numbered, significant_from}

@@ -1,5 +1,5 @@
 use Rattle.std.proofs.Common.{◌++◌, ap, sym, codes, ℕ, List}
-use Rattle.aio_model.specs.PrintedText.{data_text}
+use Rattle.aio_model.specs.Scripts.PrintedText.{data_text}
 use Rattle.aio_script.proofs.Gathered.{PutsOnPage-then, PutsOnPage-stops, PutsOnPage-same}
 use Rattle.aio_script.proofs.Texts.{data_text-some}
 use Rattle.aio_script.proofs.replies.print_found.Goals as goal

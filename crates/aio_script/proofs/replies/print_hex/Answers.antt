@@ -1,5 +1,5 @@
 use Rattle.std.proofs.Common.{◌+◌, ◌≤◌, drop, length, arith}
-use Rattle.aio_model.specs.PrintedText.{hex_of}
+use Rattle.aio_model.specs.Scripts.PrintedText.{hex_of}
 use Rattle.aio_script.proofs.Gathered.{PutsOnPage-then, PutsOnPage-stops, PutsOnPage-same}
 use Rattle.aio_script.proofs.Texts.{hex_of-range, hex_of-rest}
 use Rattle.aio_script.proofs.replies.print_hex.Goals as goal

@@ -1,6 +1,6 @@
 -- The bytes so far were put on the page.
 use Rattle.std.proofs.Common.{◌≤◌, ◌-◌, length, take, Ok}
-use Rattle.aio_model.specs.PrintedText.{hex_of}
+use Rattle.aio_model.specs.Scripts.PrintedText.{hex_of}
 use Rattle.aio_script.specs.Printing.{PutsOnPage}
 use Rattle.aio_script.proofs.replies.print_hex.Given as goal
 

@@ -1,5 +1,5 @@
 use Rattle.std.proofs.Common.{◌++◌, codes, decimal}
-use Rattle.aio_model.specs.PrintedText.{verb_of, outcome_of}
+use Rattle.aio_model.specs.Scripts.PrintedText.{verb_of, outcome_of}
 use Rattle.aio_script.proofs.Gathered.{PutsOnPage-then, PutsOnPage-stops, PutsOnPage-same}
 use Rattle.aio_script.proofs.Texts.{line_of-parts}
 use Rattle.aio_script.proofs.replies.print_line.Goals as goal

@@ -1,6 +1,6 @@
 use Rattle.std.proofs.Common.{refl}
-use Rattle.aio_model.specs.LoopHistory.{ToCall, ToCallIdle, ToDelete}
-use Rattle.aio_model.specs.declared.loop_scripts.ActKind.TheVariants.{Schedule, Idle, Delete, Cancel, Nest}
+use Rattle.aio_model.specs.Loop.History.{ToCall, ToCallIdle, ToDelete}
+use Rattle.aio_model.specs.declared.scripts.loop_scripts.ActKind.TheVariants.{Schedule, Idle, Delete, Cancel, Nest}
 use Rattle.bell_loop.proofs.Actions.{Acts-at, Acts-enqueue, Acts-cancel, Acts-nest, legal_here}
 use Rattle.bell_loop.proofs.acting.act.Goals as goal
 

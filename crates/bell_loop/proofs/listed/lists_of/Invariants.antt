@@ -1,5 +1,5 @@
 use Rattle.std.proofs.Common.{◌≡◌, ℕ, ◌<◌, length, map}
-use Rattle.aio_model.specs.LoopActs.{acts_of}
+use Rattle.aio_model.specs.Scripts.LoopActs.{acts_of}
 use Rattle.bell_loop.specs.Entering.{acts_at}
 use Rattle.bell_loop.proofs.listed.lists_of.Given as goal
 

@@ -1,5 +1,5 @@
 use Rattle.std.proofs.Common.{◌≡◌, ◌-◌, false, length, get_or}
-use Rattle.aio_model.specs.LoopLog.{first_from}
+use Rattle.aio_model.specs.Loop.Log.{first_from}
 use Rattle.bell_loop.proofs.marks.first_of.Given as goal
 
 abbrev pub invariant-loop-e : goal.invariant-loop-e

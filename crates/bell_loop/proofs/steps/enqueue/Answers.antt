@@ -1,7 +1,7 @@
 use Rattle.std.proofs.Common.{◌≡◌, sym, subst}
-use Rattle.aio_model.specs.LoopHistory.{ToCall, ToCallIdle, ToDelete}
-use Rattle.aio_model.specs.LoopLog.{flags_before, enqueued_log}
-use Rattle.aio_model.specs.LoopSeats.{home}
+use Rattle.aio_model.specs.Loop.History.{ToCall, ToCallIdle, ToDelete}
+use Rattle.aio_model.specs.Loop.Log.{flags_before, enqueued_log}
+use Rattle.aio_model.specs.Loop.Seats.{home}
 use Rattle.aio_core.specs.Standing.{asked_by}
 use Rattle.bell_loop.specs.Running.{GoesTo}
 use Rattle.bell_loop.proofs.LogsGoOn.{Goes-enqueued}

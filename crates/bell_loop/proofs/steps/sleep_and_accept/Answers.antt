@@ -1,5 +1,5 @@
 use Rattle.std.proofs.Common.{ap, sym, ◌∙◌, refl, subst}
-use Rattle.aio_model.specs.LoopLegal.{IsLegal}
+use Rattle.aio_model.specs.Loop.Legal.{IsLegal}
 use Rattle.aio_core.specs.Known.{Known, is_running}
 use Rattle.aio_core.specs.Scans.{SameButSleep}
 use Rattle.aio_core.proofs.Passing.{to_same, same_then}

@@ -1,7 +1,7 @@
 use Rattle.std.proofs.Common.{◌≡◌, ◌+◌, ◌<◌, length, take, get_or, ◌++◌, ◌∷◌, [], sym, subst, ◌∙◌, ap, arith}
 use Rattle.std.proofs.lemmas.List.{take_more, take_all}
-use Rattle.aio_model.specs.declared.loop_scripts.Command.TheVariants.{Schedule}
-use Rattle.aio_model.specs.LoopHistory.{Sizes}
+use Rattle.aio_model.specs.declared.scripts.loop_scripts.Command.TheVariants.{Schedule}
+use Rattle.aio_model.specs.Loop.History.{Sizes}
 use Rattle.aio_script.specs.LoopBounds.{IsCommandWithin}
 use Rattle.bell_loop.specs.Machines.{state_of}
 use Rattle.bell_script.specs.Scripts.{Collects}

@@ -1,13 +1,13 @@
 -- `pick` makes a value of no bytes, whose ghost field is what its caller picks.
 use mathlib.Core.Path.{◌≡◌, refl}
-use mathlib.Core.List.{List, [], ◌∷◌, ◌++◌}
-use mir.Syntax.{Fn, a_type}
-use mir.Val.{Val, vptr, vstruct, vcons, vnil}
+use mathlib.Core.List.{[], ◌∷◌, ◌++◌}
+use mir.Syntax.{a_type}
+use mir.Val.{Val, vstruct, vcons, vnil}
 use mir.MapTy.{inst_fn}
 use base.Logic.{SProp, emp}
 use Rattle.atomic_table.proofs.Names.{fact, fact_i}
 use base.Fml.{Fml}
-use types.Kit.{‵, raw, ◌⊛◌, ◌$◌, ◌∵◌, !, qed, by, move, keep, split, join, fjoin, use0, suffices, done}
+use types.Kit.{‵, raw, ◌⊛◌, ◌$◌, ◌∵◌, !, qed, by, keep, split, use0}
 use types.Run.{no_more, and_then, returns, enter}
 use types.Part.{agg}
 use types.ByLocal.{alloc_all, pass_all, free_all, look_at, get, sets, env}
@@ -15,10 +15,10 @@ use contract.Running.{tables}
 use denote.RattleType.{RattleType, owns}
 use denote.Param.{param, layouts}
 use denote.Shadow.{makes_shadow}
-use denote.Signature.{types_at, type_at}
+use denote.Signature.{types_at}
 use denote.Steps.{nothing}
 use denote.Triple.Entry.{alive}
-use denote.Triple.Walked.{says, Stays, walk_of, ends_at}
+use denote.Triple.Walked.{Stays, walk_of}
 use Rattle.atomic_table.proofs.Walks.{proved, leaves}
 use Rattle.chosen.specs.contracts.Chosen.{the_row}
 use Rattle.chosen.specs.contracts.Chosen.pick.{ended, clauses}

@@ -1,5 +1,5 @@
 use Rattle.std.proofs.Common.{◌≡◌}
-use Rattle.aio_model.specs.InFlight.{Announced}
+use Rattle.aio_model.specs.Loop.InFlight.{Announced}
 use Rattle.aio_core.specs.Calls.{IsSeatOf}
 use Rattle.loop_bench.proofs.threads.push_in_the_end.Given as goal
 

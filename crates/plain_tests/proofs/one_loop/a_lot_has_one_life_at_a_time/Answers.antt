@@ -1,8 +1,8 @@
 use Rattle.std.proofs.Common.{◌≡◌, [], true, false, ap, refl, sym, ◌∙◌, subst}
-use Rattle.aio_model.specs.declared.bottom_halves.BottomHalf.{BottomHalf}
-use Rattle.aio_model.specs.LoopHistory.{Sizes}
-use Rattle.aio_model.specs.LoopLog.{history_of, once_log, taken_log, dequeued_log}
-use Rattle.aio_model.specs.LoopState.{half_of}
+use Rattle.aio_model.specs.declared.loops.bottom_halves.BottomHalf.{BottomHalf}
+use Rattle.aio_model.specs.Loop.History.{Sizes}
+use Rattle.aio_model.specs.Loop.Log.{history_of, once_log, taken_log, dequeued_log}
+use Rattle.aio_model.specs.Loop.State.{half_of}
 use Rattle.plain_tests.proofs.one_loop.a_lot_has_one_life_at_a_time.Goals as goal
 
 abbrev one_lot : Sizes

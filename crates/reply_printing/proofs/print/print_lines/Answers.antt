@@ -1,7 +1,7 @@
 use Rattle.std.proofs.Common.{◌<◌, ◌∙◌, length, slice_index, ap, arith, Ok}
 use Rattle.std.proofs.Math.ListN.{length-set}
 use Rattle.std.specs.List.{flat_map}
-use Rattle.aio_model.specs.PrintedText.{line_for}
+use Rattle.aio_model.specs.Scripts.PrintedText.{line_for}
 use Rattle.aio_model.proofs.InOrder.{asked_rest}
 use Rattle.aio_script.proofs.Gathered.{PutsOnPage-then, PutsOnPage-stops, PutsOnPage-same}
 use Rattle.reply_printing.specs.declared.links.Links.{Links}

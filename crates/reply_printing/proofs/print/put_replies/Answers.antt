@@ -1,7 +1,7 @@
 use Rattle.std.proofs.Common.{◌≡◌, ◌∙◌, length, ap}
-use Rattle.aio_model.specs.Asked.{asked}
-use Rattle.aio_model.specs.SerialHistory.{errors_of}
-use Rattle.aio_model.specs.PrintedText.{end_line}
+use Rattle.aio_model.specs.Serving.Asked.{asked}
+use Rattle.aio_model.specs.Serving.SerialHistory.{errors_of}
+use Rattle.aio_model.specs.Scripts.PrintedText.{end_line}
 use Rattle.aio_script.proofs.Gathered.{PutsOnPage-then, PutsOnPage-stops, PutsOnPage-same}
 use Rattle.reply_printing.proofs.StreamCounts.{served-many, streams-below}
 use Rattle.reply_printing.proofs.print.put_replies.Goals as goal

@@ -1,4 +1,4 @@
-use Rattle.aio_model.specs.PrintedText.{end_line}
+use Rattle.aio_model.specs.Scripts.PrintedText.{end_line}
 use Rattle.aio_script.proofs.Prints.{Prints-then, Prints-stops}
 use Rattle.script_generator.proofs.print.print_below_begun.Goals as goal
 

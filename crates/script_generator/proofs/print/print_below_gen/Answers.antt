@@ -1,5 +1,5 @@
 use Rattle.std.proofs.Common.{◌++◌}
-use Rattle.aio_model.specs.PrintedText.{end_line}
+use Rattle.aio_model.specs.Scripts.PrintedText.{end_line}
 use Rattle.aio_script.proofs.Prints.{Prints-then, Prints-stops}
 use Rattle.script_generator.specs.Sums.{bytes_line}
 use Rattle.script_generator.proofs.print.print_below_gen.Goals as goal

@@ -1,8 +1,8 @@
 use Rattle.std.proofs.Common.{◌≡◌, ap, sym, ◌∙◌, length, count_by, List, ℕ, subst, arith}
 use Rattle.std.proofs.lemmas.List.{take_at}
-use Rattle.aio_model.specs.declared.scripts.Step.{Step}
-use Rattle.aio_model.specs.Asked.{asked, is_ask}
-use Rattle.aio_model.specs.SerialHistory.{bytes_left}
+use Rattle.aio_model.specs.declared.scripts.image_scripts.Step.{Step}
+use Rattle.aio_model.specs.Serving.Asked.{asked, is_ask}
+use Rattle.aio_model.specs.Serving.SerialHistory.{bytes_left}
 use Rattle.served_check.specs.Cursors.{none_done}
 use Rattle.served_check.specs.Judging.{RepliesGoOn}
 use Rattle.served_check.proofs.Named.{length-asked}

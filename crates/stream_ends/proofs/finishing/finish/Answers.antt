@@ -1,5 +1,5 @@
-use Rattle.std.proofs.Common.{◌≡◌, ◌++◌, ◌∙◌, List, length, map, slice_index, sym, ap, subst, vec_capacity, arith}
-use Rattle.aio_model.specs.declared.replies.Placed.{Placed}
+use Rattle.std.proofs.Common.{◌≡◌, ◌++◌, ◌∙◌, List, length, map, sym, ap, subst, vec_capacity, arith}
+use Rattle.aio_model.specs.declared.serving.replies.Placed.{Placed}
 use Rattle.co_mutex.specs.Closing.{AreAll}
 use Rattle.img_join.specs.Placing.{row_at}
 use Rattle.stream_ends.specs.Images.{device_behind}

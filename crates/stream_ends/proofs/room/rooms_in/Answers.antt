@@ -1,6 +1,6 @@
 use Rattle.std.proofs.Common.{◌∙◌, ◌++◌, ◌∷◌, [], ℕ, List, length, slice_index, take, sym, ap, subst, arith}
 use Rattle.std.proofs.lemmas.List.{length_push, map-append, take_more, take_all}
-use Rattle.aio_model.specs.Asked.{requests_of}
+use Rattle.aio_model.specs.Serving.Asked.{requests_of}
 use Rattle.img_streams.specs.declared.room.Room.{Room}
 use Rattle.img_streams.specs.Rooms.{IsRoomFor}
 use Rattle.stream_ends.specs.Images.{counts_for}

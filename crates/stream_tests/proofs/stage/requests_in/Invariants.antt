@@ -1,5 +1,5 @@
 use Rattle.std.proofs.Common.{◌≡◌, take}
-use Rattle.aio_model.specs.Asked.{requests_of}
+use Rattle.aio_model.specs.Serving.Asked.{requests_of}
 use Rattle.stream_tests.proofs.stage.requests_in.Given as goal
 
 abbrev pub invariant-loop-line : goal.invariant-loop-line

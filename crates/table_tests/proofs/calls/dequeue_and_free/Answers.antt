@@ -1,6 +1,6 @@
 use Rattle.std.proofs.Common.{◌≡◌, ap, ◌∙◌, subst, arith}
-use Rattle.aio_model.specs.LoopHistory.{Sizes, Free}
-use Rattle.aio_model.specs.LoopLegal.{MayFollow}
+use Rattle.aio_model.specs.Loop.History.{Sizes, Free}
+use Rattle.aio_model.specs.Loop.Legal.{MayFollow}
 use Rattle.aio_core.proofs.OneShots.{may_free-lot}
 use Rattle.table_tests.proofs.calls.dequeue_and_free.Goals as goal
 

@@ -1,7 +1,6 @@
-use Rattle.std.proofs.Common.{◌≡◌, arith}
+use Rattle.std.proofs.Common.{◌≡◌}
 use Rattle.aio_bh.proofs.Steps.{Polls-of, returns_then}
 use Rattle.aio_bh.proofs.Turning.{no_slices}
-use Rattle.lot_pool.specs.Pools.{IsHomeOf}
 use Rattle.aio_bh.proofs.polls.LoopTableBottomHalves.poll.Goals as goal
 
 pub returns-clause-polls : goal.returns-clause-polls

@@ -1,5 +1,5 @@
 use Rattle.std.proofs.Common.{◌≡◌, sym, subst}
-use Rattle.aio_model.specs.InFlight.{Linked}
+use Rattle.aio_model.specs.Loop.InFlight.{Linked}
 use Rattle.aio_core.proofs.Pushing.{head_compare_allowed, compared_keeps}
 use Rattle.aio_core.proofs.Opened.{same_table, seat_still, held_still, held_numbers, head_within}
 use Rattle.aio_core.proofs.table.LoopTable.compare_head.Goals as goal

@@ -2,7 +2,7 @@ use Rattle.std.proofs.Common.{ap}
 use Rattle.aio_core.specs.Known.{Known}
 use Rattle.aio_core.proofs.Opened.{held_still, seat_still}
 use Rattle.std.proofs.Common.{◌≡◌, sym, subst, arith}
-use Rattle.aio_model.specs.InFlight.{ToLoad, flight_of}
+use Rattle.aio_model.specs.Loop.InFlight.{ToLoad, flight_of}
 use Rattle.aio_core.proofs.Notifying.{notify_me_load_allowed}
 use Rattle.aio_core.proofs.Opened.{same_table, held_numbers, word_within}
 use Rattle.aio_core.proofs.table.LoopTable.load_armed.Goals as goal

@@ -1,5 +1,5 @@
 use Rattle.std.proofs.Common.{◌≡◌, sym, subst}
-use Rattle.aio_model.specs.InFlight.{Announced}
+use Rattle.aio_model.specs.Loop.InFlight.{Announced}
 use Rattle.aio_core.proofs.Aiming.{head_load_allowed}
 use Rattle.aio_core.proofs.Opened.{same_table, held_numbers, head_within}
 use Rattle.aio_core.proofs.table.LoopTable.load_head.Goals as goal

@@ -1,5 +1,5 @@
 use Rattle.std.proofs.Common.{◌≡◌, ◌<◌, ◌+◌, ℕ, Some, ◌∷◌, refl, sym, ap, ◌∙◌, subst, arith}
-use Rattle.aio_model.specs.InFlight.{LotClaimed}
+use Rattle.aio_model.specs.Loop.InFlight.{LotClaimed}
 use Rattle.atomic_table.specs.Table.{rest}
 use Rattle.aio_core.specs.Known.{Known}
 use Rattle.aio_core.specs.Words.{flags_at}

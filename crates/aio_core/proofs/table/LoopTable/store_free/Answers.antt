@@ -1,6 +1,6 @@
 use Rattle.std.proofs.Common.{sym, ap, subst}
-use Rattle.aio_model.specs.LoopHistory.{Free}
-use Rattle.aio_model.specs.LoopLegal.{MayFollow}
+use Rattle.aio_model.specs.Loop.History.{Free}
+use Rattle.aio_model.specs.Loop.Legal.{MayFollow}
 use Rattle.aio_core.specs.Known.{Known}
 use Rattle.aio_core.specs.Standing.{Frees}
 use Rattle.aio_core.proofs.Lives.{lot_below}

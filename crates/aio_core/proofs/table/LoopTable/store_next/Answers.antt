@@ -1,5 +1,5 @@
 use Rattle.std.proofs.Common.{◌≡◌, ◌<◌, sym, subst}
-use Rattle.aio_model.specs.InFlight.{HeadLoaded}
+use Rattle.aio_model.specs.Loop.InFlight.{HeadLoaded}
 use Rattle.aio_core.specs.Words.{index_count}
 use Rattle.aio_core.proofs.Aiming.{next_store_allowed}
 use Rattle.aio_core.proofs.Opened.{same_table, held_numbers, next_within}

@@ -1,5 +1,5 @@
 use Rattle.std.proofs.Common.{◌≡◌, ◌<◌, sym, ap, subst, arith}
-use Rattle.aio_model.specs.InFlight.{AtRest}
+use Rattle.aio_model.specs.Loop.InFlight.{AtRest}
 use Rattle.aio_core.specs.Known.{Known}
 use Rattle.aio_core.specs.SleepSteps.{SetsEvent}
 use Rattle.aio_core.proofs.Eventing.{event_set_allowed}

@@ -1,5 +1,5 @@
 use Rattle.std.proofs.Common.{◌≡◌, sym, subst, arith}
-use Rattle.aio_model.specs.InFlight.{ToSet, flight_of}
+use Rattle.aio_model.specs.Loop.InFlight.{ToSet, flight_of}
 use Rattle.aio_core.proofs.Notifying.{notifier_set_allowed}
 use Rattle.aio_core.proofs.Opened.{same_table, held_numbers, word_within}
 use Rattle.aio_core.proofs.table.LoopTable.swap_notifier.Goals as goal

@@ -3,7 +3,7 @@ use Rattle.std.proofs.lemmas.List.{length-map, map_push}
 use Rattle.std.proofs.lemmas.Bool.{or_left}
 use Rattle.aio_chain.specs.LinkList.{contains}
 use Rattle.aio_chain.proofs.Contained.{contains-append}
-use Rattle.aio_model.specs.declared.handler_calls.Handler.{Handler}
+use Rattle.aio_model.specs.declared.handlers.calls.Handler.{Handler}
 use Rattle.aio_handlers.specs.declared.answers.AddRefusal.TheVariants.{Taken, Full, Worn}
 use Rattle.aio_handlers.specs.declared.places.Slot.{Slot}
 use Rattle.aio_handlers.specs.Answers.{add_answer}

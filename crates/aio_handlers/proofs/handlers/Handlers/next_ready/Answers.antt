@@ -3,7 +3,7 @@ use Rattle.std.proofs.lemmas.Bool.{both_ways}
 use Rattle.aio_chain.specs.LinkList.{contains}
 use Rattle.aio_chain.proofs.Steps.{contains-from_without}
 use Rattle.aio_chain.proofs.Walks.{contains-first}
-use Rattle.aio_model.specs.HandlerCalls.{others}
+use Rattle.aio_model.specs.Handlers.Calls.{others}
 use Rattle.aio_handlers.specs.declared.places.Slot.{Slot}
 use Rattle.aio_handlers.specs.Kept.{handlers_of}
 use Rattle.aio_handlers.specs.Slots.{slot_of, handlers_at}

@@ -1,7 +1,7 @@
 use Rattle.std.proofs.Common.{ℕ, ◌≡◌, ◌∷◌, ◌+◌, true, length, Some, None, refl, sym, ◌∙◌, ap, subst, arith}
 use Rattle.std.proofs.lemmas.Bool.{both_ways, false≢true}
 use Rattle.aio_chain.specs.LinkList.{contains, without}
-use Rattle.aio_model.specs.HandlerCalls.{named, others}
+use Rattle.aio_model.specs.Handlers.Calls.{named, others}
 use Rattle.aio_handlers.specs.declared.answers.Removed.TheVariants.{Freed, Marked, Gone}
 use Rattle.aio_handlers.specs.declared.places.Slot.{Slot}
 use Rattle.aio_handlers.specs.Answers.{remove_answer, removed_as}
@@ -13,7 +13,7 @@ use Rattle.aio_handlers.proofs.Placed.{AreNumbered, slots_taken, have_taken, num
 use Rattle.aio_handlers.proofs.Watched.{watched_fewer}
 use Rattle.aio_handlers.proofs.Removal.{without_among, removed_in, removed_live, removed_waiting, removed_named, gone_live, gone_waiting, gone_named}
 use Rattle.aio_handlers.proofs.Standing.{marked_after, marked_none, stands_removed}
-use Rattle.aio_model.specs.declared.handler_calls.HandlerCall.TheVariants.{Remove}
+use Rattle.aio_model.specs.declared.handlers.calls.HandlerCall.TheVariants.{Remove}
 use Rattle.aio_handlers.proofs.handlers.Handlers.remove.Goals as goal
 
 pub take-tag-requires : goal.take-tag-requires

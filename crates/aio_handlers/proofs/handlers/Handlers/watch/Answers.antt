@@ -1,7 +1,7 @@
 use Rattle.std.proofs.Common.{◌≡◌, Bool, true, false, cond, Some, None, is_some, refl, sym, ◌∙◌, ap}
 use Rattle.aio_chain.specs.LinkList.{contains}
-use Rattle.aio_model.specs.declared.handler_calls.Handler.{Handler}
-use Rattle.aio_model.specs.HandlerCalls.{on_event}
+use Rattle.aio_model.specs.declared.handlers.calls.Handler.{Handler}
+use Rattle.aio_model.specs.Handlers.Calls.{on_event}
 use Rattle.aio_handlers.specs.Slots.{slot_of, handler_at}
 use Rattle.aio_handlers.proofs.Told.{on_event-handlers_at}
 use Rattle.aio_handlers.proofs.handlers.Handlers.watch.Goals as goal

@@ -1,7 +1,7 @@
 use Rattle.std.proofs.Common.{◌≡◌, MatchBool, refl, sym, ap, ◌∙◌, subst, false}
-use Rattle.aio_model.specs.declared.commits.Commit.{Commit}
-use Rattle.aio_model.specs.declared.commits.Commit.TheVariants.{Sleep, Awake}
-use Rattle.aio_model.specs.declared.commits.Why.TheVariants.{Notified}
+use Rattle.aio_model.specs.declared.loops.commits.Commit.{Commit}
+use Rattle.aio_model.specs.declared.loops.commits.Commit.TheVariants.{Sleep, Awake}
+use Rattle.aio_model.specs.declared.loops.commits.Why.TheVariants.{Notified}
 use Rattle.aio_core.specs.Known.{is_running}
 use Rattle.aio_notify.specs.Commits.{is_past, sleep_bound}
 use Rattle.aio_notify.proofs.Looks.{none_found, scan_watches, finds_running, same_at_event, same_at_test}

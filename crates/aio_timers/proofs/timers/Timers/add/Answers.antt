@@ -1,5 +1,5 @@
 use Rattle.std.proofs.Common.{◌+◌, ◌∷◌, sym, subst, arith}
-use Rattle.aio_model.specs.declared.timer_calls.TimerCall.TheVariants.{Add}
+use Rattle.aio_model.specs.declared.timers.calls.TimerCall.TheVariants.{Add}
 use Rattle.aio_timers.specs.Keys.{joint, key_at}
 use Rattle.aio_timers.specs.StandsFor.{StandsFor}
 use Rattle.aio_timers.proofs.Rows.{of_rows, stamped_more}

@@ -1,7 +1,7 @@
 use Rattle.std.proofs.Common.{◌≡◌, ◌+◌, ◌*◌, ◌<◌, length, length-set, sym, ◌∙◌, ap, subst, arith, w64}
 use Rattle.std.proofs.lemmas.Grind.{common_steps}
 use Rattle.std.proofs.lemmas.Int.{to_z-of_z}
-use Rattle.aio_model.specs.TimerCalls.{from_zero}
+use Rattle.aio_model.specs.Timers.Calls.{from_zero}
 use Rattle.aio_timers.specs.Keys.{none, stamps, joint, key_at}
 use Rattle.aio_timers.specs.StandsFor.{StandsFor}
 use Rattle.aio_timers.proofs.Rows.{of_rows, stamped_put}

@@ -1,6 +1,6 @@
 use Rattle.std.proofs.Common.{◌<◌, ◌∷◌, length, refl, sym, ◌∙◌, ap, subst, arith, length-set}
 use Rattle.std.proofs.lemmas.Bool.{le-ltb}
-use Rattle.aio_model.specs.declared.timer_calls.TimerCall.TheVariants.{Disarm}
+use Rattle.aio_model.specs.declared.timers.calls.TimerCall.TheVariants.{Disarm}
 use Rattle.aio_timers.specs.Keys.{none, joint, key_at}
 use Rattle.aio_timers.specs.StandsFor.{StandsFor}
 use Rattle.aio_timers.proofs.Rows.{of_rows, unmade}

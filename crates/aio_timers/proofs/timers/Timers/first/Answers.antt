@@ -1,6 +1,6 @@
 use Rattle.std.proofs.Common.{◌≡◌, ℕ, ◌/◌, ◌<◌, ◌≤◌, min, sym, ◌∙◌, ap, subst, inl, inr, arith}
 use Rattle.std.proofs.lemmas.Bool.{cases_lt}
-use Rattle.aio_model.specs.TimerCalls.{IsEarliest}
+use Rattle.aio_model.specs.Timers.Calls.{IsEarliest}
 use Rattle.aio_timers.specs.Keys.{none, stamps, joint, key_at}
 use Rattle.aio_timers.specs.StandsFor.{StandsFor}
 use Rattle.aio_timers.proofs.Rows.{of_rows, lower_all, joint_lower, joint_due, waiting_is_joint}

@@ -1,5 +1,5 @@
 use Rattle.std.proofs.Common.{sym, subst, rules}
-use Rattle.aio_model.specs.TimerCalls.{is_marked, IsNone}
+use Rattle.aio_model.specs.Timers.Calls.{is_marked, IsNone}
 use Rattle.aio_timers.specs.Keys.{joint, key_at}
 use Rattle.aio_timers.specs.StandsFor.{StandsFor}
 use Rattle.aio_timers.proofs.Rows.{of_rows}

@@ -1,5 +1,5 @@
 use Rattle.std.proofs.Common.{◌∙◌, map, option_map, sym, ap, subst}
-use Rattle.aio_model.specs.LoopFrame.{Nests, lent_of}
+use Rattle.aio_model.specs.Loop.Frame.{Nests, lent_of}
 use Rattle.bell_loop.specs.Entering.{acts_at, CanRun, DoesEntry, noted}
 use Rattle.bell_loop.proofs.Entries.{DoesEntry-ended, DoesEntry-nested, behind_within}
 use Rattle.bell_loop.proofs.callbacks.CallbacksRunnerTag.run.Goals as goal

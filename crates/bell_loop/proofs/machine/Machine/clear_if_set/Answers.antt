@@ -1,5 +1,5 @@
 use Rattle.std.proofs.Common.{◌∙◌, refl, sym, ap}
-use Rattle.aio_model.specs.LoopLists.{is_set}
+use Rattle.aio_model.specs.Loop.Lists.{is_set}
 use Rattle.bell_loop.specs.Machines.{state_of}
 use Rattle.bell_loop.proofs.Ended.{Leads-cleared, Leads-unset}
 use Rattle.bell_loop.proofs.machine.Machine.clear_if_set.Goals as goal

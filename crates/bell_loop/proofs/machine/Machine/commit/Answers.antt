@@ -1,5 +1,5 @@
 use Rattle.std.proofs.Common.{◌≡◌, false, get_or, length, refl, ap, ◌∙◌}
-use Rattle.aio_model.specs.LoopLog.{first_from, commit_from}
+use Rattle.aio_model.specs.Loop.Log.{first_from, commit_from}
 use Rattle.bell_loop.specs.Machines.{state_of}
 use Rattle.bell_loop.proofs.Commanding.{Answers-commit}
 use Rattle.bell_loop.proofs.machine.Machine.commit.Goals as goal

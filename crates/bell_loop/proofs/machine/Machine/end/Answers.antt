@@ -1,5 +1,5 @@
 use Rattle.std.proofs.Common.{map, sym, ap, ◌∙◌, subst}
-use Rattle.aio_model.specs.declared.loop_replies.LoopReply.TheVariants.{Ran}
+use Rattle.aio_model.specs.declared.scripts.loop_replies.LoopReply.TheVariants.{Ran}
 use Rattle.bell_loop.specs.Machines.{state_of, ran_in, more_in}
 use Rattle.bell_loop.specs.Ending.{EndsBy}
 use Rattle.bell_loop.proofs.Ended.{EndsBy-of, none_pending, none_set}

@@ -1,6 +1,6 @@
 use Rattle.std.proofs.Common.{◌∙◌, map, ap, subst}
-use Rattle.aio_model.specs.declared.loop_scripts.Command.TheVariants.{Poll}
-use Rattle.aio_model.specs.declared.loop_replies.LoopReply.TheVariants.{Ran}
+use Rattle.aio_model.specs.declared.scripts.loop_scripts.Command.TheVariants.{Poll}
+use Rattle.aio_model.specs.declared.scripts.loop_replies.LoopReply.TheVariants.{Ran}
 use Rattle.bell_loop.specs.Entering.{acts_at}
 use Rattle.bell_loop.specs.Running as one
 use Rattle.bell_loop.specs.Machines.{state_of}

@@ -1,5 +1,5 @@
 use Rattle.std.proofs.Common.{[], ◌∷◌}
-use Rattle.aio_model.specs.LoopHistory.{Cancel}
+use Rattle.aio_model.specs.Loop.History.{Cancel}
 use Rattle.aio_bh.proofs.GivingBack.{SeatComesBack-canceled}
 use Rattle.bh_tests.proofs.enqueues.Notes.act.Goals as goal
 

@@ -1,5 +1,5 @@
 use Rattle.std.proofs.Common.{sym, subst}
-use Rattle.aio_model.specs.LoopLegal.{IsLegal}
+use Rattle.aio_model.specs.Loop.Legal.{IsLegal}
 use Rattle.aio_bh.proofs.Lent.{SeatComesBack-tried}
 use Rattle.bh_tests.proofs.placing_callbacks.Placing.place.Goals as goal
 

@@ -1,5 +1,5 @@
 use Rattle.std.proofs.Common.{subst, ◌∙◌, ◌≢◌, ℕ, [], ◌∷◌}
-use Rattle.aio_model.specs.LockHistory.{Grant, Wait}
+use Rattle.aio_model.specs.Lock.History.{Grant, Wait}
 use Rattle.co_mutex.specs.Places.{Queued}
 use Rattle.co_mutex.specs.Calls.{Comes, Names, HoldsNow}
 use Rattle.co_mutex.proofs.Finishing.{waited, looked_waits, looked_queued, waited_comes, has_granted, queues_named, own_hand, finish_holds}

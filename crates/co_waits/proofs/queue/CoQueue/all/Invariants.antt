@@ -1,5 +1,4 @@
-use Rattle.std.proofs.Common.{◌≡◌, ◌+◌, ◌++◌, length, take, drop}
-use Rattle.aio_chain.specs.LinkList.{first_of, IsLinked}
+use Rattle.std.proofs.Common.{◌≡◌, ◌+◌, ◌++◌, length}
 use Rattle.co_waits.proofs.Queues.{TakesAll}
 use Rattle.co_waits.proofs.queue.CoQueue.all.Given as goal
 

@@ -1,7 +1,5 @@
-use Rattle.std.proofs.Common.{◌≡◌, ◌∙◌, sym, ap}
-use Rattle.aio_model.specs.Readers.{Readers}
-use Rattle.co_waits.specs.Registers.{readers_in}
-use Rattle.co_waits.proofs.Kept.{read_absent, read_stands, Stands}
+use Rattle.std.proofs.Common.{◌≡◌, ◌∙◌}
+use Rattle.co_waits.proofs.Kept.{read_absent, read_stands}
 use Rattle.co_waits.proofs.register.Register.read.Goals as goal
 
 pub push_back-requires-clause-absent : goal.push_back-requires-clause-absent

@@ -1,8 +1,8 @@
 use Rattle.std.proofs.Common.{◌≡◌, ◌∙◌, ◌++◌, ◌∷◌, [], sym, ap, subst}
 use Rattle.aio_model.specs.declared.holds.Hold.TheVariants.{Writes}
-use Rattle.aio_model.specs.Readers.{Readers, ReadersWriter, hold_of}
-use Rattle.aio_model.specs.Holds.{Has, after_wake, IsSettled}
-use Rattle.aio_model.specs.RwTable.{released, without_holder, with_reader, downgraded, wake_one}
+use Rattle.aio_model.specs.Holds.Readers.{Readers, ReadersWriter, hold_of}
+use Rattle.aio_model.specs.Holds.{after_wake, IsSettled}
+use Rattle.aio_model.specs.Holds.Table.{released, without_holder, with_reader, downgraded, wake_one}
 use Rattle.aio_model.proofs.Holding.{the_writer, downgraded_settles, downgraded-others}
 use Rattle.co_waits.specs.Registers.{readers_in}
 use Rattle.co_waits.proofs.rw_state.RwState.downgrade.Goals as goal

@@ -1,7 +1,7 @@
 use Rattle.std.proofs.Common.{◌≡◌, ◌∙◌, sym, ap, subst, true, false}
-use Rattle.aio_model.specs.Readers.{ReadersWriter, hold_of}
+use Rattle.aio_model.specs.Holds.Readers.{ReadersWriter, hold_of}
 use Rattle.aio_model.specs.Holds.{answered, IsSettled}
-use Rattle.aio_model.specs.RwTable.{read_locked}
+use Rattle.aio_model.specs.Holds.Table.{read_locked}
 use Rattle.aio_model.specs.declared.holds.Hold.TheVariants.{Reads, WaitsRead}
 use Rattle.aio_model.proofs.Settling.{read_locked_settles}
 use Rattle.aio_model.proofs.Holding.{read_locked-own, read_locked-others}

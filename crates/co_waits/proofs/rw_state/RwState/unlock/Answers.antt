@@ -1,7 +1,7 @@
 use Rattle.std.proofs.Common.{◌≡◌, ◌∙◌, sym, ap, subst}
-use Rattle.aio_model.specs.Readers.{ReadersWriter, hold_of}
-use Rattle.aio_model.specs.Holds.{Has, after_wake, IsSettled}
-use Rattle.aio_model.specs.RwTable.{unlocked, wake_one}
+use Rattle.aio_model.specs.Holds.Readers.{ReadersWriter, hold_of}
+use Rattle.aio_model.specs.Holds.{after_wake, IsSettled}
+use Rattle.aio_model.specs.Holds.Table.{unlocked, wake_one}
 use Rattle.aio_model.proofs.Holding.{unlocked_settles, unlocked-own, unlocked-others}
 use Rattle.co_waits.proofs.rw_state.RwState.unlock.Goals as goal
 

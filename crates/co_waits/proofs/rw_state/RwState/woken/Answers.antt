@@ -1,7 +1,7 @@
 use Rattle.std.proofs.Common.{◌≡◌, ◌∙◌, sym, ap, subst}
-use Rattle.aio_model.specs.Readers.{ReadersWriter, hold_of}
+use Rattle.aio_model.specs.Holds.Readers.{ReadersWriter, hold_of}
 use Rattle.aio_model.specs.Holds.{after_wake, IsSettled}
-use Rattle.aio_model.specs.RwTable.{wake_one}
+use Rattle.aio_model.specs.Holds.Table.{wake_one}
 use Rattle.aio_model.proofs.Granted.{wakes}
 use Rattle.aio_model.proofs.Orderly.{wake_settles}
 use Rattle.co_waits.proofs.rw_state.RwState.woken.Goals as goal

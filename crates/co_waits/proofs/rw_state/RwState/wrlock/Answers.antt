@@ -1,7 +1,7 @@
 use Rattle.std.proofs.Common.{◌≡◌, ◌∙◌, sym, ap, subst}
-use Rattle.aio_model.specs.Readers.{ReadersWriter, hold_of}
+use Rattle.aio_model.specs.Holds.Readers.{ReadersWriter, hold_of}
 use Rattle.aio_model.specs.Holds.{answered, IsSettled}
-use Rattle.aio_model.specs.RwTable.{write_locked}
+use Rattle.aio_model.specs.Holds.Table.{write_locked}
 use Rattle.aio_model.specs.declared.holds.Hold.TheVariants.{Writes, WaitsWrite}
 use Rattle.aio_model.proofs.Settling.{write_locked_settles}
 use Rattle.aio_model.proofs.Holding.{write_locked-own, write_locked-others}

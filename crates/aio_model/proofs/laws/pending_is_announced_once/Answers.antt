@@ -1,5 +1,0 @@
-use Rattle.aio_model.proofs.AnnouncedOnce.{announced_once}
-use Rattle.aio_model.proofs.laws.pending_is_announced_once.Goals as goal
-
-pub returns : goal.returns
-returns c = announced_once

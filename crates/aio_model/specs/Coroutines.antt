@@ -1,0 +1,3 @@
+-- Coroutines that are scheduled into one home.
+pub mod History
+pub mod Laws

@@ -1,0 +1,3 @@
+-- Event handlers.
+pub mod Calls
+pub mod States

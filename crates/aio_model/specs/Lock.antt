@@ -1,0 +1,4 @@
+-- The lock of coroutines.
+pub mod History
+pub mod Notes
+pub mod Seats

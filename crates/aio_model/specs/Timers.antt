@@ -1,0 +1,3 @@
+-- Timers.
+pub mod Calls
+pub mod States
