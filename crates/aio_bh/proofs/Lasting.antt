@@ -11,7 +11,7 @@ use Rattle.aio_model.proofs.AnnouncedOnce.{fits, head_is_pending, out_of-dequeue
 use Rattle.aio_model.proofs.LotLives.{may_free-after, may_free-between}
 use Rattle.aio_model.proofs.Rounds.{legal_cut}
 use Rattle.aio_bh.specs.Polling.{dequeued_in, stacks_since, DequeuesTaken}
-use Rattle.aio_bh.specs.PollFrames.{Far, GoesFurther, CallsBody, MayEnd, place_of}
+use Rattle.aio_bh.specs.PollFrames.{Far, GoesFurther, CallsBody, MayEnd, poll_place_of}
 
 pub record Lasts (sizes : Sizes) (a b : PollPlace) : Type 0 where
   pub later : History
@@ -134,7 +134,7 @@ module _ (sizes : Sizes) where
   pub may_end_behind : {R : Type 0} (deeper nests bh : ℕ) (job : Option ℕ) (due : Bool) (does : R → Entered → R → Type 0) (old new : Far R) → GoesFurther (CallsBody (Frame sizes deeper) nests bh job due) does old new → IsLegal sizes new.known.seen → MayEnd sizes bh old.known.seen → MayEnd sizes bh new.known.seen
   may_end_behind deeper nests bh job due does old new goes legal may lot =
       let went = goes.at [] in
-      (Lasts-calls (Frame sizes deeper) (Lasts-frame deeper) nests bh job due (place_of old []) (place_of new went.log_after) went.goes).lots bh legal (may lot)
+      (Lasts-calls (Frame sizes deeper) (Lasts-frame deeper) nests bh job due (poll_place_of old []) (poll_place_of new went.log_after) went.goes).lots bh legal (may lot)
 
   -- What was out, and then what was taken since, is what was dequeued since and what is out still.
   module _ (h : History) where

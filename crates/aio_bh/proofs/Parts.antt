@@ -12,9 +12,10 @@ use Rattle.aio_core.specs.Known.{Known, Done, Stage}
 use Rattle.aio_bh.specs.declared.polled.Polled.{Polled}
 use Rattle.aio_bh.specs.HomeSteps.{home_steps, steps_for}
 use Rattle.aio_bh.specs.Running.{SeatComesBack, RunsOnce}
-use Rattle.aio_bh.specs.Polling.{counted, HomeGoesOn}
-use Rattle.aio_bh.specs.PollFrames.{Far, far, place_of, CountsEntered, EntersSome, GoesFurther, TakesNext, FollowsDequeue, TakesAndSome, noted}
+use Rattle.aio_bh.specs.Polling.{HomeGoesOn}
+use Rattle.aio_bh.specs.PollFrames.{Far, far, poll_place_of, CountsEntered, EntersSome, GoesFurther, TakesNext, FollowsDequeue, TakesAndSome, noted}
 use Rattle.aio_bh.proofs.HomeSteps.{added_up, none_added, more_added, steps_for-append, steps_for-callback}
+use Rattle.aio_model.specs.Counts.{counted}
 
 -- What the home's seat goes through.
 
@@ -158,7 +159,7 @@ GoesFurther-turn sizes frame nests i ran job does a b c r s p q t of next follow
   at = λ log.
       let begun : CountsEntered p log → CountsEntered q log = λ counts. record { ran = ap (λ (x : Polled). x.ran) next.progress ∙ counts.ran; cut_nests = ap (λ (x : Polled). x.cut_nests) next.progress ∙ counts.cut_nests } in
       let went = followed.at log in
-      let dequeued = place_of (far b r q) log in
+      let dequeued = poll_place_of (far b r q) log in
       let ended = went.goes.0 in
       let job_is = subst (λ (z : Sizes). cond (is_lot z i) (job_of i b.seen) None ≡ job) of next.job_is in
       record {

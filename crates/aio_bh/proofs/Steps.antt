@@ -10,7 +10,7 @@ use Rattle.lot_pool.proofs.Passes.{gives_then}
 use Rattle.aio_bh.specs.declared.polled.Polled.{Polled}
 use Rattle.aio_bh.specs.Polling.{Polls}
 use Rattle.aio_bh.specs.OneShots.{frees_of, GivesFreed, ReturnsLots}
-use Rattle.aio_bh.specs.PollFrames.{Far, far, place_of, GoesFurther, CallsBody, TakesAndSome, FindsNone, BehindNest}
+use Rattle.aio_bh.specs.PollFrames.{Far, far, poll_place_of, GoesFurther, CallsBody, TakesAndSome, FindsNone, BehindNest}
 use Rattle.aio_bh.proofs.Lasting.{dequeues_taken}
 use Rattle.aio_bh.proofs.Turning.{HomeGoesOn-same}
 use Rattle.aio_bh.proofs.Parts.{Body-cut, Body-ended, EntersSome-same, GoesFurther-as, GoesFurther-then, some-more, frame-from-some}
@@ -97,7 +97,7 @@ GoesFurther-frame sizes deeper does a b c r s t p q u some none same =
           let went = at_end.at log in
           record {
             log_after = went.log_after;
-            goes = frame-from-some sizes deeper (place_of (far a r p) log) (place_of (far c t u) went.log_after) went.goes none.none;
+            goes = frame-from-some sizes deeper (poll_place_of (far a r p) log) (poll_place_of (far c t u) went.log_after) went.goes none.none;
             enters = went.enters;
             counts = went.counts;
           };
@@ -121,7 +121,7 @@ pub Polls-of : {R : Type 0} (sizes : Sizes) (does : R → Entered → R → Type
 Polls-of {R} sizes does a b r s start polled of starts goes none left hand job =
     let now : GoesFurther (Frame a.sizes 8) does (far a r nothing) (far b s polled) = subst (λ z. GoesFurther (Frame z 8) does (far a r nothing) (far b s polled)) (sym of) (subst (λ p. GoesFurther (Frame sizes 8) does (far a r p) (far b s polled)) starts goes) in
     let went = now.at [] in
-    let end : PollPlace = place_of (far b s polled) went.log_after in
+    let end : PollPlace = poll_place_of (far b s polled) went.log_after in
     let counts = went.counts (record { ran = refl; cut_nests = refl }) in
     record {
       end = end;

@@ -19,7 +19,7 @@ use Rattle.aio_bh.specs.declared.polled.Polled.{Polled}
 use Rattle.aio_bh.specs.HomeSteps.{home_steps, steps_for}
 use Rattle.aio_bh.specs.Running.{SeatComesBack}
 use Rattle.aio_bh.specs.Polling.{HomeGoesOn}
-use Rattle.aio_bh.specs.PollFrames.{far, place_of, GoesFurther, CanTake, IsBetween, MayEnd, TakesNext, FreesLot, TakesAndSome}
+use Rattle.aio_bh.specs.PollFrames.{far, poll_place_of, GoesFurther, CanTake, IsBetween, MayEnd, TakesNext, FreesLot, TakesAndSome}
 use Rattle.aio_bh.proofs.Entries.{none_of_home, out_beside, out_kept}
 use Rattle.aio_bh.proofs.HomeSteps.{none_added, more_added, two_steps}
 use Rattle.aio_bh.proofs.Parts.{changes, EntersSome-same, some-none}
@@ -47,7 +47,7 @@ GoesFurther-take sizes frame nests does a b r p first count taken =
       at = λ log.
           record {
             log_after = log;
-            goes = some-none sizes frame nests (place_of (far a r p) log) (place_of (far b r p) log) (record { others = makes.others; not_home = none; seen = makes.seen; log = refl; progress = refl });
+            goes = some-none sizes frame nests (poll_place_of (far a r p) log) (poll_place_of (far b r p) log) (record { others = makes.others; not_home = none; seen = makes.seen; log = refl; progress = refl });
             enters = EntersSome-same does r log;
             counts = λ before. before;
           };

@@ -13,7 +13,8 @@ use Rattle.aio_core.specs.Words.{index_count}
 use Rattle.aio_core.specs.Calls.{TableState, SeatState, IsSeatOf}
 use Rattle.aio_bh.specs.HomeSteps.{home_steps}
 use Rattle.aio_bh.specs.declared.polled.Polled.{Polled}
-use Rattle.aio_bh.specs.Polling.{counted, HomeGoesOn}
+use Rattle.aio_bh.specs.Polling.{HomeGoesOn}
+use Rattle.aio_model.specs.Counts.{counted}
 
 -- what a part of a poll changes: what the home knows, the runner, and the counts
 pub record Far (R : Type 0) : Type 0 where
@@ -24,8 +25,8 @@ pub record Far (R : Type 0) : Type 0 where
 abbrev pub far : {R : Type 0} → Known → R → Polled → Far R
 far known runner polled = record { known = known; runner = runner; polled = polled }
 
-abbrev pub place_of : {R : Type 0} → Far R → List Entered → PollPlace
-place_of so_far log = record { seen = so_far.known.seen; log = log; progress = so_far.polled.progress }
+abbrev pub poll_place_of : {R : Type 0} → Far R → List Entered → PollPlace
+poll_place_of so_far log = record { seen = so_far.known.seen; log = log; progress = so_far.polled.progress }
 
 -- the counts are those of the entries into the runner so far
 pub record CountsEntered (polled : Polled) (log : List Entered) : Type 0 where
@@ -41,7 +42,7 @@ pub record EntersSome {R : Type 0} (does : R → Entered → R → Type 0) (runn
 -- from these entries on some part of a poll was done, which leads from place to place by this relation
 pub record Went {R : Type 0} (relation : PollPlace → PollPlace → Type 0) (does : R → Entered → R → Type 0) (old new : Far R) (log : List Entered) : Type 0 where
   pub log_after : List Entered
-  pub goes : relation (place_of old log) (place_of new log_after)
+  pub goes : relation (poll_place_of old log) (poll_place_of new log_after)
   pub enters : EntersSome does old.runner log new.runner log_after
   pub counts : CountsEntered old.polled log → CountsEntered new.polled log_after
 

@@ -1,5 +1,5 @@
 -- What a poll does.
-use Rattle.std.specs.Prelude.{◌≡◌, ℕ, min, ◌^◌, ◌-◌, ◌+◌, List, [], ◌∷◌, ◌++◌}
+use Rattle.std.specs.Prelude.{◌≡◌, ℕ, ◌^◌, ◌-◌, ◌+◌, List, [], ◌∷◌, ◌++◌}
 use Rattle.aio_model.specs.Loop.History.{Take, Dequeue, History}
 use Rattle.aio_model.specs.Loop.Legal.{IsLegal}
 use Rattle.aio_model.specs.Loop.Lists.{stack_of, out_of}
@@ -8,10 +8,7 @@ use Rattle.aio_model.specs.Loop.Frame.{Entered, PollPlace, Frame, start_of, Does
 use Rattle.aio_core.specs.Known.{Known, empty_stage}
 use Rattle.aio_bh.specs.HomeSteps.{home_steps, steps_for}
 use Rattle.aio_bh.specs.declared.polled.Polled.{Polled}
-
--- a count stays at the greatest u64
-abbrev pub counted : ℕ → ℕ
-counted n = min n (2 ^ 64 - 1)
+use Rattle.aio_model.specs.Counts.{counted}
 
 -- The home's seat went on: what was seen is longer and legal, and of what came between it has its own, for which it made just the
 -- steps that they take. Its numbers, phase and sleep are as before.

@@ -3,7 +3,7 @@
 ghost use Rattle.std.specs.Prelude.{◌≡◌, ◌<◌, ◌∷◌, [], MatchResult, false};
 ghost use Rattle.aio_model.specs.Loop.History.{Put as pushed, Enqueue as enqueued};
 ghost use Rattle.aio_model.specs.Loop.InFlight.{AtRest, Announced as announced, ToStore, ForIndex};
-ghost use Rattle.aio_core.specs.Standing.{asked_by};
+ghost use Rattle.aio_core.specs.Standing.{asks_of_kind};
 ghost use Rattle.aio_core.specs.Calls.{IsSeatOf};
 ghost use Rattle.aio_bh.specs.Enqueuing.{MissesOnce, PushesOnce, PushesAndNotifies, PushesInTheEnd, Schedules, enqueue_entries, AddsOnly};
 ghost use Rattle.aio_bh.specs.Puts.{TriedToPut};
@@ -80,7 +80,7 @@ pub fn try_schedule_as<J: Job>(table: &LoopTable<J>, seat: &mut Seat<J>, bh: u32
     requires rest { seat.old.known.phase ≡ AtRest }
     requires handle { bh < table.now.sizes.handles }
     ensures seat { IsSeatOf table.now seat.new }
-    ensures put { TriedToPut bh (asked_by kind) result seat.old.known seat.new.known }
+    ensures put { TriedToPut bh (asks_of_kind kind) result seat.old.known seat.new.known }
 {
     let (flags, owed) = table.announce(seat, bh, kind);
     let Some(owed) = owed else {
@@ -106,8 +106,8 @@ pub fn schedule_as<J: Job, R: Wait>(
     requires rest { seat.old.known.phase ≡ AtRest }
     requires handle { bh < table.now.sizes.handles }
     ensures seat { IsSeatOf table.now seat.new }
-    ensures steps { Schedules bh (asked_by kind) result seat.old.known seat.new.known }
-    ensures stands { AddsOnly (enqueue_entries bh (asked_by kind) seat.old.known.first result) seat.old.known seat.new.known }
+    ensures steps { Schedules bh (asks_of_kind kind) result seat.old.known seat.new.known }
+    ensures stands { AddsOnly (enqueue_entries bh (asks_of_kind kind) seat.old.known.first result) seat.old.known seat.new.known }
     ensures rest { seat.new.known.phase ≡ AtRest }
 {
     match try_schedule_as(table, seat, bh, kind) {

@@ -4,7 +4,7 @@ use Rattle.std.proofs.lemmas.Bool.{cases_Bool, eq-eqb, ne_eqb, or_parts, or_left
 use Rattle.std.proofs.lemmas.List.{append_assoc, take_at}
 use Rattle.aio_chain.specs.declared.links.Node.{Node}
 use Rattle.aio_chain.specs.LinkList.{contains, first_of, next_after, put_before, without, IsEachOnce}
-use Rattle.aio_chain.specs.Nodes.{next_in, prev_in, IsPath, IsCircle, items_in, ArePlaced, PutsBetween, TakesOut}
+use Rattle.aio_chain.specs.Nodes.{next_of_node, prev_in, IsPath, IsCircle, items_in, ArePlaced, PutsBetween, TakesOut}
 use Rattle.aio_chain.proofs.Contained.{split_at, contains-middle, contains-right, once_middle, eqb-false_comm}
 use Rattle.aio_chain.proofs.Steps.{next_after-split, put_before-split, without-split}
 use Rattle.aio_chain.proofs.Circles.{circle_cut, before_cut, circle_put, circle_taken, Keeps, keeps_from}
@@ -112,27 +112,27 @@ module _ (next prev next' prev' : ℕ → ℕ) (end : ℕ) (items : List ℕ) (c
 -- the nodes that a step left, as the vector has them: its front of so many
 module _ (nodes given left tail : List Node) (end count : ℕ) (was : given ≡ nodes) (placed : ArePlaced nodes end)
     (sized : length left ≡ length given) (whole : count ≡ length nodes) where
-  keeps_left : (items : List ℕ) → IsCircle (next_in left) (prev_in left) end items → Keeps (take count (left ++ tail)) end items
+  keeps_left : (items : List ℕ) → IsCircle (next_of_node left) (prev_in left) end items → Keeps (take count (left ++ tail)) end items
   keeps_left items circle =
       let e : take count (left ++ tail) ≡ left = take_at left tail count (sized ∙ ap length was ∙ sym whole) in
       let size : length left ≡ end + 1 = sized ∙ ap length was ∙ placed.sized in
       subst (λ ns. Keeps ns end items) (sym e) (keeps_from left end items size circle)
 
-  pub pushed : (i : ℕ) → i < end → contains i (items_in nodes end) ≡ false → PutsBetween (next_in given) (prev_in given) (next_in left) (prev_in left) end i
+  pub pushed : (i : ℕ) → i < end → contains i (items_in nodes end) ≡ false → PutsBetween (next_of_node given) (prev_in given) (next_of_node left) (prev_in left) end i
       → Keeps (take count (left ++ tail)) end (items_in nodes end ++ i ∷ [])
   pushed i low absent put =
-      let put' = subst (λ ns. PutsBetween (next_in ns) (prev_in ns) (next_in left) (prev_in left) end i) was put in
-      keeps_left (items_in nodes end ++ i ∷ []) (circle_push (next_in nodes) (prev_in nodes) (next_in left) (prev_in left) end (items_in nodes end) placed.circle i low absent put')
+      let put' = subst (λ ns. PutsBetween (next_of_node ns) (prev_in ns) (next_of_node left) (prev_in left) end i) was put in
+      keeps_left (items_in nodes end ++ i ∷ []) (circle_push (next_of_node nodes) (prev_in nodes) (next_of_node left) (prev_in left) end (items_in nodes end) placed.circle i low absent put')
 
   pub inserted : (at i : ℕ) → contains at (items_in nodes end) ≡ true → i < end → contains i (items_in nodes end) ≡ false
-      → PutsBetween (next_in given) (prev_in given) (next_in left) (prev_in left) at i
+      → PutsBetween (next_of_node given) (prev_in given) (next_of_node left) (prev_in left) at i
       → Keeps (take count (left ++ tail)) end (put_before at i (items_in nodes end))
   inserted at i here low absent put =
-      let put' = subst (λ ns. PutsBetween (next_in ns) (prev_in ns) (next_in left) (prev_in left) at i) was put in
-      keeps_left (put_before at i (items_in nodes end)) (circle_insert (next_in nodes) (prev_in nodes) (next_in left) (prev_in left) end (items_in nodes end) placed.circle at i here low absent put')
+      let put' = subst (λ ns. PutsBetween (next_of_node ns) (prev_in ns) (next_of_node left) (prev_in left) at i) was put in
+      keeps_left (put_before at i (items_in nodes end)) (circle_insert (next_of_node nodes) (prev_in nodes) (next_of_node left) (prev_in left) end (items_in nodes end) placed.circle at i here low absent put')
 
-  pub unlinked : (i : ℕ) → contains i (items_in nodes end) ≡ true → TakesOut (next_in given) (prev_in given) (next_in left) (prev_in left) i
+  pub unlinked : (i : ℕ) → contains i (items_in nodes end) ≡ true → TakesOut (next_of_node given) (prev_in given) (next_of_node left) (prev_in left) i
       → Keeps (take count (left ++ tail)) end (without i (items_in nodes end))
   unlinked i here taken =
-      let taken' = subst (λ ns. TakesOut (next_in ns) (prev_in ns) (next_in left) (prev_in left) i) was taken in
-      keeps_left (without i (items_in nodes end)) (circle_unlink (next_in nodes) (prev_in nodes) (next_in left) (prev_in left) end (items_in nodes end) placed.circle i here taken')
+      let taken' = subst (λ ns. TakesOut (next_of_node ns) (prev_in ns) (next_of_node left) (prev_in left) i) was taken in
+      keeps_left (without i (items_in nodes end)) (circle_unlink (next_of_node nodes) (prev_in nodes) (next_of_node left) (prev_in left) end (items_in nodes end) placed.circle i here taken')

@@ -4,7 +4,7 @@ use Rattle.std.proofs.lemmas.Bool.{false≢true, cases_Bool, both_ways, eq-eqb, 
 use Rattle.std.proofs.lemmas.List.{append_assoc}
 use Rattle.aio_chain.specs.declared.links.Node.{Node}
 use Rattle.aio_chain.specs.LinkList.{contains, IsEachOnce}
-use Rattle.aio_chain.specs.Nodes.{next_in, prev_in, IsPath, walk, IsCircle, items_in, ArePlaced, PutsBetween, TakesOut}
+use Rattle.aio_chain.specs.Nodes.{next_of_node, prev_in, IsPath, walk, IsCircle, items_in, ArePlaced, PutsBetween, TakesOut}
 use Rattle.aio_chain.proofs.Contained.{absent_parts, absent_from, contains-append, contains-insert, contains-middle, eqb-false_comm, once_middle, once_insert, once_remove, once_push, once_left, length-le_room}
 use Rattle.aio_chain.proofs.Paths.{last_of, sources, sources-append, sources-push, Joined, path_parts, path_from, walk-path, SameBut, path_kept}
 
@@ -320,13 +320,13 @@ pub record Keeps (nodes : List Node) (end : ℕ) (items : List ℕ) : Type 0 whe
   pub items_are : items_in nodes end ≡ items
   pub placed : ArePlaced nodes end
 
-pub keeps_from : (nodes : List Node) (end : ℕ) (items : List ℕ) → length nodes ≡ end + 1 → IsCircle (next_in nodes) (prev_in nodes) end items → Keeps nodes end items
+pub keeps_from : (nodes : List Node) (end : ℕ) (items : List ℕ) → length nodes ≡ end + 1 → IsCircle (next_of_node nodes) (prev_in nodes) end items → Keeps nodes end items
 keeps_from nodes end items sized circle =
-    let e : items_in nodes end ≡ items = circle_walks (next_in nodes) (prev_in nodes) end items circle in
+    let e : items_in nodes end ≡ items = circle_walks (next_of_node nodes) (prev_in nodes) end items circle in
     record {
       items_are = e;
       placed = record {
         sized = sized;
-        circle = subst (IsCircle (next_in nodes) (prev_in nodes) end) (sym e) circle;
+        circle = subst (IsCircle (next_of_node nodes) (prev_in nodes) end) (sym e) circle;
       };
     }

@@ -7,8 +7,8 @@ use Rattle.aio_chain.specs.LinkList.{contains, IsEachOnce}
 abbrev pub no_node : Node
 no_node = record { prev = 0; next = 0 }
 
-abbrev pub next_in : List Node → ℕ → ℕ
-next_in nodes i = (slice_index_or nodes i no_node).next
+abbrev pub next_of_node : List Node → ℕ → ℕ
+next_of_node nodes i = (slice_index_or nodes i no_node).next
 
 abbrev pub prev_in : List Node → ℕ → ℕ
 prev_in nodes i = (slice_index_or nodes i no_node).prev
@@ -16,7 +16,7 @@ prev_in nodes i = (slice_index_or nodes i no_node).prev
 -- a node's two neighbours
 pub record PointsAt (nodes : List Node) (i prev next : ℕ) : Type 0 where
   pub back : prev_in nodes i ≡ prev
-  pub on : next_in nodes i ≡ next
+  pub on : next_of_node nodes i ≡ next
 
 module _ (next prev : ℕ → ℕ) where
   -- from an index on, each of these is the next of the one before it
@@ -38,12 +38,12 @@ module _ (next prev : ℕ → ℕ) where
 
 -- the indices in order, from the end on round to it
 abbrev pub items_in : List Node → ℕ → List ℕ
-items_in nodes end = walk (next_in nodes) (prev_in nodes) end end (next_in nodes end)
+items_in nodes end = walk (next_of_node nodes) (prev_in nodes) end end (next_of_node nodes end)
 
 -- these nodes keep a list of indices below the end
 pub record ArePlaced (nodes : List Node) (end : ℕ) : Type 0 where
   pub sized : length nodes ≡ end + 1
-  pub circle : IsCircle (next_in nodes) (prev_in nodes) end (items_in nodes end)
+  pub circle : IsCircle (next_of_node nodes) (prev_in nodes) end (items_in nodes end)
 
 module _ (next prev next' prev' : ℕ → ℕ) where
   -- an index now stands between the one at this place and the one before it

@@ -1,6 +1,6 @@
 ghost use Rattle.std.specs.Prelude.{◌≡◌, ◌≤◌, ◌<◌, ℕ, ◌+◌, ◌++◌, ◌∷◌, [], length, IfOk, IsTrue, IsFalse, if◌then◌else◌, ◌==◌};
 ghost use Rattle.aio_chain.specs.LinkList.{contains, first_of, next_after, put_before, without, IsLinked};
-ghost use Rattle.aio_chain.specs.Nodes.{next_in, prev_in, PointsAt, PutsBetween, TakesOut};
+ghost use Rattle.aio_chain.specs.Nodes.{next_of_node, prev_in, PointsAt, PutsBetween, TakesOut};
 
 use aio_model::NoMemory;
 use std::alloc::{AllocError, Global};
@@ -17,7 +17,7 @@ struct Node {
 fn link(nodes: &mut [Node], first: u32, second: u32)
     requires first_in { first < length nodes.old }
     requires second_in { second < length nodes.old }
-    ensures next { (k : ℕ) → next_in nodes.new k ≡ (if k == first then second else next_in nodes.old k) }
+    ensures next { (k : ℕ) → next_of_node nodes.new k ≡ (if k == first then second else next_of_node nodes.old k) }
     ensures prev { (k : ℕ) → prev_in nodes.new k ≡ (if k == second then first else prev_in nodes.old k) }
 {
     nodes[first as usize].next = second;
@@ -29,7 +29,7 @@ fn insert(nodes: &mut [Node], at: u32, i: u32)
     requires at_in { at < length nodes.old }
     requires before_in { prev_in nodes.old at < length nodes.old }
     requires i_in { i < length nodes.old }
-    ensures { PutsBetween (next_in nodes.old) (prev_in nodes.old) (next_in nodes.new) (prev_in nodes.new) at i }
+    ensures { PutsBetween (next_of_node nodes.old) (prev_in nodes.old) (next_of_node nodes.new) (prev_in nodes.new) at i }
 {
     let before = nodes[at as usize].prev;
     link(nodes, before, i);
@@ -40,8 +40,8 @@ fn insert(nodes: &mut [Node], at: u32, i: u32)
 fn remove(nodes: &mut [Node], i: u32)
     requires i_in { i < length nodes.old }
     requires before_in { prev_in nodes.old i < length nodes.old }
-    requires behind_in { next_in nodes.old i < length nodes.old }
-    ensures { TakesOut (next_in nodes.old) (prev_in nodes.old) (next_in nodes.new) (prev_in nodes.new) i }
+    requires behind_in { next_of_node nodes.old i < length nodes.old }
+    ensures { TakesOut (next_of_node nodes.old) (prev_in nodes.old) (next_of_node nodes.new) (prev_in nodes.new) i }
 {
     let node = nodes[i as usize];
     link(nodes, node.prev, node.next);

@@ -12,7 +12,7 @@ use Rattle.aio_core.specs.HomeState.{are_within}
 use Rattle.aio_core.specs.Known.{Stage, Scan, Sleep, Running, Scanning, Known}
 use Rattle.aio_core.specs.Standing.{is_empty, without_first}
 use Rattle.aio_core.specs.SleepSteps.{scan_of, scan_in, is_scanning, made_after, BeginsScan, ScansNext, ScansFlags}
-use Rattle.aio_core.specs.Scans.{ScanFrom, ScansOn, ScanIsOver, ScanMeets, SameButSleep, LookedAt, Passes, PassesAll, indices_of, IsAhead, FoundNone, FoundUrgent, Scans}
+use Rattle.aio_core.specs.Scans.{ScanFrom, ScansOn, ScanIsOver, ScanMeets, SameButSleep, LookedAt, Passes, PassesAll, indices_loaded, IsAhead, FoundNone, FoundUrgent, Scans}
 use Rattle.aio_core.specs.Plays.{FlagsAreScanned}
 
 within_lifted : (sizes : Sizes) (word : ℕ) (more : List ℕ) (b : Bool) → eqb word 0 ≡ b → word ≤ index_count sizes → are_within sizes more ≡ true → are_within sizes (cond b more (word ∷ more)) ≡ true
@@ -144,7 +144,7 @@ scan_goes_on before words words_after urgent urgent_after idle idle_after v w fr
         none = and_from _ _ (not_from_false _ on.calm) far.none;
         none_yet = on.same ∙ far.none_yet;
         at = on.at;
-        rest = append_assoc (indices_of far.loads) (on.looked.index ∷ []) (scan_in w.sleep).left ∙ ap (λ (l : List ℕ). indices_of far.loads ++ l) (sym on.left) ∙ far.rest;
+        rest = append_assoc (indices_loaded far.loads) (on.looked.index ∷ []) (scan_in w.sleep).left ∙ ap (λ (l : List ℕ). indices_loaded far.loads ++ l) (sym on.left) ∙ far.rest;
       };
     }
 
@@ -159,7 +159,7 @@ scan_ends before words urgent urgent_after idle idle_after v w from ends = ⊎_e
     over is =
         let far = from.so_far in
         let empty_left : (scan_in v.sleep).left ≡ [] = none_left (scan_in v.sleep).left (subst (λ l. is_empty l ≡ is_empty (scan_in v.sleep).left) is.none far.at.left) in
-        let all : indices_of far.loads ≡ stack_of from.begun.seen ++ out_of from.begun.seen = sym (append-nil (indices_of far.loads)) ∙ ap (λ (l : List ℕ). indices_of far.loads ++ l) (sym empty_left) ∙ far.rest in
+        let all : indices_loaded far.loads ≡ stack_of from.begun.seen ++ out_of from.begun.seen = sym (append-nil (indices_loaded far.loads)) ∙ ap (λ (l : List ℕ). indices_loaded far.loads ++ l) (sym empty_left) ∙ far.rest in
         record {
           head = from.head;
           begun = from.begun;

@@ -8,11 +8,11 @@ use Rattle.aio_model.specs.Loop.History.{EnqueueAsks}
 use Rattle.aio_model.specs.Loop.Flags.{is_once}
 use Rattle.aio_model.proofs.FlagsWords.{flags_in-word_of}
 use Rattle.aio_core.specs.Known.{Known}
-use Rattle.aio_core.specs.Standing.{asked_by, mask_of, Enqueues, Dequeues}
+use Rattle.aio_core.specs.Standing.{asks_of_kind, mask_of, Enqueues, Dequeues}
 use Rattle.aio_core.specs.Plays.{Enqueued, Dequeued}
 use Rattle.aio_core.proofs.Masks.{asked_with-mask_of}
 
-pub asked_is_of_handle : (kind : asking.Kind) → is_once (asked_by kind) ≡ false
+pub asked_is_of_handle : (kind : asking.Kind) → is_once (asks_of_kind kind) ≡ false
 asked_is_of_handle Sched = refl
 asked_is_of_handle Idle = refl
 asked_is_of_handle Del = refl

@@ -35,9 +35,9 @@ none_urgent [] = true
 none_urgent (looked ∷ older) = not (are_urgent looked.flags) && none_urgent older
 
 -- the indices, in the order in which they were loaded
-abbrev pub indices_of : List LookedAt → List ℕ
-indices_of [] = []
-indices_of (looked ∷ older) = indices_of older ++ looked.index ∷ []
+abbrev pub indices_loaded : List LookedAt → List ℕ
+indices_loaded [] = []
+indices_loaded (looked ∷ older) = indices_loaded older ++ looked.index ∷ []
 
 -- A home in a scan, with these words ahead.
 pub record IsAhead (words : List ℕ) (known : Known) : Type 0 where
@@ -48,7 +48,7 @@ pub record IsAhead (words : List ℕ) (known : Known) : Type 0 where
 
 -- all that was in the stack and out at the head load was loaded, and none of it was urgent
 pub record FoundNone (begun : Known) (loads : List LookedAt) (after : Known) : Type 0 where
-  pub all : indices_of loads ≡ stack_of begun.seen ++ out_of begun.seen
+  pub all : indices_loaded loads ≡ stack_of begun.seen ++ out_of begun.seen
   pub none : none_urgent loads ≡ true
   pub scanned : IsAhead [] after
 
@@ -85,7 +85,7 @@ pub record ScanSoFar (begun : Known) (words : List ℕ) (urgent : Option ℕ) (i
   pub none : none_urgent loads ≡ true
   pub none_yet : urgent ≡ None
   pub at : IsAhead words known
-  pub rest : indices_of loads ++ (scan_in known.sleep).left ≡ stack_of begun.seen ++ out_of begun.seen
+  pub rest : indices_loaded loads ++ (scan_in known.sleep).left ≡ stack_of begun.seen ++ out_of begun.seen
 
 pub record ScanFrom (before : Known) (words : List ℕ) (urgent : Option ℕ) (idle : Bool) (known : Known) : Type 0 where
   pub head : ℕ

@@ -1,6 +1,6 @@
 -- How what a seat knows is cut in two.
 use Rattle.std.specs.Prelude.{ℕ, ◌+◌, ◌-◌, [], None}
-use Rattle.table_seats.specs.Dividing.{front_part, back_part, half_of}
+use Rattle.table_seats.specs.Dividing.{front_part, back_part, half_as_many}
 use Rattle.aio_model.specs.Loop.Lists.{seat_of}
 use Rattle.aio_model.specs.Loop.InFlight.{AtRest}
 use Rattle.aio_core.specs.Known.{Known, calmed, part_of}
@@ -23,7 +23,7 @@ abbrev pub home_known : Known → Known
 home_known = back_known 64
 
 abbrev pub first_half : Known → Known
-first_half known = front_known (known.count - half_of known.count) known
+first_half known = front_known (known.count - half_as_many known.count) known
 
 abbrev pub last_half : Known → Known
-last_half known = back_known (known.count - half_of known.count) known
+last_half known = back_known (known.count - half_as_many known.count) known

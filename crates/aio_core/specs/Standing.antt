@@ -14,10 +14,10 @@ use Rattle.aio_core.specs.Words.{head_at, notified_at, notify_me_at, notifier_at
 use Rattle.aio_core.specs.Known.{Kind, EnqueueFetchOr, HeadLoad, NextStore, HeadCompare, TakeSwap, NextLoad, DequeueFetchAnd, CancelFetchAnd, NotifiedStore, NotifyMeLoad, NotifierSwap, LotClaimCompare, LotFreeStore, Done, Known, part_of}
 
 -- what a call of this kind asks
-abbrev pub asked_by : asking.Kind → EnqueueAsks
-asked_by Sched = ToCall
-asked_by Idle = ToCallIdle
-asked_by Del = ToDelete
+abbrev pub asks_of_kind : asking.Kind → EnqueueAsks
+asks_of_kind Sched = ToCall
+asks_of_kind Idle = ToCallIdle
+asks_of_kind Del = ToDelete
 
 -- the bits that an enqueue sets
 abbrev pub mask_of : EnqueueAsks → ℕ

@@ -5,7 +5,7 @@ ghost use Rattle.aio_model.specs.Loop.FlagsWord.{word_of};
 ghost use Rattle.aio_model.specs.Loop.InFlight.{AtRest, Announced as announced, HeadLoaded, Linked};
 ghost use Rattle.aio_model.specs.Loop.Flags.{is_once};
 ghost use Rattle.aio_core.specs.Words.{index_count};
-ghost use Rattle.aio_core.specs.Standing.{asked_by, mask_of, Enqueues, Aims, Pushes, Misses};
+ghost use Rattle.aio_core.specs.Standing.{asks_of_kind, mask_of, Enqueues, Aims, Pushes, Misses};
 ghost use Rattle.aio_core.specs.Plays.{Enqueued, HeadIsLoaded, NextIsStored};
 ghost use Rattle.aio_core.specs.Calls.{IsSeatOf, IsMissed};
 
@@ -19,7 +19,7 @@ use aio_model::{Flags, Kind};
 
 /// The bits that a call of this kind sets.
 fn mask(kind: Kind) -> u64
-    ensures { result ≡ mask_of (asked_by kind) }
+    ensures { result ≡ mask_of (asks_of_kind kind) }
 {
     match kind {
         Kind::Sched => Flags::PENDING | Flags::SCHEDULED,
@@ -33,9 +33,9 @@ impl<J: Job> LoopTable<J> {
         requires seat { IsSeatOf self.now seat.old }
         requires rest { seat.old.known.phase ≡ AtRest }
         requires handle { bh < self.now.sizes.handles }
-        requires mask { mask ≡ mask_of (asked_by kind) }
+        requires mask { mask ≡ mask_of (asks_of_kind kind) }
         ensures seat { IsSeatOf self.now seat.new }
-        ensures step { Enqueued bh (mask_of (asked_by kind)) result seat.old.known seat.new.known }
+        ensures step { Enqueued bh (mask_of (asks_of_kind kind)) result seat.old.known seat.new.known }
     {
         self.table
             .shared
@@ -81,7 +81,7 @@ impl<J: Job> LoopTable<J> {
         requires rest { seat.old.known.phase ≡ AtRest }
         requires handle { bh < self.now.sizes.handles }
         ensures seat { IsSeatOf self.now seat.new }
-        ensures step { Enqueues bh (asked_by kind) result.0 seat.old.known seat.new.known }
+        ensures step { Enqueues bh (asks_of_kind kind) result.0 seat.old.known seat.new.known }
         ensures owed { MatchOption result.1 (result.0.pending ≡ true) (λ owed. (result.0.pending ≡ false) × (owed ≡ bh)) }
     {
         let found = self.set_flags(seat, bh, kind, mask(kind));

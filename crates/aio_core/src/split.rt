@@ -2,7 +2,7 @@
 ghost use Rattle.std.specs.Prelude.{◌≡◌, ◌<◌, ◌+◌, ◌-◌, ◌/◌, MatchOption};
 ghost use Rattle.aio_model.specs.Loop.InFlight.{AtRest};
 ghost use Rattle.table_seats.specs.Seats.{longer_of};
-ghost use Rattle.table_seats.specs.Dividing.{half_of};
+ghost use Rattle.table_seats.specs.Dividing.{half_as_many};
 ghost use Rattle.aio_core.specs.Splitting.{front_known, back_known};
 ghost use Rattle.aio_core.specs.Joining.{joined_known, told_of, IsJoined};
 ghost use Rattle.aio_core.specs.Calls.{IsSeatOf};
@@ -19,8 +19,8 @@ impl<J: Job> LoopTable<J> {
         requires many { 1 < seat.old.known.count }
         ensures seat { IsSeatOf self.now seat.new }
         ensures other { IsSeatOf self.now result }
-        ensures first { seat.new.known ≡ front_known (seat.old.known.count - half_of seat.old.known.count) seat.old.known }
-        ensures last { result.known ≡ back_known (seat.old.known.count - half_of seat.old.known.count) seat.old.known }
+        ensures first { seat.new.known ≡ front_known (seat.old.known.count - half_as_many seat.old.known.count) seat.old.known }
+        ensures last { result.known ≡ back_known (seat.old.known.count - half_as_many seat.old.known.count) seat.old.known }
     {
         let last = seat.count / 2;
         seat.count -= last;
@@ -34,7 +34,7 @@ impl<J: Job> LoopTable<J> {
         requires seat { IsSeatOf self.now seat.old }
         requires rest { seat.old.known.phase ≡ AtRest }
         ensures seat { IsSeatOf self.now seat.new }
-        ensures split { MatchOption result ((seat.old.known.count ≡ 1) × (seat.new ≡ seat.old)) (λ other. (1 < seat.old.known.count) × IsSeatOf self.now other × (seat.new.known ≡ front_known (seat.old.known.count - half_of seat.old.known.count) seat.old.known) × (other.known ≡ back_known (seat.old.known.count - half_of seat.old.known.count) seat.old.known)) }
+        ensures split { MatchOption result ((seat.old.known.count ≡ 1) × (seat.new ≡ seat.old)) (λ other. (1 < seat.old.known.count) × IsSeatOf self.now other × (seat.new.known ≡ front_known (seat.old.known.count - half_as_many seat.old.known.count) seat.old.known) × (other.known ≡ back_known (seat.old.known.count - half_as_many seat.old.known.count) seat.old.known)) }
     {
         if seat.count() == 1 {
             return None;

@@ -3,16 +3,16 @@ use Rattle.std.proofs.Common.{◌≡◌, ℕ, ◌+◌, Bool, true, false, ◌&&�
 use Rattle.aio_model.specs.declared.handlers.calls.HandlerCall.{HandlerCall}
 use Rattle.aio_model.specs.declared.handlers.calls.HandlerCall.TheVariants.{Add, Remove, WalkBegin, Give}
 use Rattle.aio_model.specs.declared.handlers.calls.Handler.{Handler}
-use Rattle.aio_model.specs.Handlers.Calls.{named, others, has_event, live, marked, is_walking}
+use Rattle.aio_model.specs.Handlers.Calls.{named, others, has_event, live, removed_in_walk, is_walking}
 use Rattle.aio_handlers.specs.StandsFor.{HandlerList, StandsFor}
 
 -- how many are marked after a removal
 abbrev pub marked_after : Bool → Option Handler → ℕ → ℕ
-marked_after walking handler marked = cond (walking && is_some handler) (marked + 1) marked
+marked_after walking handler removed_in_walk = cond (walking && is_some handler) (removed_in_walk + 1) removed_in_walk
 
-pub marked_none : (walking : Bool) (marked : ℕ) → marked_after walking None marked ≡ marked
-marked_none true marked = refl
-marked_none false marked = refl
+pub marked_none : (walking : Bool) (removed_in_walk : ℕ) → marked_after walking None removed_in_walk ≡ removed_in_walk
+marked_none true removed_in_walk = refl
+marked_none false removed_in_walk = refl
 
 module _ (old new : HandlerList) (calls : List HandlerCall) (stands : StandsFor old calls) where
   pub stands_added : (id event tag : ℕ) → new.count ≡ old.count + 1 → new.live ≡ old.live ++ record { id = id; event = event; tag = tag } ∷ []

@@ -2,7 +2,7 @@
 use Rattle.std.proofs.Common.{◌≡◌, ℕ, Bool, true, false, cond, ◌||◌, eqb, List, [], ◌∷◌, ◌++◌, drop, refl, sym, ap, ◌∙◌, append_assoc}
 use Rattle.std.proofs.lemmas.Bool.{eq-eqb}
 use Rattle.aio_model.specs.declared.coroutines.causes.Cause.{Cause}
-use Rattle.aio_model.specs.Coroutines.History.{Schedule, Push, Enter, History, CoPlace, Free, Scheduled, Pushed, pushed, place_of, queue_of, IsLegal}
+use Rattle.aio_model.specs.Coroutines.History.{Schedule, Push, Enter, History, CoPlace, Free, Scheduled, Pushed, pushed, co_place_of, queue_of, IsLegal}
 use Rattle.aio_model.specs.Coroutines.Laws.{entered_of, IsInOrder, enters, some_entry, IsEnteredBetween}
 use Rattle.aio_model.proofs.Indices.{drop-head}
 
@@ -41,16 +41,16 @@ entered_on true rest p none older = absurd cc
 entered_on false rest p none older = older none
 
 -- what isn't entered stays scheduled or pushed
-still_there : (between older : History) (c s : ℕ) (cause : Cause) (g : Bool) → some_entry (enters c) between ≡ false → is_free (place_of c (between ++ (Schedule c cause g s ∷ older))) ≡ false
+still_there : (between older : History) (c s : ℕ) (cause : Cause) (g : Bool) → some_entry (enters c) between ≡ false → is_free (co_place_of c (between ++ (Schedule c cause g s ∷ older))) ≡ false
 still_there [] older c s cause g none =
     let here : eqb c c ≡ true = eq-eqb c c refl in
     rw here refl
 still_there (Schedule d why a t ∷ between) older c s cause g none =
-    scheduled_on (eqb c d) t a (place_of c (between ++ (Schedule c cause g s ∷ older))) (still_there between older c s cause g none)
+    scheduled_on (eqb c d) t a (co_place_of c (between ++ (Schedule c cause g s ∷ older))) (still_there between older c s cause g none)
 still_there (Push d t ∷ between) older c s cause g none =
-    pushed_on (eqb c d) (place_of c (between ++ (Schedule c cause g s ∷ older))) (still_there between older c s cause g none)
+    pushed_on (eqb c d) (co_place_of c (between ++ (Schedule c cause g s ∷ older))) (still_there between older c s cause g none)
 still_there (Enter d ∷ between) older c s cause g none =
-    entered_on (eqb c d) (some_entry (enters c) between) (place_of c (between ++ (Schedule c cause g s ∷ older))) none (still_there between older c s cause g)
+    entered_on (eqb c d) (some_entry (enters c) between) (co_place_of c (between ++ (Schedule c cause g s ∷ older))) none (still_there between older c s cause g)
 
 pub entered_between : IsEnteredBetween
 entered_between n newer between older c second first g2 g1 s2 s1 legal =

@@ -1,3 +1,4 @@
+pub mod Counts
 pub mod Serving
 pub mod Scripts
 pub mod Loop

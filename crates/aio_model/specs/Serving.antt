@@ -4,7 +4,6 @@
 
 pub mod Asked
 pub mod SerialHistory
-
 use Rattle.std.specs.Prelude.{◌≡◌, ℕ, ◌+◌, ◌%◌, ◌<◌, ◌≤◌, List, ◌++◌, length, take, drop, replicate, Option, IfSome}
 use Rattle.aio_model.specs.declared.serving.requests.Request.{Request}
 use Rattle.aio_model.specs.declared.serving.requests.Request.TheVariants.{Read, Write, Zero, Flush}

@@ -6,7 +6,7 @@ use lib.ListN.{get_elem?}
 use Rattle.aio_model.specs.declared.coroutines.causes.Cause.TheVariants.{Begin}
 use Rattle.aio_model.specs.declared.scripts.image_scripts.Stream.{Stream as StreamLine}
 use Rattle.aio_model.specs.Coroutines.History.{Schedule, Push, History}
-use Rattle.co_schedule.specs.Standing.{was_scheduled}
+use Rattle.co_schedule.specs.Standing.{was_scheduled_by}
 use Rattle.loop_rows.specs.declared.seats.Seats.{Seats}
 use Rattle.co_schedule.proofs.Unmarked.{unmarked}
 use Rattle.loop_rows.specs.declared.shared.LoopShared.{LoopShared}
@@ -18,13 +18,13 @@ use Rattle.stream_ends.specs.Images.{homes_of}
 use Rattle.aio_run.specs.Posting.{begun_on, HaveBegun}
 
 -- those from this number on were never scheduled
-pub never_yet : (many : ℕ) (homes : List ℕ) (loop c : ℕ) → many ≤ c → was_scheduled c (begun_on many homes loop) ≡ false
+pub never_yet : (many : ℕ) (homes : List ℕ) (loop c : ℕ) → many ≤ c → was_scheduled_by c (begun_on many homes loop) ≡ false
 never_yet zero homes loop c le = refl
 never_yet (suc k) homes loop c le =
     by (eqb (slice_index homes k) loop) (ne_eqb c k (λ e. omega (arith, le, e))) (never_yet k homes loop c (omega (arith, le)))
   where
-    by : (b : Bool) → eqb c k ≡ false → was_scheduled c (begun_on k homes loop) ≡ false
-        → was_scheduled c (cond b (Push k 0 ∷ Schedule k Begin true 0 ∷ begun_on k homes loop) (begun_on k homes loop)) ≡ false
+    by : (b : Bool) → eqb c k ≡ false → was_scheduled_by c (begun_on k homes loop) ≡ false
+        → was_scheduled_by c (cond b (Push k 0 ∷ Schedule k Begin true 0 ∷ begun_on k homes loop) (begun_on k homes loop)) ≡ false
     by true other older = rw other older
     by false other older = older
 
@@ -64,7 +64,7 @@ module _ {C O : Type 0} (shared : List (LoopShared C O)) (row : Row C O) (is : I
   post_makes co after does b a =
       (does b a).scheduled.stands.stands.mine_grows ∙ ap (λ (n : ℕ). Push co n ∷ Schedule co Begin true n ∷ (slice_index_or row.seats.items to b).coroutines.known.mine) (first_is b)
 
-  pub post_finds : (co mark : ℕ) (after : List (Seats C O)) → ((s : Seats C O) → was_scheduled co (slice_index_or row.seats.items to s).coroutines.known.mine ≡ false) → DoesAt to (FindsMarked co mark) row.seats.items after → ⊥
+  pub post_finds : (co mark : ℕ) (after : List (Seats C O)) → ((s : Seats C O) → was_scheduled_by co (slice_index_or row.seats.items to s).coroutines.known.mine ≡ false) → DoesAt to (FindsMarked co mark) row.seats.items after → ⊥
   post_finds co mark after never does =
       let s = at_place row.seats.items to (omega (arith, below, is.long)) in
       let finds = does s s in

@@ -3,7 +3,7 @@ use Rattle.std.proofs.Common.{◌≡◌, ℕ, ◌<◌, ◌≤◌, Bool, true, fa
 use Rattle.std.proofs.lemmas.Bool.{eqb-true, ne_eqb, cases_lt}
 use mathlib.Core.Logic.{⊎_elim}
 use Rattle.aio_model.specs.declared.coroutines.causes.Cause.{Cause}
-use Rattle.aio_model.specs.Coroutines.History.{Schedule, Push, Enter, History, CoPlace, Free, Scheduled, Pushed, pushed, place_of, IsLegal}
+use Rattle.aio_model.specs.Coroutines.History.{Schedule, Push, Enter, History, CoPlace, Free, Scheduled, Pushed, pushed, co_place_of, IsLegal}
 use Rattle.co_schedule.proofs.Histories.{first_is_pushed}
 use Rattle.aio_run.specs.Serving.{entries_for, AreEntered}
 
@@ -30,52 +30,52 @@ when_entered c d seat given p entries at was =
     let held : StandSo c (Pushed seat given) entries = subst (λ (q : CoPlace). StandSo c q entries) at was in
     subst (λ (l : History). AreEntered (Enter d ∷ l)) (sym held.2) (refl, held.3)
 
-stands : (n c : ℕ) (h : History) → IsLegal n h → StandSo c (place_of c h) (entries_for c h)
+stands : (n c : ℕ) (h : History) → IsLegal n h → StandSo c (co_place_of c h) (entries_for c h)
 stands n c [] legal = tt
 stands n c (Schedule d cause given seat ∷ older) legal =
-    chosen c (eqb c d) (Scheduled seat given) (place_of c older) (Schedule d cause given seat ∷ entries_for c older) (entries_for c older)
+    chosen c (eqb c d) (Scheduled seat given) (co_place_of c older) (Schedule d cause given seat ∷ entries_for c older) (entries_for c older)
     (λ same.
     let is : c ≡ d = eqb-true c d same in (
       cause,
       entries_for c older,
       ap (λ (e : ℕ). Schedule e cause given seat ∷ entries_for c older) (sym is),
-      subst (λ (p : CoPlace). StandSo c p (entries_for c older)) (ap (λ (e : ℕ). place_of e older) is ∙ legal.0.1) (stands n c older legal.1),
+      subst (λ (p : CoPlace). StandSo c p (entries_for c older)) (ap (λ (e : ℕ). co_place_of e older) is ∙ legal.0.1) (stands n c older legal.1),
     ))
     (λ other. stands n c older legal.1)
 stands n c (Push d seat ∷ older) legal =
-    chosen c (eqb c d) (pushed (place_of c older)) (place_of c older) (Push d seat ∷ entries_for c older) (entries_for c older)
+    chosen c (eqb c d) (pushed (co_place_of c older)) (co_place_of c older) (Push d seat ∷ entries_for c older) (entries_for c older)
     (λ same.
     let is : c ≡ d = eqb-true c d same in
-    when_pushed c d seat legal.0.0 (place_of c older) (entries_for c older) is (ap (λ (e : ℕ). place_of e older) is ∙ legal.0.1) (stands n c older legal.1))
+    when_pushed c d seat legal.0.0 (co_place_of c older) (entries_for c older) is (ap (λ (e : ℕ). co_place_of e older) is ∙ legal.0.1) (stands n c older legal.1))
     (λ other. stands n c older legal.1)
 stands n c (Enter d ∷ older) legal =
-    chosen c (eqb c d) Free (place_of c older) (Enter d ∷ entries_for c older) (entries_for c older)
+    chosen c (eqb c d) Free (co_place_of c older) (Enter d ∷ entries_for c older) (entries_for c older)
     (λ same.
     let is : c ≡ d = eqb-true c d same in
     let first = first_is_pushed n older d legal.1 legal.0 in
-    when_entered c d first.0 first.1 (place_of c older) (entries_for c older) (ap (λ (e : ℕ). place_of e older) is ∙ first.2) (stands n c older legal.1))
+    when_entered c d first.0 first.1 (co_place_of c older) (entries_for c older) (ap (λ (e : ℕ). co_place_of e older) is ∙ first.2) (stands n c older legal.1))
     (λ other. stands n c older legal.1)
 
 -- nothing is scheduled of a coroutine that there isn't
-beyond : (n c : ℕ) (h : History) → IsLegal n h → n ≤ c → place_of c h ≡ Free
+beyond : (n c : ℕ) (h : History) → IsLegal n h → n ≤ c → co_place_of c h ≡ Free
 beyond n c [] legal le = refl
 beyond n c (Schedule d cause given seat ∷ older) legal le =
     let apart : eqb c d ≡ false = ne_eqb c d (λ e. omega (arith, le, e, legal.0.0)) in
-    ap (λ (b : Bool). cond b (Scheduled seat given) (place_of c older)) apart ∙ beyond n c older legal.1 le
+    ap (λ (b : Bool). cond b (Scheduled seat given) (co_place_of c older)) apart ∙ beyond n c older legal.1 le
 beyond n c (Push d seat ∷ older) legal le =
     let was = beyond n c older legal.1 le in by (eqb c d) was
   where
-    by : (b : Bool) → place_of c older ≡ Free → cond b (pushed (place_of c older)) (place_of c older) ≡ Free
+    by : (b : Bool) → co_place_of c older ≡ Free → cond b (pushed (co_place_of c older)) (co_place_of c older) ≡ Free
     by true at = ap pushed at
     by false at = at
 beyond n c (Enter d ∷ older) legal le = by (eqb c d) (beyond n c older legal.1 le)
   where
-    by : (b : Bool) → place_of c older ≡ Free → cond b Free (place_of c older) ≡ Free
+    by : (b : Bool) → co_place_of c older ≡ Free → cond b Free (co_place_of c older) ≡ Free
     by true at = refl
     by false at = at
 
 -- in a legal history in which nothing is left
-pub all_entered : (n : ℕ) (h : History) → IsLegal n h → ((c : ℕ) → c < n → place_of c h ≡ Free) → (c : ℕ) → AreEntered (entries_for c h)
+pub all_entered : (n : ℕ) (h : History) → IsLegal n h → ((c : ℕ) → c < n → co_place_of c h ≡ Free) → (c : ℕ) → AreEntered (entries_for c h)
 all_entered n h legal free c =
-    let at : place_of c h ≡ Free = ⊎_elim (λ (low : c < n). free c low) (λ (high : n ≤ c). beyond n c h legal high) (cases_lt c n) in
+    let at : co_place_of c h ≡ Free = ⊎_elim (λ (low : c < n). free c low) (λ (high : n ≤ c). beyond n c h legal high) (cases_lt c n) in
     subst (λ (p : CoPlace). StandSo c p (entries_for c h)) at (stands n c h legal)

@@ -23,5 +23,5 @@ abbrev pub has_asked : {C K O : Type 0} → List (LoopRun C (CoWork C K O) O) �
 has_asked runs = list_any (λ run. run.work.crew.quits) runs
 
 -- the two histories of a run
-abbrev pub end_of : {C W O : Type 0} → LoopRun C W O → RunEnd C O
-end_of run = record { calls = run.calls; coroutines = run.coroutines }
+abbrev pub end_of_run : {C W O : Type 0} → LoopRun C W O → RunEnd C O
+end_of_run run = record { calls = run.calls; coroutines = run.coroutines }

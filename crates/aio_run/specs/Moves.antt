@@ -24,5 +24,5 @@ module _ {C O : Type 0} where
     pub each : (k : ℕ) (end : RunEnd C O) → k < script.loops → HasServed script k (slice_index_or ends k end).coroutines.history
 
 -- a count that stays at the greatest u32
-abbrev pub counted : ℕ → ℕ
-counted n = min n (2 ^ 32 - 1)
+abbrev pub count_of_moves : ℕ → ℕ
+count_of_moves n = min n (2 ^ 32 - 1)

@@ -1,8 +1,8 @@
 //! How often coroutines moved from loop to loop in a run.
 ghost use Rattle.std.specs.Prelude.{◌≡◌, length};
 ghost use Rattle.aio_script.specs.Bounds.{IsBounded};
-ghost use Rattle.co_schedule.specs.States.{counted as held};
-ghost use Rattle.aio_run.specs.Moves.{HaveServed, begun_in, counted, moved_in, states_in};
+ghost use Rattle.co_schedule.specs.States.{count_of_moves as held};
+ghost use Rattle.aio_run.specs.Moves.{HaveServed, begun_in, count_of_moves, moved_in, states_in};
 
 use crate::RunEnd;
 use aio_model::Script;
@@ -21,7 +21,7 @@ fn states_in<C: Origin>(loops: &[RunEnd<C>]) -> u64
 
 /// A count that stays at the greatest u32.
 fn at_most_u32(count: u64) -> u32
-    ensures { result ≡ counted count }
+    ensures { result ≡ count_of_moves count }
 {
     if count < u64::from(u32::MAX) {
         count as u32
@@ -35,7 +35,7 @@ fn at_most_u32(count: u64) -> u32
 pub fn moves_in<C: Origin>(script: &Script, loops: &[RunEnd<C>]) -> u32
     requires bounded { IsBounded script.now }
     requires served { HaveServed script.now loops.now }
-    ensures moved { result ≡ counted (moved_in loops.now) }
+    ensures moved { result ≡ count_of_moves (moved_in loops.now) }
     ensures begun { begun_in loops.now ≡ length script.now.streams }
 {
     let streams = script.streams.as_slice().len() as u64;

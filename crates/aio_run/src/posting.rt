@@ -3,7 +3,7 @@ ghost use Rattle.std.specs.Prelude.{◌≡◌, ◌<◌, ◌≤◌, ◌+◌, ◌�
 ghost use Rattle.aio_model.specs.declared.coroutines.causes.Cause.TheVariants.{Begin};
 ghost use Rattle.aio_model.specs.Coroutines.History.{Schedule, Push};
 ghost use Rattle.co_loop.specs.Rows.{AreOfOrigin};
-ghost use Rattle.co_schedule.specs.Standing.{was_scheduled};
+ghost use Rattle.co_schedule.specs.Standing.{was_scheduled_by};
 ghost use Rattle.img_streams.specs.Streams.{IsStreamAt, source};
 ghost use Rattle.loop_rows.specs.declared.shared.LoopShared.{LoopShared};
 ghost use Rattle.loop_rows.specs.declared.seats.Seats.{Seats};
@@ -35,7 +35,7 @@ fn post_one<D: Device, R: Wait>(
     requires to { to < length shared.now }
     requires below { (t : LoopShared _ _) → co < (slice_index_or shared.now to t).coroutines.coroutines }
     requires of { (t : LoopShared _ _) → IsStreamAt D.bytes co stream (slice_index_or shared.now to t).coroutines.origin }
-    requires fresh { (s : Seats _ _) → was_scheduled co (slice_index_or row.old.seats.items to s).coroutines.known.mine ≡ false }
+    requires fresh { (s : Seats _ _) → was_scheduled_by co (slice_index_or row.old.seats.items to s).coroutines.known.mine ≡ false }
     ensures row { IsRow shared.now row.new × HasNumbers 0 64 row.new }
     ensures others { OthersStay to row.old.seats.items row.new.seats.items }
     ensures made { (b a : Seats _ _) → (slice_index_or row.new.seats.items to a).coroutines.known.mine ≡ Push co 0 ∷ Schedule co Begin true 0 ∷ (slice_index_or row.old.seats.items to b).coroutines.known.mine }

@@ -18,7 +18,7 @@ ghost use Rattle.stream_ends.specs.Images.{device_behind, homes_of};
 ghost use Rattle.stream_ends.specs.Stops.{HaveStopped, IsScriptServed};
 ghost use Rattle.aio_run.specs.Berths.{BerthsAreOf, AreBerthed};
 ghost use Rattle.aio_run.specs.declared.running.RunEnd.{RunEnd};
-ghost use Rattle.aio_run.specs.Ends.{IsOver, end_of};
+ghost use Rattle.aio_run.specs.Ends.{IsOver, end_of_run};
 ghost use Rattle.aio_run.specs.Posting.{HaveBegunAlone, HaveCoroutines, HaveSet, HaveSizes};
 ghost use Rattle.aio_run.specs.Readiness.{AreQuiet, ArePosted, HaveEntered, HasPostedAll, coroutines_of};
 ghost use Rattle.aio_run.specs.Serving.{HasServed};
@@ -97,7 +97,7 @@ fn end_one<D: Device, K: Drop, R: Wait>(
     requires ended { BerthsAreOf D.bytes script.now lock.now run.work.crew.ended.items }
     requires berths { AreBerthed D.bytes script.now lock.now berths.old.items }
     ensures berths { AreBerthed D.bytes script.now lock.now berths.new.items }
-    ensures ends { result ≡ end_of run }
+    ensures ends { result ≡ end_of_run run }
 {
     let LoopRun {
         calls,
@@ -123,7 +123,7 @@ fn end_loops<D: Device, K: Drop, R: Wait>(
     requires berths { AreBerthed D.bytes script.now lock.now berths.old.items }
     requires room { (ends.old.items ≡ []) × (length runs.items ≤ vec_capacity ends.old) }
     ensures berths { AreBerthed D.bytes script.now lock.now berths.new.items }
-    ensures kept { ends.new.items ≡ map end_of runs.items }
+    ensures kept { ends.new.items ≡ map end_of_run runs.items }
 {
     let mut runs = VecDeque::from_vec(runs);
     while let Some(run) = runs.pop_front() {
@@ -153,7 +153,7 @@ fn gather<D: Device, K: Drop, R: Wait>(
     requires streams { (streams.items ≡ []) × (length script.now.streams ≤ vec_capacity streams) }
     requires ends { (ends.items ≡ []) × (length runs.items ≤ vec_capacity ends) }
     ensures streams { HaveStopped D.bytes script.now lock.now result.streams.items }
-    ensures kept { result.ends.items ≡ map end_of runs.items }
+    ensures kept { result.ends.items ≡ map end_of_run runs.items }
 {
     end_loops(rt, lock, script, runs, &mut berths, &mut ends);
     Gathered {

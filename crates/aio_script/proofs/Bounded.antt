@@ -13,7 +13,7 @@ use Rattle.aio_script.specs.declared.refusals.ScriptFail.{ScriptFail}
 use Rattle.aio_script.specs.declared.said.Said.{Said}
 use Rattle.aio_script.specs.declared.said.Said.TheVariants.{Declares, Does}
 use Rattle.aio_script.specs.Bounds.{AreApart, IsAtHome, IsBounded, IsWithin}
-use Rattle.aio_script.specs.Grammar.{◌>>=◌, all_said, begins, counted, counts_of, declared, done, formed, has_stream, header_at, loops_below, present, said_at, script_below, script_lines, script_said, steps_in, streams_in, within, words_at}
+use Rattle.aio_script.specs.Grammar.{◌>>=◌, all_said, begins_with_name, in_number_range, counts_of, declared, step_done, formed, has_stream, header_at, loops_below, present, said_at, script_below, script_lines, script_said, steps_in, streams_in, within, words_at}
 use Rattle.aio_script.specs.Lines.{Numbered, significant}
 use Rattle.aio_script.specs.Forms.{header_form}
 use Rattle.aio_script.specs.Text.{number_of}
@@ -114,7 +114,7 @@ all_said-good loops (numbered ∷ lines) above said good e =
     let OfStreams : List Stream → Type 0 = λ ss. AreGood loops ss (steps_in above ++ steps_in (one ∷ [])) in
     let OfSteps : List Step → Type 0 = λ ss. AreGood loops (streams_in (above ++ one ∷ [])) ss in
     let first = subst OfStreams (sym (filter_map-append declared above (one ∷ []))) more in
-    let second = subst OfSteps (sym (filter_map-append done above (one ∷ []))) first in
+    let second = subst OfSteps (sym (filter_map-append step_done above (one ∷ []))) first in
     all_said-good loops lines (above ++ one ∷ []) said second first_line.2
 
 ids_below : (loops : ℕ) (streams : List Stream) → AllByRecursion (IsAtHome loops) streams
@@ -138,10 +138,10 @@ passed line false m n e = cc e
 header_at-within : (name : List ℕ) (least most : ℕ) (numbered : Numbered) (n : ℕ) → header_at name least most numbered ≡ Ok n → (least ≤ n) × (n ≤ most)
 header_at-within name least most numbered n e =
     let line = numbered.number in
-    let a = followed (words_at numbered) (λ words. present (begins name words) >>= λ there. formed line (header_form name words) >>= λ word. counted line (number_of word) >>= λ m. within line (nat_le least m && nat_le m most) >>= λ small. Ok m) n e in
-    let b = followed (present (begins name a.0)) (λ there. formed line (header_form name a.0) >>= λ word. counted line (number_of word) >>= λ m. within line (nat_le least m && nat_le m most) >>= λ small. Ok m) n a.2 in
-    let c = followed (formed line (header_form name a.0)) (λ word. counted line (number_of word) >>= λ m. within line (nat_le least m && nat_le m most) >>= λ small. Ok m) n b.2 in
-    let d = followed (counted line (number_of c.0)) (λ m. within line (nat_le least m && nat_le m most) >>= λ small. Ok m) n c.2 in
+    let a = followed (words_at numbered) (λ words. present (begins_with_name name words) >>= λ there. formed line (header_form name words) >>= λ word. in_number_range line (number_of word) >>= λ m. within line (nat_le least m && nat_le m most) >>= λ small. Ok m) n e in
+    let b = followed (present (begins_with_name name a.0)) (λ there. formed line (header_form name a.0) >>= λ word. in_number_range line (number_of word) >>= λ m. within line (nat_le least m && nat_le m most) >>= λ small. Ok m) n a.2 in
+    let c = followed (formed line (header_form name a.0)) (λ word. in_number_range line (number_of word) >>= λ m. within line (nat_le least m && nat_le m most) >>= λ small. Ok m) n b.2 in
+    let d = followed (in_number_range line (number_of c.0)) (λ m. within line (nat_le least m && nat_le m most) >>= λ small. Ok m) n c.2 in
     let f = passed line (nat_le least d.0 && nat_le d.0 most) d.0 n d.2 in
     let g = and_parts (nat_le least d.0) (nat_le d.0 most) f.0 in
     (omega (arith, leb-true least d.0 g.0, f.1), omega (arith, leb-true d.0 most g.1, f.1))

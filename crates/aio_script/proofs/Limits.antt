@@ -15,7 +15,7 @@ use Rattle.aio_script.specs.Text.{number_of, data_of}
 use Rattle.aio_script.specs.Forms.{Form, declare, read, write, zeroing, flush, delay, move, form_of}
 use Rattle.aio_script.specs.Lines.{Numbered}
 use Rattle.aio_script.specs.Bounds.{AsksLittle, IsAtHome, IsWithin}
-use Rattle.aio_script.specs.Grammar.{◌>>=◌, bytes_moved, counted, formed, fresh, has_pause, has_room, has_stream, known, said_at, said_of, step_of, within, words_at}
+use Rattle.aio_script.specs.Grammar.{◌>>=◌, bytes_moved, in_number_range, formed, fresh, has_pause, has_room, has_stream, is_known_stream, said_at, said_of, step_of, within, words_at}
 use Rattle.aio_script.specs.Progress.{AreLow, counts_with}
 
 -- a stream that is new and at home, or a step of a stream that is known
@@ -53,7 +53,7 @@ module _ (P : Type 0) (said : Said) (line : ℕ) where
   past_within true r so e = so refl e
   past_within false r so e = cc e
 
-  past_known : (b : Bool) (s : Said) → (b ≡ true → s ≡ said → P) → (known line b >>= λ there. Ok s) ≡ Ok said → P
+  past_known : (b : Bool) (s : Said) → (b ≡ true → s ≡ said → P) → (is_known_stream line b >>= λ there. Ok s) ≡ Ok said → P
   past_known true s so e = so refl (cc e)
   past_known false s so e = cc e
 
@@ -76,7 +76,7 @@ module _ (line loops : ℕ) (streams : List Stream) (counts : Counts) (said : Sa
       let sum = leb-true (counts.moved + moved) 67108864 others.1 in
       let fit : Fits loops streams counts (Does (record { stream = id; what = Ask request })) = record {
         low = record { requests = omega (arith, more); pauses = low.pauses; moved = omega (arith, sum, moves) };
-        own = record { known = there; little = omega (arith, small, long) };
+        own = record { is_known_stream = there; little = omega (arith, small, long) };
       } in
       subst (Fits loops streams counts) same fit) e2) e
 
@@ -92,7 +92,7 @@ module _ (line loops : ℕ) (streams : List Stream) (counts : Counts) (said : Sa
       record { requests = low.requests; pauses = omega (arith, more); moved = low.moved } in
       let fit : Fits loops streams counts (Does (record { stream = id; what = what })) = record {
         low = subst AreLow (sym with_) one;
-        own = record { known = there; little = little parts.0 };
+        own = record { is_known_stream = there; little = little parts.0 };
       } in
       subst (Fits loops streams counts) same fit) e2) e
 
@@ -112,24 +112,24 @@ module _ (line loops : ℕ) (streams : List Stream) (counts : Counts) (said : Sa
 
   pub said_of-fits : (form : Form) → said_of line loops streams counts form ≡ Ok said → Fits loops streams counts said
   said_of-fits (declare s l) e =
-      after_two (Fits loops streams counts said) said (counted line (number_of s)) (counted line (number_of l)) (λ id home. fresh line (not (has_stream id streams)) >>= λ new. within line (nat_le id 63 && nat_lt home loops) >>= λ small. Ok (Declares (record { id = id; home = home }))) fits_declare e
+      after_two (Fits loops streams counts said) said (in_number_range line (number_of s)) (in_number_range line (number_of l)) (λ id home. fresh line (not (has_stream id streams)) >>= λ new. within line (nat_le id 63 && nat_lt home loops) >>= λ small. Ok (Declares (record { id = id; home = home }))) fits_declare e
   said_of-fits (read s at len) e =
-      after_three (Fits loops streams counts said) said (counted line (number_of s)) (counted line (number_of at)) (counted line (number_of len)) (λ id place n. within line (has_room counts n n) >>= λ small. step_of line streams id (Ask (Read place n)))
+      after_three (Fits loops streams counts said) said (in_number_range line (number_of s)) (in_number_range line (number_of at)) (in_number_range line (number_of len)) (λ id place n. within line (has_room counts n n) >>= λ small. step_of line streams id (Ask (Read place n)))
       (λ id place n. fits_ask id n n (Read place n) refl refl) e
   said_of-fits (write s at text) e =
-      after_three (Fits loops streams counts said) said (counted line (number_of s)) (counted line (number_of at)) (counted line (data_of text)) (λ id place bytes. within line (has_room counts (length bytes) (length bytes)) >>= λ small. step_of line streams id (Ask (Write place bytes)))
+      after_three (Fits loops streams counts said) said (in_number_range line (number_of s)) (in_number_range line (number_of at)) (in_number_range line (data_of text)) (λ id place bytes. within line (has_room counts (length bytes) (length bytes)) >>= λ small. step_of line streams id (Ask (Write place bytes)))
       (λ id place bytes. fits_ask id (length bytes) (length bytes) (Write place bytes) refl refl) e
   said_of-fits (zeroing s at len) e =
-      after_three (Fits loops streams counts said) said (counted line (number_of s)) (counted line (number_of at)) (counted line (number_of len)) (λ id place n. within line (has_room counts n 0) >>= λ small. step_of line streams id (Ask (Zero place n)))
+      after_three (Fits loops streams counts said) said (in_number_range line (number_of s)) (in_number_range line (number_of at)) (in_number_range line (number_of len)) (λ id place n. within line (has_room counts n 0) >>= λ small. step_of line streams id (Ask (Zero place n)))
       (λ id place n. fits_ask id n 0 (Zero place n) refl refl) e
   said_of-fits (flush s) e =
-      after_one (Fits loops streams counts said) said (counted line (number_of s)) (λ id. within line (has_room counts 0 0) >>= λ small. step_of line streams id (Ask Flush))
+      after_one (Fits loops streams counts said) said (in_number_range line (number_of s)) (λ id. within line (has_room counts 0 0) >>= λ small. step_of line streams id (Ask Flush))
       (λ id. fits_ask id 0 0 Flush refl refl) e
   said_of-fits (delay s ns) e =
-      after_two (Fits loops streams counts said) said (counted line (number_of s)) (counted line (number_of ns)) (λ id n. within line (nat_le n 1000000000 && has_pause counts) >>= λ small. step_of line streams id (Delay n))
+      after_two (Fits loops streams counts said) said (in_number_range line (number_of s)) (in_number_range line (number_of ns)) (λ id n. within line (nat_le n 1000000000 && has_pause counts) >>= λ small. step_of line streams id (Delay n))
       (λ id n. fits_pause id (Delay n) (nat_le n 1000000000) refl (leb-true n 1000000000)) e
   said_of-fits (move s l) e =
-      after_two (Fits loops streams counts said) said (counted line (number_of s)) (counted line (number_of l)) (λ id loop. within line (nat_lt loop loops && has_pause counts) >>= λ small. step_of line streams id (Move loop))
+      after_two (Fits loops streams counts said) said (in_number_range line (number_of s)) (in_number_range line (number_of l)) (λ id loop. within line (nat_lt loop loops && has_pause counts) >>= λ small. step_of line streams id (Move loop))
       (λ id loop. fits_pause id (Move loop) (nat_lt loop loops) refl (ltb-true loop loops)) e
 
 pub said_at-fits : (loops : ℕ) (streams : List Stream) (counts : Counts) (numbered : Numbered) (said : Said)

@@ -14,7 +14,7 @@ use Rattle.aio_script.specs.declared.said.Said.{Said}
 use Rattle.aio_script.specs.declared.said.Said.TheVariants.{Declares, Does}
 use Rattle.aio_script.specs.declared.said.Counts.{Counts}
 use Rattle.aio_script.specs.Lines.{Numbered}
-use Rattle.aio_script.specs.Grammar.{◌>>=◌, all_said, bytes_moved, counts_of, declared, done, said_at, script_below, steps_in, streams_in}
+use Rattle.aio_script.specs.Grammar.{◌>>=◌, all_said, bytes_moved, counts_of, declared, step_done, said_at, script_below, steps_in, streams_in}
 use Rattle.aio_script.specs.Progress.{counts_after, counts_with, HasRead}
 use Rattle.aio_script.specs.Reading.{Gives, GivesScript}
 
@@ -35,7 +35,7 @@ module _ (loops : ℕ) (whole left behind : List Numbered) (numbered : Numbered)
   HasRead-line said e = record {
     above = read.above ++ said ∷ [];
     same_streams = ap (λ (ss : List Stream). ss ++ streams_in (said ∷ [])) read.same_streams ∙ sym (filter_map-append declared read.above (said ∷ []));
-    same_steps = ap (λ (ss : List Step). ss ++ steps_in (said ∷ [])) read.same_steps ∙ sym (filter_map-append done read.above (said ∷ []));
+    same_steps = ap (λ (ss : List Step). ss ++ steps_in (said ∷ [])) read.same_steps ∙ sym (filter_map-append step_done read.above (said ∷ []));
     goes_on = goes_on_at ∙ ap (λ (r : Result Said ScriptRefusal). r >>= λ s. all_said loops (read.above ++ s ∷ []) behind) e;
   }
 

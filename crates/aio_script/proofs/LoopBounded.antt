@@ -16,9 +16,9 @@ use Rattle.aio_script.specs.declared.loop_form.LoopSaid.{LoopSaid}
 use Rattle.aio_script.specs.declared.loop_form.LoopSaid.TheVariants.{Adds, Asks}
 use Rattle.aio_script.specs.Text.{is, number_of}
 use Rattle.aio_script.specs.Lines.{Numbered, significant}
-use Rattle.aio_script.specs.Grammar.{◌>>=◌, counted, formed, present, within, words_at}
+use Rattle.aio_script.specs.Grammar.{◌>>=◌, in_number_range, formed, present, within, words_at}
 use Rattle.aio_script.specs.LoopForms.{SizeWords, size_words, LoopForm, on_call, on_nest, call, once, poll, commit, set, clear, loop_form_of}
-use Rattle.aio_script.specs.LoopGrammar.{act_of, acted, acts_of, call_of, commanded, header_of, loop_header_at, loop_said_at, loop_said_of, loop_script_lines, loop_script_said, number_below, said_below, script_of, sizes_of, with_lines, with_said}
+use Rattle.aio_script.specs.LoopGrammar.{act_of, acted, act_count_of, call_of, commanded, header_of, loop_header_at, loop_said_at, loop_said_of, loop_script_lines, loop_script_said, number_below, said_below, script_of, sizes_read, with_lines, with_said}
 use Rattle.aio_script.specs.LoopBounds.{CallsHandle, IsActWithin, IsCommandWithin, IsLoopBounded}
 use Rattle.aio_script.specs.LoopReading.{GivesLoopScript}
 use Rattle.aio_script.proofs.Bounded.{all_one_more, followed}
@@ -30,7 +30,7 @@ past line false r d e = cc e
 
 below : (line end : ℕ) (word : List ℕ) (n : ℕ) → number_below line end word ≡ Ok n → n < end
 below line end word n e =
-    let one = followed (counted line (number_of word)) (λ m. within line (nat_lt m end) >>= λ small. Ok m) n e in
+    let one = followed (in_number_range line (number_of word)) (λ m. within line (nat_lt m end) >>= λ small. Ok m) n e in
     let two = past line (nat_lt one.0 end) (Ok one.0) n one.2 in
     let same : one.0 ≡ n = cc two.1 in
     omega (arith, ltb-true one.0 end two.0, same)
@@ -39,7 +39,7 @@ below line end word n e =
 
 -- an action of a callback that has room for it, or a command for which there is room
 abbrev IsFitting : ℕ → ℕ → List Act → ℕ → LoopSaid → Type 0
-IsFitting handles events acts asked (Adds a) = IsActWithin handles a × (acts_of a.bh acts < 8)
+IsFitting handles events acts asked (Adds a) = IsActWithin handles a × (act_count_of a.bh acts < 8)
 IsFitting handles events acts asked (Asks c) = IsCommandWithin handles events c × (asked < 4096)
 
 calls_handle : (handles : ℕ) (verb : Verb) (j : ℕ) → j < handles → CallsHandle handles (act_of verb j)
@@ -58,10 +58,10 @@ module _ (line handles events : ℕ) (acts : List Act) (asked : ℕ) (said : Loo
   fits_act : (i : ℕ) (what : ActKind) → i < handles → CallsHandle handles what → acted line acts i what ≡ Ok said
       → IsFitting handles events acts asked said
   fits_act i what here calls e =
-      let room = past line (nat_lt (acts_of i acts) 8) (Ok (Adds (record { bh = i; what = what }))) said e in
+      let room = past line (nat_lt (act_count_of i acts) 8) (Ok (Adds (record { bh = i; what = what }))) said e in
       let same : Adds (record { bh = i; what = what }) ≡ said = cc room.1 in
       let fit : IsFitting handles events acts asked (Adds (record { bh = i; what = what })) =
-      (record { of = here; calls = calls }, ltb-true (acts_of i acts) 8 room.0) in
+      (record { of = here; calls = calls }, ltb-true (act_count_of i acts) 8 room.0) in
       subst (IsFitting handles events acts asked) same fit
 
   fits_command : (c : Command) → IsCommandWithin handles events c → commanded line asked c ≡ Ok said
@@ -81,8 +81,8 @@ module _ (line handles events : ℕ) (acts : List Act) (asked : ℕ) (said : Loo
 
   fits_form : (form : LoopForm) → loop_said_of line handles events acts asked form ≡ Ok said → IsFitting handles events acts asked said
   fits_form (on_call verb i j) e =
-      let one = followed (counted line (number_of i)) (λ bh. counted line (number_of j) >>= λ target. within line (nat_lt bh handles && nat_lt target handles) >>= λ small. acted line acts bh (act_of verb target)) said e in
-      let two = followed (counted line (number_of j)) (λ target. within line (nat_lt one.0 handles && nat_lt target handles) >>= λ small. acted line acts one.0 (act_of verb target)) said one.2 in
+      let one = followed (in_number_range line (number_of i)) (λ bh. in_number_range line (number_of j) >>= λ target. within line (nat_lt bh handles && nat_lt target handles) >>= λ small. acted line acts bh (act_of verb target)) said e in
+      let two = followed (in_number_range line (number_of j)) (λ target. within line (nat_lt one.0 handles && nat_lt target handles) >>= λ small. acted line acts one.0 (act_of verb target)) said one.2 in
       let three = past line (nat_lt one.0 handles && nat_lt two.0 handles) (acted line acts one.0 (act_of verb two.0)) said two.2 in
       let parts = and_parts (nat_lt one.0 handles) (nat_lt two.0 handles) three.0 in
       fits_act one.0 (act_of verb two.0) (ltb-true one.0 handles parts.0) (calls_handle handles verb two.0 (ltb-true two.0 handles parts.1)) three.1
@@ -106,16 +106,16 @@ fits_line handles events acts asked numbered said e =
 
 -- ---- one more line
 
-acts_one_more : (i : ℕ) (a : Act) (acts : List Act) → acts_of i acts ≤ 8 → acts_of a.bh acts < 8 → acts_of i (acts ++ a ∷ []) ≤ 8
+acts_one_more : (i : ℕ) (a : Act) (acts : List Act) → act_count_of i acts ≤ 8 → act_count_of a.bh acts < 8 → act_count_of i (acts ++ a ∷ []) ≤ 8
 acts_one_more i a acts few room =
-    let more : acts_of i (acts ++ a ∷ []) ≡ acts_of i acts + (if a.bh == i then 1 else 0) = count_by-one (λ (x : Act). x.bh == i) acts a in
+    let more : act_count_of i (acts ++ a ∷ []) ≡ act_count_of i acts + (if a.bh == i then 1 else 0) = count_by-one (λ (x : Act). x.bh == i) acts a in
     elim (cases_Bool (a.bh == i)) [
       | inl hit ↦
-          let own : acts_of i acts < 8 = subst (λ (j : ℕ). acts_of j acts < 8) (eqb-true a.bh i hit) room in
-          let one : acts_of i (acts ++ a ∷ []) ≡ acts_of i acts + 1 = more ∙ ap (λ (b : Bool). acts_of i acts + (if b then 1 else 0)) hit in
+          let own : act_count_of i acts < 8 = subst (λ (j : ℕ). act_count_of j acts < 8) (eqb-true a.bh i hit) room in
+          let one : act_count_of i (acts ++ a ∷ []) ≡ act_count_of i acts + 1 = more ∙ ap (λ (b : Bool). act_count_of i acts + (if b then 1 else 0)) hit in
           omega (arith, own, one)
       | inr miss ↦
-          let none : acts_of i (acts ++ a ∷ []) ≡ acts_of i acts + 0 = more ∙ ap (λ (b : Bool). acts_of i acts + (if b then 1 else 0)) miss in
+          let none : act_count_of i (acts ++ a ∷ []) ≡ act_count_of i acts + 0 = more ∙ ap (λ (b : Bool). act_count_of i acts + (if b then 1 else 0)) miss in
           omega (arith, few, none)
     ]
 
@@ -159,13 +159,13 @@ record IsHeaderWithin (header : LoopHeader) : Type 0 where
   few_lots : header.lots ≤ 64
   few_events : header.events ≤ 64
 
-sizes_within : (line : ℕ) (words : SizeWords) (header : LoopHeader) → sizes_of line words ≡ Ok header → IsHeaderWithin header
+sizes_within : (line : ℕ) (words : SizeWords) (header : LoopHeader) → sizes_read line words ≡ Ok header → IsHeaderWithin header
 sizes_within line words header e =
     let small : ℕ → ℕ → ℕ → Bool = λ h l n. nat_le 1 h && (nat_le h 64 && (nat_le l 64 && nat_le n 64)) in
     let gives : ℕ → ℕ → ℕ → Result LoopHeader ScriptRefusal = λ h l n. within line (small h l n) >>= λ fits. Ok (record { handles = h; lots = l; events = n }) in
-    let one = followed (counted line (number_of words.handles)) (λ h. counted line (number_of words.lots) >>= λ l. counted line (number_of words.events) >>= λ n. gives h l n) header e in
-    let two = followed (counted line (number_of words.lots)) (λ l. counted line (number_of words.events) >>= λ n. gives one.0 l n) header one.2 in
-    let three = followed (counted line (number_of words.events)) (λ n. gives one.0 two.0 n) header two.2 in
+    let one = followed (in_number_range line (number_of words.handles)) (λ h. in_number_range line (number_of words.lots) >>= λ l. in_number_range line (number_of words.events) >>= λ n. gives h l n) header e in
+    let two = followed (in_number_range line (number_of words.lots)) (λ l. in_number_range line (number_of words.events) >>= λ n. gives one.0 l n) header one.2 in
+    let three = followed (in_number_range line (number_of words.events)) (λ n. gives one.0 two.0 n) header two.2 in
     let sizes : LoopHeader = record { handles = one.0; lots = two.0; events = three.0 } in
     let four = past line (small one.0 two.0 three.0) (Ok sizes) header three.2 in
     let a = and_parts (nat_le 1 one.0) (nat_le one.0 64 && (nat_le two.0 64 && nat_le three.0 64)) four.0 in
@@ -183,8 +183,8 @@ sizes_within line words header e =
 words_within : (line : ℕ) (words : List (List ℕ)) (header : LoopHeader) → header_of line words ≡ Ok header → IsHeaderWithin header
 words_within line [] header e = cc e
 words_within line (first ∷ words) header e =
-    let one = followed (present (is first (codes "loop"))) (λ there. formed line (size_words words) >>= λ sizes. sizes_of line sizes) header e in
-    let two = followed (formed line (size_words words)) (λ sizes. sizes_of line sizes) header one.2 in
+    let one = followed (present (is first (codes "loop"))) (λ there. formed line (size_words words) >>= λ sizes. sizes_read line sizes) header e in
+    let two = followed (formed line (size_words words)) (λ sizes. sizes_read line sizes) header one.2 in
     sizes_within line two.0 header two.2
 
 -- ---- the whole

@@ -37,11 +37,11 @@ of_three s verb at last =
     else None
 
 -- a line of a stream, by the words behind the stream's number
-abbrev pub of_stream : List ℕ → List (List ℕ) → Option Form
-of_stream s (verb ∷ []) = of_one s verb
-of_stream s (verb ∷ n ∷ []) = of_two s verb n
-of_stream s (verb ∷ at ∷ last ∷ []) = of_three s verb at last
-of_stream s words = None
+abbrev pub form_of_stream : List ℕ → List (List ℕ) → Option Form
+form_of_stream s (verb ∷ []) = of_one s verb
+form_of_stream s (verb ∷ n ∷ []) = of_two s verb n
+form_of_stream s (verb ∷ at ∷ last ∷ []) = of_three s verb at last
+form_of_stream s words = None
 
 -- `stream S L`
 abbrev pub of_declaration : List (List ℕ) → Option Form
@@ -57,4 +57,4 @@ form_of [] = None
 form_of (first ∷ words) =
     if begins_header first then None
     else if is first (codes "stream") then of_declaration words
-    else of_stream first words
+    else form_of_stream first words

@@ -27,15 +27,15 @@ abbrev pub declared : Said → Option Stream
 declared (Declares stream) = Some stream
 declared (Does step) = None
 
-abbrev pub done : Said → Option Step
-done (Declares stream) = None
-done (Does step) = Some step
+abbrev pub step_done : Said → Option Step
+step_done (Declares stream) = None
+step_done (Does step) = Some step
 
 abbrev pub streams_in : List Said → List Stream
 streams_in said = filter_map declared said
 
 abbrev pub steps_in : List Said → List Step
-steps_in said = filter_map done said
+steps_in said = filter_map step_done said
 
 -- whether one of the streams has this number
 abbrev pub has_stream : ℕ → List Stream → Bool
@@ -59,9 +59,9 @@ module _ (line : ℕ) where
   formed None = Err (BadLine line)
   formed (Some x) = Ok x
 
-  abbrev pub counted : {A : Type 0} → Option A → Result A ScriptRefusal
-  counted None = Err (BadNumber line)
-  counted (Some x) = Ok x
+  abbrev pub in_number_range : {A : Type 0} → Option A → Result A ScriptRefusal
+  in_number_range None = Err (BadNumber line)
+  in_number_range (Some x) = Ok x
 
   abbrev pub fresh : Bool → Result Unit ScriptRefusal
   fresh b = if b then Ok tt else Err (BadLine line)
@@ -69,8 +69,8 @@ module _ (line : ℕ) where
   abbrev pub within : Bool → Result Unit ScriptRefusal
   within b = if b then Ok tt else Err (OutOfLimit line)
 
-  abbrev pub known : Bool → Result Unit ScriptRefusal
-  known b = if b then Ok tt else Err (UnknownStream line)
+  abbrev pub is_known_stream : Bool → Result Unit ScriptRefusal
+  is_known_stream b = if b then Ok tt else Err (UnknownStream line)
 
 -- room for one request more, of so many bytes, of which so many are read or written
 abbrev pub has_room : Counts → ℕ → ℕ → Bool
@@ -82,47 +82,47 @@ has_pause counts = nat_lt counts.pauses 4096
 
 -- the step of a stream, where these streams were declared
 abbrev pub step_of : ℕ → List Stream → ℕ → What → Result Said ScriptRefusal
-step_of line streams s what = known line (has_stream s streams) >>= λ there. Ok (Does (record { stream = s; what = what }))
+step_of line streams s what = is_known_stream line (has_stream s streams) >>= λ there. Ok (Does (record { stream = s; what = what }))
 
 -- What a line of this form says, where so many loops are, the lines above declare these streams, and have these counts.
 module _ (line loops : ℕ) (streams : List Stream) (counts : Counts) where
   abbrev pub said_of : Form → Result Said ScriptRefusal
   said_of (declare s l) = do
-    id ← counted line (number_of s)
-    home ← counted line (number_of l)
+    id ← in_number_range line (number_of s)
+    home ← in_number_range line (number_of l)
     new ← fresh line (not (has_stream id streams))
     small ← within line (nat_le id 63 && nat_lt home loops)
     Ok (Declares (record { id = id; home = home }))
   said_of (read s at len) = do
-    id ← counted line (number_of s)
-    place ← counted line (number_of at)
-    n ← counted line (number_of len)
+    id ← in_number_range line (number_of s)
+    place ← in_number_range line (number_of at)
+    n ← in_number_range line (number_of len)
     small ← within line (has_room counts n n)
     step_of line streams id (Ask (Read place n))
   said_of (write s at text) = do
-    id ← counted line (number_of s)
-    place ← counted line (number_of at)
-    bytes ← counted line (data_of text)
+    id ← in_number_range line (number_of s)
+    place ← in_number_range line (number_of at)
+    bytes ← in_number_range line (data_of text)
     small ← within line (has_room counts (length bytes) (length bytes))
     step_of line streams id (Ask (Write place bytes))
   said_of (zeroing s at len) = do
-    id ← counted line (number_of s)
-    place ← counted line (number_of at)
-    n ← counted line (number_of len)
+    id ← in_number_range line (number_of s)
+    place ← in_number_range line (number_of at)
+    n ← in_number_range line (number_of len)
     small ← within line (has_room counts n 0)
     step_of line streams id (Ask (Zero place n))
   said_of (flush s) = do
-    id ← counted line (number_of s)
+    id ← in_number_range line (number_of s)
     small ← within line (has_room counts 0 0)
     step_of line streams id (Ask Flush)
   said_of (delay s ns) = do
-    id ← counted line (number_of s)
-    n ← counted line (number_of ns)
+    id ← in_number_range line (number_of s)
+    n ← in_number_range line (number_of ns)
     small ← within line (nat_le n 1000000000 && has_pause counts)
     step_of line streams id (Delay n)
   said_of (move s l) = do
-    id ← counted line (number_of s)
-    loop ← counted line (number_of l)
+    id ← in_number_range line (number_of s)
+    loop ← in_number_range line (number_of l)
     small ← within line (nat_lt loop loops && has_pause counts)
     step_of line streams id (Move loop)
 
@@ -143,9 +143,9 @@ all_said loops above [] = Ok above
 all_said loops above (numbered ∷ lines) = said_at loops (streams_in above) (counts_of (steps_in above)) numbered >>= λ said. all_said loops (above ++ said ∷ []) lines
 
 -- whether the first word is the name
-abbrev pub begins : List ℕ → List (List ℕ) → Bool
-begins name [] = false
-begins name (word ∷ words) = is word name
+abbrev pub begins_with_name : List ℕ → List (List ℕ) → Bool
+begins_with_name name [] = false
+begins_with_name name (word ∷ words) = is word name
 
 abbrev pub present : Bool → Result Unit ScriptRefusal
 present b = if b then Ok tt else Err NoHeader
@@ -154,9 +154,9 @@ present b = if b then Ok tt else Err NoHeader
 abbrev pub header_at : List ℕ → ℕ → ℕ → Numbered → Result ℕ ScriptRefusal
 header_at name least most numbered = do
   words ← words_at numbered
-  there ← present (begins name words)
+  there ← present (begins_with_name name words)
   word ← formed numbered.number (header_form name words)
-  n ← counted numbered.number (number_of word)
+  n ← in_number_range numbered.number (number_of word)
   small ← within numbered.number (nat_le least n && nat_le n most)
   Ok n
 

@@ -7,7 +7,7 @@ use Rattle.aio_model.specs.declared.scripts.loop_scripts.ActKind.TheVariants as 
 use Rattle.aio_model.specs.declared.scripts.loop_scripts.Command.{Command}
 use Rattle.aio_model.specs.declared.scripts.loop_scripts.Command.TheVariants as command
 use Rattle.aio_model.specs.declared.scripts.loop_scripts.LoopScript.{LoopScript}
-use Rattle.aio_script.specs.LoopGrammar.{acts_of}
+use Rattle.aio_script.specs.LoopGrammar.{act_count_of}
 
 -- a call on one of the handles
 abbrev pub CallsHandle : ℕ → ActKind → Type 0
@@ -40,6 +40,6 @@ pub record IsLoopBounded (script : LoopScript) : Type 0 where
   pub few_lots : script.lots ≤ 64
   pub few_events : script.events ≤ 64
   pub each_act : AllByRecursion (IsActWithin script.handles) script.acts
-  pub few_acts : (i : ℕ) → acts_of i script.acts ≤ 8
+  pub few_acts : (i : ℕ) → act_count_of i script.acts ≤ 8
   pub each_command : AllByRecursion (IsCommandWithin script.handles script.events) script.commands
   pub few_commands : length script.commands ≤ 4096

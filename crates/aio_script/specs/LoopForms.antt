@@ -26,8 +26,8 @@ abbrev pub size_words : List (List ℕ) → Option SizeWords
 size_words (h ∷ l ∷ e ∷ []) = Some (record { handles = h; lots = l; events = e })
 size_words words = None
 
-abbrev pub verb_of : List ℕ → Option Verb
-verb_of word =
+abbrev pub verb_named : List ℕ → Option Verb
+verb_named word =
     if is word (codes "schedule") then Some Schedule
     else if is word (codes "idle") then Some Idle
     else if is word (codes "delete") then Some Delete
@@ -37,7 +37,7 @@ verb_of word =
 -- an action, by the words behind `on`: `I nest`, or `I VERB J`
 abbrev pub of_action : List (List ℕ) → Option LoopForm
 of_action (i ∷ word ∷ []) = if is word (codes "nest") then Some (on_nest i) else None
-of_action (i ∷ word ∷ j ∷ []) = option_map (λ verb. on_call verb i j) (verb_of word)
+of_action (i ∷ word ∷ j ∷ []) = option_map (λ verb. on_call verb i j) (verb_named word)
 of_action words = None
 
 -- `poll` and `commit`
@@ -53,7 +53,7 @@ of_words word n =
     if is word (codes "once") then Some (once n)
     else if is word (codes "set") then Some (set n)
     else if is word (codes "clear") then Some (clear n)
-    else option_map (λ verb. call verb n) (verb_of word)
+    else option_map (λ verb. call verb n) (verb_named word)
 
 -- a command
 abbrev pub of_command : List ℕ → List (List ℕ) → Option LoopForm

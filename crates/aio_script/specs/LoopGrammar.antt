@@ -16,16 +16,16 @@ use Rattle.aio_script.specs.declared.loop_form.LoopSaid.{LoopSaid}
 use Rattle.aio_script.specs.declared.loop_form.LoopSaid.TheVariants.{Adds, Asks}
 use Rattle.aio_script.specs.Text.{is, number_of}
 use Rattle.aio_script.specs.Lines.{Numbered, significant}
-use Rattle.aio_script.specs.Grammar.{◌>>=◌, counted, formed, present, within, words_at}
+use Rattle.aio_script.specs.Grammar.{◌>>=◌, in_number_range, formed, present, within, words_at}
 use Rattle.aio_script.specs.LoopForms.{SizeWords, size_words, LoopForm, on_call, on_nest, call, once, poll, commit, set, clear, loop_form_of}
 
 -- ---- the header
 
-abbrev pub sizes_of : ℕ → SizeWords → Result LoopHeader ScriptRefusal
-sizes_of line words = do
-  handles ← counted line (number_of words.handles)
-  lots ← counted line (number_of words.lots)
-  events ← counted line (number_of words.events)
+abbrev pub sizes_read : ℕ → SizeWords → Result LoopHeader ScriptRefusal
+sizes_read line words = do
+  handles ← in_number_range line (number_of words.handles)
+  lots ← in_number_range line (number_of words.lots)
+  events ← in_number_range line (number_of words.events)
   small ← within line (nat_le 1 handles && (nat_le handles 64 && (nat_le lots 64 && nat_le events 64)))
   Ok (record { handles = handles; lots = lots; events = events })
 
@@ -35,7 +35,7 @@ header_of line [] = Err NoHeader
 header_of line (first ∷ words) = do
   there ← present (is first (codes "loop"))
   sizes ← formed line (size_words words)
-  sizes_of line sizes
+  sizes_read line sizes
 
 abbrev pub loop_header_at : Numbered → Result LoopHeader ScriptRefusal
 loop_header_at numbered = words_at numbered >>= λ words. header_of numbered.number words
@@ -55,20 +55,20 @@ call_of Delete i = command.Delete i
 call_of Cancel i = command.Cancel i
 
 -- how many of these actions are a callback's
-abbrev pub acts_of : ℕ → List Act → ℕ
-acts_of i acts = count_by (λ a. a.bh == i) acts
+abbrev pub act_count_of : ℕ → List Act → ℕ
+act_count_of i acts = count_by (λ a. a.bh == i) acts
 
 -- a number below this one
 abbrev pub number_below : ℕ → ℕ → List ℕ → Result ℕ ScriptRefusal
 number_below line end word = do
-  n ← counted line (number_of word)
+  n ← in_number_range line (number_of word)
   small ← within line (nat_lt n end)
   Ok n
 
 -- one action more of a callback, which has at most eight
 abbrev pub acted : ℕ → List Act → ℕ → ActKind → Result LoopSaid ScriptRefusal
 acted line acts i what = do
-  room ← within line (nat_lt (acts_of i acts) 8)
+  room ← within line (nat_lt (act_count_of i acts) 8)
   Ok (Adds (record { bh = i; what = what }))
 
 -- one command more, of at most 4,096
@@ -82,8 +82,8 @@ commanded line asked what = do
 module _ (line handles events : ℕ) (acts : List Act) (asked : ℕ) where
   abbrev pub loop_said_of : LoopForm → Result LoopSaid ScriptRefusal
   loop_said_of (on_call verb i j) = do
-    bh ← counted line (number_of i)
-    target ← counted line (number_of j)
+    bh ← in_number_range line (number_of i)
+    target ← in_number_range line (number_of j)
     small ← within line (nat_lt bh handles && nat_lt target handles)
     acted line acts bh (act_of verb target)
   loop_said_of (on_nest i) = do

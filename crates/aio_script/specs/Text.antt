@@ -25,14 +25,14 @@ abbrev pub words_of : List ℕ → List (List ℕ)
 words_of line = slice_split (λ byte. byte == 32) line
 
 -- what decimal digits stand for
-abbrev pub value_of : List ℕ → ℕ
-value_of digits = fold (λ n digit. 10 * n + (digit - 48)) 0 digits
+abbrev pub decimal_value : List ℕ → ℕ
+decimal_value digits = fold (λ n digit. 10 * n + (digit - 48)) 0 digits
 
 -- a number: one to twenty digits, of a value that 64 bits hold
 abbrev pub number_of : List ℕ → Option ℕ
 number_of word =
-    if nat_le 1 (length word) && (nat_le (length word) 20 && (list_all is_ascii_digit word && nat_le (value_of word) (2 ^ 64 - 1)))
-    then Some (value_of word) else None
+    if nat_le 1 (length word) && (nat_le (length word) 20 && (list_all is_ascii_digit word && nat_le (decimal_value word) (2 ^ 64 - 1)))
+    then Some (decimal_value word) else None
 
 -- data: pairs of hexadecimal digits, at least one, or a dash for no bytes
 abbrev pub data_of : List ℕ → Option (List ℕ)

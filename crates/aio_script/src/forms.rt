@@ -1,6 +1,6 @@
 //! Words to forms. Each function reads the forms of so many words, and answers what their definition says.
 ghost use Rattle.std.specs.Prelude.{◌≡◌, ◌∷◌, [], option_map};
-ghost use Rattle.aio_script.specs.Forms.{begins_header, form_of, of_declaration, of_one, of_stream, of_three, of_two};
+ghost use Rattle.aio_script.specs.Forms.{begins_header, form_of, of_declaration, of_one, form_of_stream, of_three, of_two};
 ghost use Rattle.aio_script.specs.Reading.{form_shown};
 ghost use Rattle.aio_script.specs.Text.{words_of};
 
@@ -19,7 +19,7 @@ pub(crate) fn form_of(line: &[u8]) -> Option<Form<'_>>
     if is(first, "stream") {
         of_declaration(words)
     } else {
-        of_stream(first, words)
+        form_of_stream(first, words)
     }
 }
 
@@ -37,8 +37,8 @@ fn of_declaration(words: &[u8]) -> Option<Form<'_>>
     Some(Form::Declare(stream, home))
 }
 
-fn of_stream<'a>(stream: &'a [u8], words: &'a [u8]) -> Option<Form<'a>>
-    ensures { option_map form_shown result ≡ of_stream stream.now (words_of words.now) }
+fn form_of_stream<'a>(stream: &'a [u8], words: &'a [u8]) -> Option<Form<'a>>
+    ensures { option_map form_shown result ≡ form_of_stream stream.now (words_of words.now) }
 {
     let (verb, behind) = cut(words, b' ');
     match behind {
@@ -48,7 +48,7 @@ fn of_stream<'a>(stream: &'a [u8], words: &'a [u8]) -> Option<Form<'a>>
 }
 
 fn of_more<'a>(stream: &'a [u8], verb: &[u8], words: &'a [u8]) -> Option<Form<'a>>
-    ensures { option_map form_shown result ≡ of_stream stream.now (verb.now ∷ words_of words.now) }
+    ensures { option_map form_shown result ≡ form_of_stream stream.now (verb.now ∷ words_of words.now) }
 {
     let (second, behind) = cut(words, b' ');
     match behind {

@@ -1,7 +1,7 @@
 //! What lines say. Each function reads one form, and answers what its definition says.
 ghost use Rattle.std.specs.Prelude.{◌≡◌, ◌<◌, ◌≤◌, ◌^◌, true, IfOk};
 ghost use Rattle.aio_script.specs.Forms.{declare, read, write, zeroing, flush, delay, move};
-ghost use Rattle.aio_script.specs.Grammar.{counted, has_pause, has_room, has_stream, header_at, known, said_at, said_of, step_of, within};
+ghost use Rattle.aio_script.specs.Grammar.{in_number_range, has_pause, has_room, has_stream, header_at, is_known_stream, said_at, said_of, step_of, within};
 ghost use Rattle.aio_script.specs.Lines.{Numbered};
 ghost use Rattle.aio_script.specs.Reading.{form_shown, Gives};
 ghost use Rattle.aio_script.specs.Text.{data_of, number_of};
@@ -202,13 +202,13 @@ fn read_move(above: Above<'_>, stream: &[u8], target: &[u8]) -> Result<Said, Scr
 // ---- what several forms have
 
 pub(crate) fn read_counted(number: u32, word: &[u8]) -> Result<u64, ScriptRefusal>
-    ensures { result ≡ counted number (number_of word.now) }
+    ensures { result ≡ in_number_range number (number_of word.now) }
 {
     read_number(word).ok_or(ScriptRefusal::BadNumber(number))
 }
 
 fn read_data(alloc: Global, number: u32, word: &[u8]) -> Result<Bytes, ScriptFail>
-    ensures { Gives (counted number (data_of word.now)) result }
+    ensures { Gives (in_number_range number (data_of word.now)) result }
 {
     if is(word, "-") {
         return Ok(Bytes::of(Vec::new(alloc)));

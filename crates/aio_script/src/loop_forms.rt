@@ -1,7 +1,7 @@
 //! Words to forms of a loop script. Each function reads the forms of so many words, and answers what their definition
 //! says.
 ghost use Rattle.std.specs.Prelude.{◌≡◌, ◌∷◌, [], option_map};
-ghost use Rattle.aio_script.specs.LoopForms.{loop_form_of, of_action, of_command, of_word, of_words, size_words, verb_of};
+ghost use Rattle.aio_script.specs.LoopForms.{loop_form_of, of_action, of_command, of_word, of_words, size_words, verb_named};
 ghost use Rattle.aio_script.specs.LoopReading.{loop_form_shown, sizes_shown};
 ghost use Rattle.aio_script.specs.Text.{words_of};
 
@@ -48,7 +48,7 @@ fn of_action(words: &[u8]) -> Option<LoopForm<'_>>
         return of_nest(handle, word);
     };
     let target = one_word(rest)?;
-    let verb = verb_of(word)?;
+    let verb = verb_named(word)?;
     Some(LoopForm::OnCall(verb, handle, target))
 }
 
@@ -91,13 +91,13 @@ fn of_words<'a>(word: &[u8], number: &'a [u8]) -> Option<LoopForm<'a>>
     } else if is(word, "clear") {
         Some(LoopForm::Clear(number))
     } else {
-        let verb = verb_of(word)?;
+        let verb = verb_named(word)?;
         Some(LoopForm::Call(verb, number))
     }
 }
 
-fn verb_of(word: &[u8]) -> Option<Verb>
-    ensures { result ≡ verb_of word.now }
+fn verb_named(word: &[u8]) -> Option<Verb>
+    ensures { result ≡ verb_named word.now }
 {
     if is(word, "schedule") {
         Some(Verb::Schedule)

@@ -1,7 +1,7 @@
 //! What lines of loop scripts say. Each function answers what its definition says.
 ghost use Rattle.std.specs.Prelude.{◌≡◌, ◌≤◌, length};
 ghost use Rattle.aio_script.specs.LoopForms.{on_call};
-ghost use Rattle.aio_script.specs.LoopGrammar.{act_of, acted, acts_of, call_of, commanded, loop_header_at, loop_said_at, loop_said_of, number_below, sizes_of};
+ghost use Rattle.aio_script.specs.LoopGrammar.{act_of, acted, act_count_of, call_of, commanded, loop_header_at, loop_said_at, loop_said_of, number_below, sizes_read};
 ghost use Rattle.aio_script.specs.LoopReading.{loop_form_shown, sizes_shown};
 
 use crate::lines::read_counted;
@@ -44,7 +44,7 @@ pub(crate) fn read_loop_header(number: u32, line: &[u8]) -> Result<LoopHeader, S
 }
 
 fn read_sizes(number: u32, words: SizeWords<'_>) -> Result<LoopHeader, ScriptRefusal>
-    ensures { result ≡ sizes_of number (sizes_shown words.entry) }
+    ensures { result ≡ sizes_read number (sizes_shown words.entry) }
 {
     let handles = read_counted(number, words.handles)?;
     let lots = read_counted(number, words.lots)?;
@@ -147,7 +147,7 @@ fn read_below(number: u32, word: &[u8], end: u32) -> Result<u32, ScriptRefusal>
 fn act(above: LoopAbove<'_>, bh: u32, what: ActKind) -> Result<LoopSaid, ScriptRefusal>
     ensures { result ≡ acted above.entry.number above.entry.acts.now bh what }
 {
-    if acts_of(bh, above.acts) < MOST_ACTS {
+    if act_count_of(bh, above.acts) < MOST_ACTS {
         Ok(LoopSaid::Adds(Act { bh, what }))
     } else {
         Err(ScriptRefusal::OutOfLimit(above.number))
@@ -166,8 +166,8 @@ fn command(above: LoopAbove<'_>, command: Command) -> Result<LoopSaid, ScriptRef
 }
 
 // How many of the actions are a callback's.
-fn acts_of(bh: u32, acts: &[Act]) -> u64
-    ensures { result ≡ acts_of bh acts.now }
+fn act_count_of(bh: u32, acts: &[Act]) -> u64
+    ensures { result ≡ act_count_of bh acts.now }
 {
     let mut count = 0;
     for act in acts {

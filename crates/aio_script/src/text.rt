@@ -4,7 +4,7 @@ ghost use Rattle.std.specs.List.{list_all, slice_split};
 ghost use Rattle.std.specs.Char.{is_ascii_digit};
 ghost use Rattle.aio_script.specs.Lines.{are_words, is_word, significant_from, Numbered};
 ghost use Rattle.aio_script.specs.Reading.{AreSeveral};
-ghost use Rattle.aio_script.specs.Text.{is, is_skipped, number_of, value_of, words_of};
+ghost use Rattle.aio_script.specs.Text.{is, is_skipped, number_of, decimal_value, words_of};
 
 /// The text up to the first such byte, and what stands behind that byte. Where there is none, the whole text.
 pub(crate) fn cut(text: &[u8], byte: u8) -> (&[u8], Option<&[u8]>)
@@ -101,7 +101,7 @@ pub(crate) fn read_number(word: &[u8]) -> Option<u64>
 // What at most twenty digits stand for.
 fn read_digits(word: &[u8]) -> Option<u128>
     requires { length word.now ≤ 20 }
-    ensures { result ≡ (if list_all is_ascii_digit word.now then Some (value_of word.now) else None) }
+    ensures { result ≡ (if list_all is_ascii_digit word.now then Some (decimal_value word.now) else None) }
 {
     let mut value: u128 = 0;
     for digit in word {

@@ -1,6 +1,7 @@
 // What the objects in memory share: calls are numbered from 0, and those of listed numbers fail.
 ghost use Rattle.std.specs.Prelude.{◌≡◌, IfOk};
-ghost use Rattle.aio_words.specs.Calls.{is_listed, one_more};
+ghost use Rattle.aio_words.specs.Calls.{is_listed};
+ghost use Rattle.aio_model.specs.Counts.{one_more};
 
 use crate::NoMemory;
 use std::alloc::Global;

@@ -1,8 +1,9 @@
 ghost use Rattle.std.specs.Prelude.{◌≡◌, ◌+◌, ◌≤◌, [], ◌∷◌, Some, length, take, drop, replicate, refl, option_map, is_err, IfOk, IfSome, OnErr, OnOk};
 ghost use Rattle.aio_model.specs.Serving.{put_at};
 ghost use Rattle.aio_words.specs.Called.{device_call};
-ghost use Rattle.aio_words.specs.Calls.{is_listed, one_more};
+ghost use Rattle.aio_words.specs.Calls.{is_listed};
 ghost use Rattle.aio_words.specs.Faults.{HasRisen};
+ghost use Rattle.aio_model.specs.Counts.{one_more};
 
 use crate::calls::{copy_of, is_listed, one_more};
 use crate::{Device, DeviceAsk, DeviceCall, Failed, NoMemory, Trail};

@@ -1,9 +1,9 @@
 ghost use Rattle.std.specs.Prelude.{◌≡◌, ◌≤◌, ◌++◌, [], ◌∷◌, Some, length, is_err, IfOk, OnErr, OnOk};
 ghost use Rattle.aio_words.specs.Called.{write_call};
-ghost use Rattle.aio_words.specs.Calls.{one_more};
 ghost use Rattle.aio_words.specs.Content.{with_piece, AppendsFront};
 ghost use Rattle.aio_words.specs.Faults.{HasRisen};
 ghost use Rattle.aio_words.specs.SinkState.{sink_fails};
+ghost use Rattle.aio_model.specs.Counts.{one_more};
 
 use crate::calls::{copy_of, is_listed, one_more};
 use crate::{Failed, NoMemory, Sink, SinkCall, Trail};

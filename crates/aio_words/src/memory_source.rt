@@ -1,9 +1,10 @@
 ghost use Rattle.std.specs.Prelude.{◌≡◌, ◌≤◌, ◌<◌, [], ◌∷◌, Some, length, take, drop, is_err, IfOk, OnErr};
 ghost use Rattle.aio_words.specs.Called.{read_call};
-ghost use Rattle.aio_words.specs.Calls.{is_listed, one_more};
+ghost use Rattle.aio_words.specs.Calls.{is_listed};
 ghost use Rattle.aio_words.specs.Content.{TakesBytes};
 ghost use Rattle.aio_words.specs.Faults.{HasRisen};
 ghost use Rattle.aio_words.specs.SourceState.{count_given};
+ghost use Rattle.aio_model.specs.Counts.{one_more};
 
 use crate::calls::{copy_of, is_listed, one_more};
 use crate::{Failed, NoMemory, Source, SourceCall, Trail};

@@ -4,8 +4,8 @@ ghost use Rattle.std.specs.Prelude.{◌≡◌, ◌≤◌, [], ◌∷◌, is_err,
 ghost use Rattle.std.specs.Io.{ReadsAtMost};
 ghost use Rattle.std.specs.Io.KnownBytes.{Appends, ReadConsumes};
 ghost use Rattle.aio_words.specs.Called.{read_call, write_call};
-ghost use Rattle.aio_words.specs.Calls.{one_more};
 ghost use Rattle.aio_words.specs.Faults.{HasRisen};
+ghost use Rattle.aio_model.specs.Counts.{one_more};
 
 use crate::calls::one_more;
 use crate::{Failed, NoMemory, Sink, SinkCall, Source, SourceCall, Trail};

@@ -12,7 +12,7 @@ use Rattle.aio_model.specs.Loop.Seats.{entries_of}
 use Rattle.aio_model.specs.Loop.Legal.{IsLegal}
 use Rattle.aio_model.specs.Loop.Frame.{is_of_callback, are_of_callback}
 use Rattle.aio_model.specs.Loop.State.{no_flags}
-use Rattle.aio_model.specs.Scripts.LoopActs.{enqueue_made, made_by, is_nest, before_nest}
+use Rattle.aio_model.specs.Scripts.LoopActs.{enqueue_made, made_by_act, is_nest, before_nest}
 use Rattle.aio_model.specs.Loop.InFlight.{AtRest}
 use Rattle.aio_core.specs.Known.{Known}
 use Rattle.aio_core.specs.Standing.{Cancels}
@@ -23,7 +23,7 @@ use Rattle.aio_bh.proofs.GivingBack.{SeatComesBack-canceled}
 use Rattle.aio_bh.proofs.Lent.{SeatComesBack-enqueued, SeatComesBack-nothing}
 use Rattle.bell_loop.specs.Actions.{Acts, ActsAll, IsLent}
 
-pub Acts-enqueue : (what : ActKind) (i : ℕ) (asked : EnqueueAsks) (flags : Flags) (a b : Known) → made_by what flags ≡ enqueue_made i asked flags → a.first ≡ 64 → a.phase ≡ AtRest → b.phase ≡ AtRest → AddsOnly (enqueue_entries i asked a.first flags) a b → Acts what a b
+pub Acts-enqueue : (what : ActKind) (i : ℕ) (asked : EnqueueAsks) (flags : Flags) (a b : Known) → made_by_act what flags ≡ enqueue_made i asked flags → a.first ≡ 64 → a.phase ≡ AtRest → b.phase ≡ AtRest → AddsOnly (enqueue_entries i asked a.first flags) a b → Acts what a b
 Acts-enqueue what i asked flags a b makes number rest still stands = record {
   was = flags;
   back = subst (λ m. SeatComesBack m a b) (ap (λ n. enqueue_entries i asked n flags) number ∙ sym makes) (SeatComesBack-enqueued i asked flags a b rest still stands);
@@ -55,7 +55,7 @@ IsLent-back table made a b lent of back = record {
 }
 
 pub IsLent-acts : (table : TableState) (what : ActKind) (a b : SeatState) → IsLent table a → IsSeatOf table b → Acts what a.known b.known → IsLent table b
-IsLent-acts table what a b lent of acts = IsLent-back table (made_by what acts.was) a b lent of acts.back
+IsLent-acts table what a b lent of acts = IsLent-back table (made_by_act what acts.was) a b lent of acts.back
 
 are_of_callback-append : (newer older : History) → are_of_callback newer ≡ true → are_of_callback older ≡ true → are_of_callback (newer ++ older) ≡ true
 are_of_callback-append [] older n o = o
@@ -86,9 +86,9 @@ ActsAll-none todo a b legal none same =
 -- one, and then the others
 ActsAll-more : (what : ActKind) (todo : List ActKind) (a b c : Known) → Acts what a b → ActsAll todo b c → ActsAll (what ∷ todo) a c
 ActsAll-more what todo a b c one others = record {
-  made = others.made ++ made_by what one.was;
+  made = others.made ++ made_by_act what one.was;
   adds = (one.was, others.made, refl, others.adds);
-  back = SeatComesBack-then (made_by what one.was) others.made a b c one.back others.back;
+  back = SeatComesBack-then (made_by_act what one.was) others.made a b c one.back others.back;
 }
 
 -- an action that is no nest stands before the next one

@@ -17,7 +17,7 @@ use Rattle.aio_model.specs.Loop.Lists.{is_set}
 use Rattle.aio_model.specs.Loop.Log.{Made, Log, history_of, is_rung, flags_before, asked_log, enqueued_log, canceled_log, set_log, cleared_log, is_set_in, begun_log, first_from, commit_from, committed_log}
 use Rattle.aio_model.specs.Loop.Seats.{home}
 use Rattle.aio_model.specs.Scripts.LoopReplies.{DoesCommand, sizes_of}
-use Rattle.aio_core.specs.Standing.{asked_by}
+use Rattle.aio_core.specs.Standing.{asks_of_kind}
 use Rattle.bell_loop.specs.Running as one
 use Rattle.bell_loop.specs.Entering.{acts_at}
 use Rattle.bell_loop.specs.Running.{Calm, Finds, IsAlone, GoesTo, OnlyOthers, PlacesTag, living_in}
@@ -79,16 +79,16 @@ clear_marked event was marks h below marked e = by_event (eqb e event) refl
     by_event true same = ap (λ k. get_or (set marks event false) k false) (eqb-true e event same) ∙ get_or-set_same marks event false false below
     by_event false other = get_or-set_other marks event e false false (λ same. false≢true (sym other ∙ eq-eqb e event same)) ∙ marked e
 
-does_enqueue : (kind : asking.Kind) (i : ℕ) (was : Flags) (script : LoopScript) (log : Log) → was ≡ flags_before i log → DoesCommand script (enqueue_command kind i) log (enqueued_log i (asked_by kind) home log) (Flagged (enqueue_command kind i) was)
+does_enqueue : (kind : asking.Kind) (i : ℕ) (was : Flags) (script : LoopScript) (log : Log) → was ≡ flags_before i log → DoesCommand script (enqueue_command kind i) log (enqueued_log i (asks_of_kind kind) home log) (Flagged (enqueue_command kind i) was)
 does_enqueue Sched i was script log told = (64, refl, ap (Flagged (enqueue_command Sched i)) told)
 does_enqueue IdleKind i was script log told = (64, refl, ap (Flagged (enqueue_command IdleKind i)) told)
 does_enqueue Del i was script log told = (64, refl, ap (Flagged (enqueue_command Del i)) told)
 
-pub Answers-enqueue : (kind : asking.Kind) (i : ℕ) (was : Flags) (old new : MachineState) → new ≡ record old { seen = new.seen; rang = true } → GoesTo (enqueued_log i (asked_by kind) home) (λ log. was ≡ flags_before i log) old.seen new.seen → Answers (enqueue_command kind i) (Flagged (enqueue_command kind i) was) old new
+pub Answers-enqueue : (kind : asking.Kind) (i : ℕ) (was : Flags) (old new : MachineState) → new ≡ record old { seen = new.seen; rang = true } → GoesTo (enqueued_log i (asks_of_kind kind) home) (λ log. was ≡ flags_before i log) old.seen new.seen → Answers (enqueue_command kind i) (Flagged (enqueue_command kind i) was) old new
 Answers-enqueue kind i was old new rest goes =
-    Answers-goes (enqueue_command kind i) (Flagged (enqueue_command kind i) was) (enqueued_log i (asked_by kind) home) (λ log. was ≡ flags_before i log) old new
-    (ap (λ (m : MachineState). m.sizes) rest) (ap (λ (m : MachineState). m.lists) rest) (ap (λ (m : MachineState). m.living) rest) goes (enqueued_lives i (asked_by kind))
-    (λ log rung. ap (λ (m : MachineState). m.rang) rest ∙ sym (enqueued_rings i (asked_by kind) home log)) (λ log marked. stay_marked old new (history_of (enqueued_log i (asked_by kind) home log)) (ap (λ (m : MachineState). m.marks) rest) (enqueued_marked i (asked_by kind) old.marks log marked)) (does_enqueue kind i was)
+    Answers-goes (enqueue_command kind i) (Flagged (enqueue_command kind i) was) (enqueued_log i (asks_of_kind kind) home) (λ log. was ≡ flags_before i log) old new
+    (ap (λ (m : MachineState). m.sizes) rest) (ap (λ (m : MachineState). m.lists) rest) (ap (λ (m : MachineState). m.living) rest) goes (enqueued_lives i (asks_of_kind kind))
+    (λ log rung. ap (λ (m : MachineState). m.rang) rest ∙ sym (enqueued_rings i (asks_of_kind kind) home log)) (λ log marked. stay_marked old new (history_of (enqueued_log i (asks_of_kind kind) home log)) (ap (λ (m : MachineState). m.marks) rest) (enqueued_marked i (asks_of_kind kind) old.marks log marked)) (does_enqueue kind i was)
 
 pub Answers-cancel : (i : ℕ) (was : Flags) (old new : MachineState) → new ≡ record old { seen = new.seen } → GoesTo (canceled_log i home) (λ log. was ≡ flags_before i log) old.seen new.seen → Answers (Cancel i) (Flagged (Cancel i) was) old new
 Answers-cancel i was old new rest goes =

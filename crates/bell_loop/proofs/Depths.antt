@@ -6,7 +6,7 @@ use Rattle.aio_model.specs.declared.scripts.loop_scripts.ActKind.{ActKind}
 use Rattle.aio_model.specs.Loop.History.{Sizes, Free}
 use Rattle.aio_model.specs.Loop.Flags.{is_lot}
 use Rattle.aio_model.specs.Loop.Frame.{Answer, Ended, Nests, Entered, PollPlace, Makes, EntersRunner, Body, Turn, Turns, Frame, DoesEntries, lent_of, nests_above}
-use Rattle.aio_model.specs.Scripts.LoopActs.{Waiting, DoesActs, behind_nest, answer_of, waiting_after}
+use Rattle.aio_model.specs.Scripts.LoopActs.{Waiting, DoesActs, behind_nest, answer_of_acts, waiting_after}
 use Rattle.aio_model.proofs.Frames.{DoesEntries-append}
 use Rattle.bell_loop.specs.Entering.{DoesEntry, MayEnter, BellNotes}
 
@@ -82,7 +82,7 @@ module _ (acts : ℕ → List ActKind) (sizes : Sizes) where
       ap behind_front e
 
   -- an entry that ends the body
-  KeepsBody-ended : (bh : ℕ) (job : Option ℕ) (first : Bool) (nests deeper : ℕ) (answer : Answer) (a b : PollPlace) → (0 < nests → 0 < deeper) → (first ≡ false → 0 < deeper) → ((o : Option (List ActKind)) (w : Waiting) → answer ≡ answer_of o → waiting_after o nests w ≡ w) → EntersRunner (lent_of bh job first nests) answer a b → KeepsBody deeper first a b
+  KeepsBody-ended : (bh : ℕ) (job : Option ℕ) (first : Bool) (nests deeper : ℕ) (answer : Answer) (a b : PollPlace) → (0 < nests → 0 < deeper) → (first ≡ false → 0 < deeper) → ((o : Option (List ActKind)) (w : Waiting) → answer ≡ answer_of_acts o → waiting_after o nests w ≡ w) → EntersRunner (lent_of bh job first nests) answer a b → KeepsBody deeper first a b
   KeepsBody-ended bh job first nests deeper answer a b nest further stays enters = record {
     more = record { lent = lent_of bh job first nests; answer = answer; made = enters.made } ∷ [];
     longer = enters.log;
@@ -94,16 +94,16 @@ module _ (acts : ℕ → List ActKind) (sizes : Sizes) where
         ((runs.0.waiting, same, did), did.leaves ∙ stays (behind_nest did.todo) did.below did.answers ∙ below);
   }
 
-  stays_ended : (nests : ℕ) (o : Option (List ActKind)) (w : Waiting) → Ended ≡ answer_of o → waiting_after o nests w ≡ w
+  stays_ended : (nests : ℕ) (o : Option (List ActKind)) (w : Waiting) → Ended ≡ answer_of_acts o → waiting_after o nests w ≡ w
   stays_ended nests None w h = refl
   stays_ended nests (Some later) w h = absurd (false≢true (ap is_nesting h))
 
-  stays_cut : (answer : Answer) (o : Option (List ActKind)) (w : Waiting) → answer ≡ answer_of o → waiting_after o zero w ≡ w
+  stays_cut : (answer : Answer) (o : Option (List ActKind)) (w : Waiting) → answer ≡ answer_of_acts o → waiting_after o zero w ≡ w
   stays_cut answer None w h = refl
   stays_cut answer (Some later) w h = refl
 
   -- what waits behind a nest
-  waits_behind : (o : Option (List ActKind)) (nests : ℕ) (below : Waiting) → Nests ≡ answer_of o → (later : List ActKind) × (waiting_after o (suc nests) below ≡ later ∷ below)
+  waits_behind : (o : Option (List ActKind)) (nests : ℕ) (below : Waiting) → Nests ≡ answer_of_acts o → (later : List ActKind) × (waiting_after o (suc nests) below ≡ later ∷ below)
   waits_behind (Some later) nests below h = (later, refl)
   waits_behind None nests below h = absurd (false≢true (sym (ap is_nesting h)))
 

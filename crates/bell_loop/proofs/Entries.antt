@@ -8,10 +8,10 @@ use Rattle.aio_model.specs.Loop.History.{EnqueueAsks, Enqueue, Put, History}
 use Rattle.aio_model.specs.Loop.Log.{rings}
 use Rattle.aio_model.specs.Loop.Seats.{home}
 use Rattle.aio_model.specs.Loop.Frame.{Ended, Nests, lent_of}
-use Rattle.aio_model.specs.Scripts.LoopActs.{Waiting, Add, acts_called, made_by, before_nest, behind_nest, is_nest, answer_of, waiting_after}
+use Rattle.aio_model.specs.Scripts.LoopActs.{Waiting, Add, acts_called, made_by_act, before_nest, behind_nest, is_nest, answer_of_acts, waiting_after}
 use Rattle.aio_model.specs.Scripts.LoopReplies.{called_by}
-use Rattle.bell_loop.specs.Actions.{AreWithin, asks, some_asks, some_rings}
-use Rattle.bell_loop.specs.Entering.{NamesCalled, FindsTodo, MayEnter, DoesEntry, noted}
+use Rattle.bell_loop.specs.Actions.{AreWithin, is_notifying, some_asks, some_rings}
+use Rattle.bell_loop.specs.Entering.{NamesCalled, FindsTodo, MayEnter, DoesEntry, notes_left}
 
 pub some_rings-append : (newer older : History) → some_rings (newer ++ older) ≡ (some_rings older || some_rings newer)
 some_rings-append [] older = false_last (some_rings older)
@@ -35,7 +35,7 @@ enqueue_rings : (i : ℕ) (asked : EnqueueAsks) (was : Flags) (b : Bool) → som
 enqueue_rings i asked was true = refl
 enqueue_rings i asked was false = refl
 
-made_rings : (what : ActKind) (was : Flags) → some_rings (made_by what was) ≡ asks what
+made_rings : (what : ActKind) (was : Flags) → some_rings (made_by_act what was) ≡ is_notifying what
 made_rings (Schedule i) was = enqueue_rings i _ was was.pending
 made_rings (Idle i) was = enqueue_rings i _ was was.pending
 made_rings (Delete i) was = enqueue_rings i _ was was.pending
@@ -46,7 +46,7 @@ made_rings Nest was = refl
 pub Add-rings : (todo : List ActKind) (made : History) → Add todo made → some_rings made ≡ some_asks todo
 Add-rings [] made none = ap some_rings none
 Add-rings (what ∷ todo) made adds =
-    ap some_rings adds.2 ∙ some_rings-append adds.1 (made_by what adds.0) ∙ ap (λ b. b || some_rings adds.1) (made_rings what adds.0) ∙ ap (λ b. asks what || b) (Add-rings todo adds.1 adds.3)
+    ap some_rings adds.2 ∙ some_rings-append adds.1 (made_by_act what adds.0) ∙ ap (λ b. b || some_rings adds.1) (made_rings what adds.0) ∙ ap (λ b. is_notifying what || b) (Add-rings todo adds.1 adds.3)
 
 -- what waits behind a further entry leaves room
 room_behind : (todo : List ActKind) (w w' : Waiting) → w ≡ todo ∷ w' → length w ≤ 7 → length w' < 7
@@ -65,7 +65,7 @@ module _ (acts : ℕ → List ActKind) (bh : ℕ) (job : Option ℕ) (first : Bo
     (names : (calls : List Called) → NamesCalled ran more calls → NamesCalled ran' more' (cond first (calls ++ called_by bh job ∷ []) calls))
     (finds : FindsTodo acts first bh job todo w w') (adds : Add (before_nest todo) made) (told : rang' ≡ (rang || some_asks (before_nest todo))) where
   -- no nest was left to do
-  pub DoesEntry-ended : behind_nest todo ≡ None → DoesEntry acts (noted w ran more rang) (record { lent = lent_of bh job first nests; answer = Ended; made = made }) (noted w' ran' more' rang')
+  pub DoesEntry-ended : behind_nest todo ≡ None → DoesEntry acts (notes_left w ran more rang) (record { lent = lent_of bh job first nests; answer = Ended; made = made }) (notes_left w' ran' more' rang')
   DoesEntry-ended none = record {
     names = names;
     rang = told ∙ ap (λ b. rang || b) (sym (Add-rings (before_nest todo) made adds));
@@ -74,13 +74,13 @@ module _ (acts : ℕ → List ActKind) (bh : ℕ) (job : Option ℕ) (first : Bo
       below = w';
       finds = found acts first bh job nests todo w w' finds may;
       adds = adds;
-      answers = ap answer_of (sym none);
+      answers = ap answer_of_acts (sym none);
       leaves = ap (λ o. waiting_after o nests w') (sym none);
     };
   }
 
   -- it nested, and waits where it may
-  pub DoesEntry-nested : (later : List ActKind) (w2 : Waiting) → behind_nest todo ≡ Some later → ((nests ≡ 0) ⊎ (length w' < 7) → w2 ≡ waiting_after (Some later) nests w') → DoesEntry acts (noted w ran more rang) (record { lent = lent_of bh job first nests; answer = Nests; made = made }) (noted w2 ran' more' rang')
+  pub DoesEntry-nested : (later : List ActKind) (w2 : Waiting) → behind_nest todo ≡ Some later → ((nests ≡ 0) ⊎ (length w' < 7) → w2 ≡ waiting_after (Some later) nests w') → DoesEntry acts (notes_left w ran more rang) (record { lent = lent_of bh job first nests; answer = Nests; made = made }) (notes_left w2 ran' more' rang')
   DoesEntry-nested later w2 some waits = record {
     names = names;
     rang = told ∙ ap (λ b. rang || b) (sym (Add-rings (before_nest todo) made adds));
@@ -89,7 +89,7 @@ module _ (acts : ℕ → List ActKind) (bh : ℕ) (job : Option ℕ) (first : Bo
       below = w';
       finds = found acts first bh job nests todo w w' finds may;
       adds = adds;
-      answers = ap answer_of (sym some);
+      answers = ap answer_of_acts (sym some);
       leaves = waits (may_wait acts first bh job nests todo w w' finds may) ∙ ap (λ o. waiting_after o nests w') (sym some);
     };
   }

@@ -9,7 +9,7 @@ use Rattle.aio_model.specs.Loop.Flags.{is_pending, ends_round, enqueues, puts}
 use Rattle.aio_model.specs.Loop.Lists.{was_put, is_set, out_of}
 use Rattle.aio_model.specs.Loop.Legal.{IsLegal, MayAsk}
 use Rattle.aio_model.specs.Loop.Seats.{home}
-use Rattle.aio_model.specs.Scripts.LoopActs.{Add, made_by}
+use Rattle.aio_model.specs.Scripts.LoopActs.{Add, made_by_act}
 use Rattle.aio_model.proofs.Rounds.{legal_cut}
 use Rattle.aio_model.specs.Loop.FlagsWord.{bit}
 use Rattle.bell_loop.specs.Running.{NoneAnnounced, Lots, StackBelow}
@@ -44,7 +44,7 @@ NoneAnnounced-enqueue sizes k asked flags true h found legal before i =
 NoneAnnounced-enqueue sizes k asked flags false h found legal before i =
     put_after (eqb i k) (is_pending i h) (was_put i h) (before i)
 
-pub NoneAnnounced-act : (sizes : Sizes) (what : ActKind) (was : Flags) (h : History) → IsLegal sizes (made_by what was ++ h) → NoneAnnounced h → NoneAnnounced (made_by what was ++ h)
+pub NoneAnnounced-act : (sizes : Sizes) (what : ActKind) (was : Flags) (h : History) → IsLegal sizes (made_by_act what was ++ h) → NoneAnnounced h → NoneAnnounced (made_by_act what was ++ h)
 NoneAnnounced-act sizes (Schedule k) was h legal before = NoneAnnounced-enqueue sizes k _ was was.pending h refl legal before
 NoneAnnounced-act sizes (Idle k) was h legal before = NoneAnnounced-enqueue sizes k _ was was.pending h refl legal before
 NoneAnnounced-act sizes (Delete k) was h legal before = NoneAnnounced-enqueue sizes k _ was was.pending h refl legal before
@@ -55,9 +55,9 @@ pub NoneAnnounced-acts : (sizes : Sizes) (todo : List ActKind) (made h : History
 NoneAnnounced-acts sizes [] made h none legal before =
     subst (λ m. NoneAnnounced (m ++ h)) (sym none) before
 NoneAnnounced-acts sizes (what ∷ todo) made h adds legal before =
-    let here : made ++ h ≡ adds.1 ++ (made_by what adds.0 ++ h) = ap (λ m. m ++ h) adds.2 ∙ append_assoc adds.1 (made_by what adds.0) h in
-    let legal_here : IsLegal sizes (adds.1 ++ (made_by what adds.0 ++ h)) = subst (IsLegal sizes) here legal in
-    subst NoneAnnounced (sym here) (NoneAnnounced-acts sizes todo adds.1 (made_by what adds.0 ++ h) adds.3 legal_here (NoneAnnounced-act sizes what adds.0 h (legal_cut sizes adds.1 (made_by what adds.0 ++ h) legal_here) before))
+    let here : made ++ h ≡ adds.1 ++ (made_by_act what adds.0 ++ h) = ap (λ m. m ++ h) adds.2 ∙ append_assoc adds.1 (made_by_act what adds.0) h in
+    let legal_here : IsLegal sizes (adds.1 ++ (made_by_act what adds.0 ++ h)) = subst (IsLegal sizes) here legal in
+    subst NoneAnnounced (sym here) (NoneAnnounced-acts sizes todo adds.1 (made_by_act what adds.0 ++ h) adds.3 legal_here (NoneAnnounced-act sizes what adds.0 h (legal_cut sizes adds.1 (made_by_act what adds.0 ++ h) legal_here) before))
 
 -- Lots.
 
@@ -77,7 +77,7 @@ Lots-enqueue X k asked flags false h before i alive =
       | inr other ↦ inr other
     ]
 
-Lots-act : (X : ℕ → Type 0) (what : ActKind) (was : Flags) (h : History) → Lots X h → Lots X (made_by what was ++ h)
+Lots-act : (X : ℕ → Type 0) (what : ActKind) (was : Flags) (h : History) → Lots X h → Lots X (made_by_act what was ++ h)
 Lots-act X (Schedule k) was h before = Lots-enqueue X k _ was was.pending h before
 Lots-act X (Idle k) was h before = Lots-enqueue X k _ was was.pending h before
 Lots-act X (Delete k) was h before = Lots-enqueue X k _ was was.pending h before
@@ -87,8 +87,8 @@ Lots-act X Nest was h before = before
 pub Lots-acts : (X : ℕ → Type 0) (todo : List ActKind) (made h : History) → Add todo made → Lots X h → Lots X (made ++ h)
 Lots-acts X [] made h none before = subst (λ m. Lots X (m ++ h)) (sym none) before
 Lots-acts X (what ∷ todo) made h adds before =
-    let here : made ++ h ≡ adds.1 ++ (made_by what adds.0 ++ h) = ap (λ m. m ++ h) adds.2 ∙ append_assoc adds.1 (made_by what adds.0) h in
-    subst (Lots X) (sym here) (Lots-acts X todo adds.1 (made_by what adds.0 ++ h) adds.3 (Lots-act X what adds.0 h before))
+    let here : made ++ h ≡ adds.1 ++ (made_by_act what adds.0 ++ h) = ap (λ m. m ++ h) adds.2 ∙ append_assoc adds.1 (made_by_act what adds.0) h in
+    subst (Lots X) (sym here) (Lots-acts X todo adds.1 (made_by_act what adds.0 ++ h) adds.3 (Lots-act X what adds.0 h before))
 
 -- what callbacks push are handles
 
@@ -103,7 +103,7 @@ handle_of : (sizes : Sizes) (k : ℕ) (asked : EnqueueAsks) (flags : Flags) (b :
 handle_of sizes k asked flags true h may legal = may legal.0.2
 handle_of sizes k asked flags false h may legal = may legal.1.0.2
 
-StackBelow-act : (sizes : Sizes) (what : ActKind) (was : Flags) (h : History) → IsLegal sizes (made_by what was ++ h) → StackBelow sizes h → StackBelow sizes (made_by what was ++ h)
+StackBelow-act : (sizes : Sizes) (what : ActKind) (was : Flags) (h : History) → IsLegal sizes (made_by_act what was ++ h) → StackBelow sizes h → StackBelow sizes (made_by_act what was ++ h)
 StackBelow-act sizes (Schedule k) was h legal before = StackBelow-enqueue sizes k _ was was.pending h (handle_of sizes k ToCall was was.pending h (λ m. m) legal) before
 StackBelow-act sizes (Idle k) was h legal before = StackBelow-enqueue sizes k _ was was.pending h (handle_of sizes k ToCallIdle was was.pending h (λ m. m) legal) before
 StackBelow-act sizes (Delete k) was h legal before = StackBelow-enqueue sizes k _ was was.pending h (handle_of sizes k ToDelete was was.pending h (λ m. m) legal) before
@@ -114,9 +114,9 @@ pub StackBelow-acts : (sizes : Sizes) (todo : List ActKind) (made h : History) �
 StackBelow-acts sizes [] made h none legal before =
     subst (λ m. StackBelow sizes (m ++ h)) (sym none) before
 StackBelow-acts sizes (what ∷ todo) made h adds legal before =
-    let here : made ++ h ≡ adds.1 ++ (made_by what adds.0 ++ h) = ap (λ m. m ++ h) adds.2 ∙ append_assoc adds.1 (made_by what adds.0) h in
-    let legal_here : IsLegal sizes (adds.1 ++ (made_by what adds.0 ++ h)) = subst (IsLegal sizes) here legal in
-    subst (StackBelow sizes) (sym here) (StackBelow-acts sizes todo adds.1 (made_by what adds.0 ++ h) adds.3 legal_here (StackBelow-act sizes what adds.0 h (legal_cut sizes adds.1 (made_by what adds.0 ++ h) legal_here) before))
+    let here : made ++ h ≡ adds.1 ++ (made_by_act what adds.0 ++ h) = ap (λ m. m ++ h) adds.2 ∙ append_assoc adds.1 (made_by_act what adds.0) h in
+    let legal_here : IsLegal sizes (adds.1 ++ (made_by_act what adds.0 ++ h)) = subst (IsLegal sizes) here legal in
+    subst (StackBelow sizes) (sym here) (StackBelow-acts sizes todo adds.1 (made_by_act what adds.0 ++ h) adds.3 legal_here (StackBelow-act sizes what adds.0 h (legal_cut sizes adds.1 (made_by_act what adds.0 ++ h) legal_here) before))
 
 -- What is out, and which events are set.
 
@@ -128,7 +128,7 @@ set-enqueue : (e k : ℕ) (asked : EnqueueAsks) (flags : Flags) (b : Bool) (h : 
 set-enqueue e k asked flags true h = refl
 set-enqueue e k asked flags false h = refl
 
-set-act : (e : ℕ) (what : ActKind) (was : Flags) (h : History) → is_set e (made_by what was ++ h) ≡ is_set e h
+set-act : (e : ℕ) (what : ActKind) (was : Flags) (h : History) → is_set e (made_by_act what was ++ h) ≡ is_set e h
 set-act e (Schedule k) was h = set-enqueue e k ToCall was was.pending h
 set-act e (Idle k) was h = set-enqueue e k ToCallIdle was was.pending h
 set-act e (Delete k) was h = set-enqueue e k ToDelete was was.pending h
@@ -139,5 +139,5 @@ set-act e Nest was h = refl
 pub set-acts : (e : ℕ) (todo : List ActKind) (made h : History) → Add todo made → is_set e (made ++ h) ≡ is_set e h
 set-acts e [] made h none = ap (λ m. is_set e (m ++ h)) none
 set-acts e (what ∷ todo) made h adds =
-    let here : made ++ h ≡ adds.1 ++ (made_by what adds.0 ++ h) = ap (λ m. m ++ h) adds.2 ∙ append_assoc adds.1 (made_by what adds.0) h in
-    ap (is_set e) here ∙ set-acts e todo adds.1 (made_by what adds.0 ++ h) adds.3 ∙ set-act e what adds.0 h
+    let here : made ++ h ≡ adds.1 ++ (made_by_act what adds.0 ++ h) = ap (λ m. m ++ h) adds.2 ∙ append_assoc adds.1 (made_by_act what adds.0) h in
+    ap (is_set e) here ∙ set-acts e todo adds.1 (made_by_act what adds.0 ++ h) adds.3 ∙ set-act e what adds.0 h

@@ -10,7 +10,7 @@ use Rattle.aio_model.specs.Loop.Legal.{IsLegal}
 use Rattle.aio_model.specs.Loop.Log.{Log, history_of, is_rung, rings}
 use Rattle.aio_model.specs.Loop.Frame.{Lent, Entered, PollPlace, Frame, DoesEntries, start_of, called_of, cut_nests_of}
 use Rattle.aio_model.specs.Scripts.LoopActs.{Waiting, DoesActs, acts_called, acts_of}
-use Rattle.aio_model.specs.Scripts.LoopReplies.{PollsInScript, made_log, counted, named_most, called_as, sizes_of}
+use Rattle.aio_model.specs.Scripts.LoopReplies.{PollsInScript, made_log, named_most, called_as, sizes_of}
 use Rattle.aio_core.specs.Known.{Known}
 use Rattle.aio_bh.specs.declared.polled.Polled.{Polled}
 use Rattle.aio_bh.specs.Polling.{Polls}
@@ -27,6 +27,7 @@ use Rattle.bell_loop.proofs.Alone.{alone_parts, Grown-frame}
 use Rattle.bell_loop.proofs.Depths.{Keeps, Keeps-frame}
 use Rattle.bell_loop.proofs.Entries.{or_assoc}
 use Rattle.bell_loop.proofs.Logs.{history_of-made}
+use Rattle.aio_model.specs.Counts.{counted}
 
 other_acts : (f g : ℕ → List ActKind) → ((bh : ℕ) → f bh ≡ g bh) → (bh : ℕ) (job : Option ℕ) → acts_called f bh job ≡ acts_called g bh job
 other_acts f g agree bh None = agree bh

@@ -10,7 +10,7 @@ use Rattle.aio_model.specs.Loop.Legal.{IsLegal}
 use Rattle.aio_model.specs.Loop.Seats.{home, entries_of}
 use Rattle.aio_core.specs.Known.{Known, Running, Scanning, Scan, numbers_of, is_running}
 use Rattle.aio_core.specs.SleepSteps.{Learns, scan_in}
-use Rattle.aio_core.specs.Scans.{LookedAt, Passes, PassesAll, Scans, FoundNone, FoundUrgent, some_idle, none_urgent, indices_of}
+use Rattle.aio_core.specs.Scans.{LookedAt, Passes, PassesAll, Scans, FoundNone, FoundUrgent, some_idle, none_urgent, indices_loaded}
 use Rattle.table_seats.proofs.Standing.{entries-append}
 use Rattle.aio_bh.proofs.Entries.{none_of_home}
 use Rattle.bell_loop.specs.Running.{IsAlone, Calm, OnlyOthers, Finds}
@@ -102,7 +102,7 @@ not_true : (b : Bool) → not b ≡ true → b ≡ false
 not_true true h = absurd (false≢true h)
 not_true false h = refl
 
-in_order : (begun : Known) (loads : List LookedAt) (after : Known) → none_urgent loads ≡ true → PassesAll loads begun after → indices_of loads ++ (scan_in after.sleep).left ≡ (scan_in begun.sleep).left
+in_order : (begun : Known) (loads : List LookedAt) (after : Known) → none_urgent loads ≡ true → PassesAll loads begun after → indices_loaded loads ++ (scan_in after.sleep).left ≡ (scan_in begun.sleep).left
 in_order begun [] after calm same = ap (λ (k : Known). (scan_in k.sleep).left) same
 in_order begun (looked ∷ older) after calm passes =
     let parts = and_parts (not (are_urgent looked.flags)) (none_urgent older) calm in
@@ -110,8 +110,8 @@ in_order begun (looked ∷ older) after calm passes =
     let lifted = passes.3.lifted in
     let same : (scan_in lifted.sleep).left ≡ (scan_in mid.sleep).left = ap (λ (k : Known). (scan_in k.sleep).left) passes.3.next.rest in
     let left : (scan_in after.sleep).left ≡ drop 1 (scan_in mid.sleep).left = ap (λ (k : Known). (scan_in k.sleep).left) passes.3.flags.rest ∙ left_behind (are_urgent looked.flags) _ (scan_in lifted.sleep) (not_true _ parts.0) ∙ ap (drop 1) same in
-    append_assoc (indices_of older) (looked.index ∷ []) (scan_in after.sleep).left
-    ∙ ap (λ l. indices_of older ++ (looked.index ∷ l)) left ∙ ap (λ l. indices_of older ++ l) (sym (was_first looked mid after passes.3)) ∙ in_order begun older mid parts.1 passes.1
+    append_assoc (indices_loaded older) (looked.index ∷ []) (scan_in after.sleep).left
+    ∙ ap (λ l. indices_loaded older ++ (looked.index ∷ l)) left ∙ ap (λ l. indices_loaded older ++ l) (sym (was_first looked mid after passes.3)) ∙ in_order begun older mid parts.1 passes.1
 
 -- What was found, by the lists.
 
@@ -121,12 +121,12 @@ find_past h i ys calm = rw calm refl
 find_at : (h : History) (i : ℕ) (ys : List ℕ) → is_urgent i h ≡ true → find (λ k. is_urgent k h) (i ∷ ys) ≡ Some i
 find_at h i ys urgent = rw urgent refl
 
-find_behind : (h : History) (loads : List LookedAt) (ys : List ℕ) → none_urgent loads ≡ true → HaveFlags h loads → find (λ k. is_urgent k h) (indices_of loads ++ ys) ≡ find (λ k. is_urgent k h) ys
+find_behind : (h : History) (loads : List LookedAt) (ys : List ℕ) → none_urgent loads ≡ true → HaveFlags h loads → find (λ k. is_urgent k h) (indices_loaded loads ++ ys) ≡ find (λ k. is_urgent k h) ys
 find_behind h [] ys calm flags = refl
 find_behind h (looked ∷ older) ys calm flags =
     let parts = and_parts (not (are_urgent looked.flags)) (none_urgent older) calm in
     let not_urgent : is_urgent looked.index h ≡ false = ap are_urgent (sym flags.0) ∙ not_true _ parts.0 in
-    ap (find (λ k. is_urgent k h)) (append_assoc (indices_of older) (looked.index ∷ []) ys) ∙ find_behind h older (looked.index ∷ ys) parts.1 flags.1 ∙ find_past h looked.index ys not_urgent
+    ap (find (λ k. is_urgent k h)) (append_assoc (indices_loaded older) (looked.index ∷ []) ys) ∙ find_behind h older (looked.index ∷ ys) parts.1 flags.1 ∙ find_past h looked.index ys not_urgent
 
 due-append : (h : History) (xs ys : List ℕ) → some_due h (xs ++ ys) ≡ (some_due h xs || some_due h ys)
 due-append h [] ys = refl
@@ -142,12 +142,12 @@ idle-due true true h = refl
 idle-due true false h = absurd (false≢true h)
 idle-due false idle h = refl
 
-idle_is-due : (h : History) (loads : List LookedAt) → none_urgent loads ≡ true → HaveFlags h loads → some_idle loads ≡ some_due h (indices_of loads)
+idle_is-due : (h : History) (loads : List LookedAt) → none_urgent loads ≡ true → HaveFlags h loads → some_idle loads ≡ some_due h (indices_loaded loads)
 idle_is-due h [] calm flags = refl
 idle_is-due h (looked ∷ older) calm flags =
     let parts = and_parts (not (are_urgent looked.flags)) (none_urgent older) calm in
     let here : (are_due looked.flags && looked.flags.idle) ≡ (is_due looked.index h || false) = idle-due (are_due looked.flags) looked.flags.idle parts.0 ∙ ap (λ f. are_due f || false) flags.0 in
-    ap (λ b. b || (are_due looked.flags && looked.flags.idle)) (idle_is-due h older parts.1 flags.1) ∙ ap (λ b. some_due h (indices_of older) || b) here ∙ sym (due-append h (indices_of older) (looked.index ∷ []))
+    ap (λ b. b || (are_due looked.flags && looked.flags.idle)) (idle_is-due h older parts.1 flags.1) ∙ ap (λ b. some_due h (indices_loaded older) || b) here ∙ sym (due-append h (indices_loaded older) (looked.index ∷ []))
 
 -- The scan.
 module _ (urgent : Option ℕ) (idle : Bool) (before after : Known) (scans : Scans urgent idle before after) (first : before.first ≡ 64) (count : before.count ≡ 1) where
@@ -199,9 +199,9 @@ module _ (urgent : Option ℕ) (idle : Bool) (before after : Known) (scans : Sca
 
     finds_none : FoundNone scans.begun scans.loads after → Finds before.sizes None idle after.seen
     finds_none none =
-        let stack : indices_of scans.loads ≡ stack_of after.seen = none.all ∙ list_is in
+        let stack : indices_loaded scans.loads ≡ stack_of after.seen = none.all ∙ list_is in
         record {
-          newest = sym (ap (find (λ i. is_urgent i after.seen)) (sym stack ∙ sym (append-nil (indices_of scans.loads))) ∙ find_behind after.seen scans.loads [] none.none flags_now);
+          newest = sym (ap (find (λ i. is_urgent i after.seen)) (sym stack ∙ sym (append-nil (indices_loaded scans.loads))) ∙ find_behind after.seen scans.loads [] none.none flags_now);
           due = λ _. scans.idle_is ∙ idle_is-due after.seen scans.loads none.none flags_now ∙ ap (some_due after.seen) stack ∙ due-in_stack before.sizes after.seen scan_legal calm_now.announced calm_now.none_out;
         }
 
@@ -210,7 +210,7 @@ module _ (urgent : Option ℕ) (idle : Bool) (before after : Known) (scans : Sca
         let passes : PassesAll (record { index = i; flags = found.flags } ∷ found.older) scans.begun after = subst (λ l. PassesAll l scans.begun after) found.newest scans.passes in
         let flags : HaveFlags after.seen (record { index = i; flags = found.flags } ∷ found.older) = subst (HaveFlags after.seen) found.newest flags_now in
         let order = in_order scans.begun found.older passes.0 found.none passes.1 in
-        let stack : stack_of after.seen ≡ indices_of found.older ++ (i ∷ drop 1 (scan_in passes.0.sleep).left) = sym list_is ∙ sym left_is ∙ sym order ∙ ap (λ l. indices_of found.older ++ l) (was_first (record { index = i; flags = found.flags }) passes.0 after passes.3) in
+        let stack : stack_of after.seen ≡ indices_loaded found.older ++ (i ∷ drop 1 (scan_in passes.0.sleep).left) = sym list_is ∙ sym left_is ∙ sym order ∙ ap (λ l. indices_loaded found.older ++ l) (was_first (record { index = i; flags = found.flags }) passes.0 after passes.3) in
         record {
           newest = sym (ap (find (λ k. is_urgent k after.seen)) stack ∙ find_behind after.seen found.older (i ∷ drop 1 (scan_in passes.0.sleep).left) found.none flags.1 ∙ find_at after.seen i (drop 1 (scan_in passes.0.sleep).left) found.now);
           due = λ (none : Some i ≡ None). absurd cc;

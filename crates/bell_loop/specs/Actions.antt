@@ -7,7 +7,7 @@ use Rattle.aio_model.specs.declared.scripts.loop_scripts.ActKind.TheVariants.{Sc
 use Rattle.aio_model.specs.Loop.History.{History}
 use Rattle.aio_model.specs.Loop.Legal.{IsLegal}
 use Rattle.aio_model.specs.Loop.Log.{rings}
-use Rattle.aio_model.specs.Scripts.LoopActs.{Add, made_by}
+use Rattle.aio_model.specs.Scripts.LoopActs.{Add, made_by_act}
 use Rattle.aio_model.specs.Loop.InFlight.{AtRest}
 use Rattle.aio_core.specs.Known.{Known}
 use Rattle.aio_core.specs.Calls.{TableState, SeatState, IsSeatOf}
@@ -29,7 +29,7 @@ pub record IsLent (table : TableState) (seat : SeatState) : Type 0 where
 -- one action was done, and nothing else
 pub record Acts (what : ActKind) (before after : Known) : Type 0 where
   pub was : Flags
-  pub back : SeatComesBack (made_by what was) before after
+  pub back : SeatComesBack (made_by_act what was) before after
 
 -- these actions
 pub record ActsAll (todo : List ActKind) (before after : Known) : Type 0 where
@@ -43,13 +43,13 @@ some_rings [] = false
 some_rings (e ∷ older) = rings e || some_rings older
 
 -- the action notifies
-abbrev pub asks : ActKind → Bool
-asks (Schedule i) = true
-asks (Idle i) = true
-asks (Delete i) = true
-asks (CancelOf i) = false
-asks Nest = false
+abbrev pub is_notifying : ActKind → Bool
+is_notifying (Schedule i) = true
+is_notifying (Idle i) = true
+is_notifying (Delete i) = true
+is_notifying (CancelOf i) = false
+is_notifying Nest = false
 
 abbrev pub some_asks : List ActKind → Bool
 some_asks [] = false
-some_asks (act ∷ later) = asks act || some_asks later
+some_asks (act ∷ later) = is_notifying act || some_asks later

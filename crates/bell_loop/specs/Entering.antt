@@ -6,8 +6,9 @@ use Rattle.aio_model.specs.declared.scripts.loop_scripts.ActKind.{ActKind}
 use Rattle.aio_model.specs.declared.loops.ran_lists.Called.{Called}
 use Rattle.aio_model.specs.Loop.Frame.{Lent, Entered}
 use Rattle.aio_model.specs.Scripts.LoopActs.{Waiting, DoesActs, acts_called, acts_of}
-use Rattle.aio_model.specs.Scripts.LoopReplies.{counted, named_most, called_as}
+use Rattle.aio_model.specs.Scripts.LoopReplies.{named_most, called_as}
 use Rattle.bell_loop.specs.Actions.{AreWithin, some_rings}
+use Rattle.aio_model.specs.Counts.{counted}
 
 -- the list of actions of each handle
 abbrev pub acts_at : List (List ActKind) → ℕ → List ActKind
@@ -30,8 +31,8 @@ pub record BellNotes : Type 0 where
   pub more : ℕ
   pub rang : Bool
 
-abbrev pub noted : Waiting → List Called → ℕ → Bool → BellNotes
-noted waiting ran more rang =
+abbrev pub notes_left : Waiting → List Called → ℕ → Bool → BellNotes
+notes_left waiting ran more rang =
     record { waiting = waiting; ran = ran; more = more; rang = rang }
 
 -- whoever is entered first was called

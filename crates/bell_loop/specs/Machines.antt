@@ -73,8 +73,8 @@ enqueue_command IdleKind i = Idle i
 enqueue_command Del i = Delete i
 
 -- what a machine stands for
-abbrev pub state_of : {R : Type 0} → Machine R → MachineState
-state_of machine =
+abbrev pub machine_state_of : {R : Type 0} → Machine R → MachineState
+machine_state_of machine =
     record { sizes = machine.table.sizes; lists = map (λ l. l.items) machine.callbacks.lists.now; seen = machine.home.seat.known.seen; rang = machine.callbacks.rang; living = machine.living; marks = machine.marks }
 
 -- it may do a command

@@ -184,11 +184,11 @@ impl<'a, R: Wait> Callbacks<'a, R> {
 
 impl<'a, R: Wait> Runner<Tag> for Callbacks<'a, R> {
     ghost use Rattle.std.specs.Prelude.{◌≡◌, map};
-    ghost use Rattle.bell_loop.specs.Entering.{acts_at, CanRun, DoesEntry, noted};
+    ghost use Rattle.bell_loop.specs.Entering.{acts_at, CanRun, DoesEntry, notes_left};
 
     ghost can_run = { λ r sizes. CanRun sizes.handles (map (λ l. l.items) r.lists.now) r.waiting };
 
-    ghost does = { λ before entered after. (after.lists ≡ before.lists) × DoesEntry (acts_at (map (λ l. l.items) before.lists.now)) (noted before.waiting before.ran before.more before.rang) entered (noted after.waiting after.ran after.more after.rang) };
+    ghost does = { λ before entered after. (after.lists ≡ before.lists) × DoesEntry (acts_at (map (λ l. l.items) before.lists.now)) (notes_left before.waiting before.ran before.more before.rang) entered (notes_left after.waiting after.ran after.more after.rang) };
 
     fn run(&mut self, table: &LoopTable<Tag>, seat: &mut Seat<Tag>, call: &mut Call<Tag>) -> Turn {
         let todo = self.begin(call.bh, call.job, call.first);

@@ -7,7 +7,7 @@ ghost use Rattle.aio_model.specs.Loop.Flags.{is_pending};
 ghost use Rattle.aio_model.specs.Scripts.LoopLines.{HasNoDeadline};
 ghost use Rattle.aio_model.specs.Loop.Log.{Log};
 ghost use Rattle.bell_loop.specs.Running.{Calm, IsAlone};
-ghost use Rattle.bell_loop.specs.Machines.{Answers, IsNew, Ready, KeepsLog, state_of, ran_in, more_in, enqueue_command};
+ghost use Rattle.bell_loop.specs.Machines.{Answers, IsNew, Ready, KeepsLog, machine_state_of, ran_in, more_in, enqueue_command};
 ghost use Rattle.bell_loop.specs.Ending.{clearing, clearings, EndsBy, Leads};
 
 use crate::callbacks::Callbacks;
@@ -60,7 +60,7 @@ impl<'a, R: Wait> Machine<'a, R> {
         requires few_events { events ≤ 64 }
         requires can { CanRun (length lists.now) (map (λ l. l.items) lists.now) [] }
         ensures ready { IfOk result (λ built. Ready built) }
-        ensures new { IfOk result (λ built. IsNew (record { handles = length lists.now; lots = lots; events = events }) (map (λ l. l.items) lists.now) (state_of built)) }
+        ensures new { IfOk result (λ built. IsNew (record { handles = length lists.now; lots = lots; events = events }) (map (λ l. l.items) lists.now) (machine_state_of built)) }
     {
         let handles = lists.len() as u32;
         let Ok(
@@ -100,13 +100,13 @@ impl<'a, R: Wait> Machine<'a, R> {
     }
 
     pub fn handles(&self) -> u32
-        ensures { result ≡ (state_of self.now).sizes.handles }
+        ensures { result ≡ (machine_state_of self.now).sizes.handles }
     {
         self.table.handles()
     }
 
     pub fn events(&self) -> u32
-        ensures { result ≡ (state_of self.now).sizes.events }
+        ensures { result ≡ (machine_state_of self.now).sizes.events }
     {
         self.table.events()
     }
@@ -121,9 +121,9 @@ impl<'a, R: Wait> Machine<'a, R> {
     /// An enqueue of a handle. The answer is the flags found.
     pub fn enqueue(&mut self, bh: u32, kind: Kind) -> Flags
         requires ready { Ready self.old }
-        requires handle { bh < (state_of self.old).sizes.handles }
+        requires handle { bh < (machine_state_of self.old).sizes.handles }
         ensures ready { Ready self.new }
-        ensures answers { Answers (enqueue_command kind bh) (LoopReply.Flagged (enqueue_command kind bh) result) (state_of self.old) (state_of self.new) }
+        ensures answers { Answers (enqueue_command kind bh) (LoopReply.Flagged (enqueue_command kind bh) result) (machine_state_of self.old) (machine_state_of self.new) }
     {
         let was = steps::enqueue(self.rt, &self.table, &mut self.home.seat, bh, kind);
         self.callbacks.rang = true;
@@ -133,18 +133,18 @@ impl<'a, R: Wait> Machine<'a, R> {
     /// Cancels a handle. The answer is the flags found.
     pub fn cancel(&mut self, bh: u32) -> Flags
         requires ready { Ready self.old }
-        requires handle { bh < (state_of self.old).sizes.handles }
+        requires handle { bh < (machine_state_of self.old).sizes.handles }
         ensures ready { Ready self.new }
-        ensures answers { Answers (Command.Cancel bh) (LoopReply.Flagged (Command.Cancel bh) result) (state_of self.old) (state_of self.new) }
+        ensures answers { Answers (Command.Cancel bh) (LoopReply.Flagged (Command.Cancel bh) result) (machine_state_of self.old) (machine_state_of self.new) }
     {
         steps::cancel(&self.table, &mut self.home.seat, bh)
     }
 
     pub fn set(&mut self, event: u32)
         requires ready { Ready self.old }
-        requires event { event < (state_of self.old).sizes.events }
+        requires event { event < (machine_state_of self.old).sizes.events }
         ensures ready { Ready self.new }
-        ensures answers { Answers (Command.Set event) (LoopReply.WasSet event) (state_of self.old) (state_of self.new) }
+        ensures answers { Answers (Command.Set event) (LoopReply.WasSet event) (machine_state_of self.old) (machine_state_of self.new) }
     {
         steps::set(&self.table, &mut self.home.seat, event);
         self.marks.mark(event, true);
@@ -154,9 +154,9 @@ impl<'a, R: Wait> Machine<'a, R> {
     /// Whether the event was set.
     pub fn clear(&mut self, event: u32) -> bool
         requires ready { Ready self.old }
-        requires event { event < (state_of self.old).sizes.events }
+        requires event { event < (machine_state_of self.old).sizes.events }
         ensures ready { Ready self.new }
-        ensures answers { Answers (Command.Clear event) (LoopReply.Cleared event result) (state_of self.old) (state_of self.new) }
+        ensures answers { Answers (Command.Clear event) (LoopReply.Cleared event result) (machine_state_of self.old) (machine_state_of self.new) }
     {
         let was = steps::clear(&self.table, &mut self.home, event);
         self.marks.mark(event, false);
@@ -167,7 +167,7 @@ impl<'a, R: Wait> Machine<'a, R> {
     pub fn once(&mut self, tag: u32) -> bool
         requires ready { Ready self.old }
         ensures ready { Ready self.new }
-        ensures answers { Answers (Command.Once tag) (LoopReply.Placed tag result) (state_of self.old) (state_of self.new) }
+        ensures answers { Answers (Command.Once tag) (LoopReply.Placed tag result) (machine_state_of self.old) (machine_state_of self.new) }
     {
         let placed = steps::once(
             self.rt,
@@ -186,8 +186,8 @@ impl<'a, R: Wait> Machine<'a, R> {
     pub fn poll(&mut self) -> Polled
         requires ready { Ready self.old }
         ensures ready { Ready self.new }
-        ensures answers { Answers Command.Poll (LoopReply.Ran (ran_in self.new) (more_in self.new) result.progress result.cut_nests) (state_of self.old) (state_of self.new) }
-        ensures quiet { (state_of self.old).lists ≡ [] → IsAlone (state_of self.new).seen → Calm (state_of self.old).seen → (i : ℕ) → is_pending i (state_of self.new).seen ≡ false }
+        ensures answers { Answers Command.Poll (LoopReply.Ran (ran_in self.new) (more_in self.new) result.progress result.cut_nests) (machine_state_of self.old) (machine_state_of self.new) }
+        ensures quiet { (machine_state_of self.old).lists ≡ [] → IsAlone (machine_state_of self.new).seen → Calm (machine_state_of self.old).seen → (i : ℕ) → is_pending i (machine_state_of self.new).seen ≡ false }
     {
         self.callbacks.begin_poll();
         let polled = steps::poll(
@@ -207,7 +207,7 @@ impl<'a, R: Wait> Machine<'a, R> {
     pub fn commit(&mut self) -> Commit
         requires ready { Ready self.old }
         ensures ready { Ready self.new }
-        ensures answers { Answers Command.Commit (LoopReply.Committed result) (state_of self.old) (state_of self.new) }
+        ensures answers { Answers Command.Commit (LoopReply.Committed result) (machine_state_of self.old) (machine_state_of self.new) }
         ensures line { HasNoDeadline result }
     {
         let scanned = steps::look(&self.table, &mut self.home);
@@ -221,10 +221,10 @@ impl<'a, R: Wait> Machine<'a, R> {
     /// Clears the event where it is set.
     fn clear_if_set(&mut self, event: u32)
         requires ready { Ready self.old }
-        requires event { event < (state_of self.old).sizes.events }
-        requires none { (state_of self.old).lists ≡ [] }
+        requires event { event < (machine_state_of self.old).sizes.events }
+        requires none { (machine_state_of self.old).lists ≡ [] }
         ensures ready { Ready self.new }
-        ensures leads { Leads (clearing event) (state_of self.old) (state_of self.new) }
+        ensures leads { Leads (clearing event) (machine_state_of self.old) (machine_state_of self.new) }
     {
         if self.marks.is_marked(event) {
             self.clear(event);
@@ -234,9 +234,9 @@ impl<'a, R: Wait> Machine<'a, R> {
     /// Clears each event that is set, in rising order.
     fn clear_all(&mut self)
         requires ready { Ready self.old }
-        requires none { (state_of self.old).lists ≡ [] }
+        requires none { (machine_state_of self.old).lists ≡ [] }
         ensures ready { Ready self.new }
-        ensures leads { Leads (clearings (state_of self.old).sizes.events) (state_of self.old) (state_of self.new) }
+        ensures leads { Leads (clearings (machine_state_of self.old).sizes.events) (machine_state_of self.old) (machine_state_of self.new) }
     {
         for event in 0..self.events() {
             self.clear_if_set(event);
@@ -247,8 +247,8 @@ impl<'a, R: Wait> Machine<'a, R> {
     /// settling. Home alone made the history then, so all that was answered before was answered as `Answers` says.
     pub fn end(mut self) -> LoopEnd<Tag>
         requires ready { Ready self }
-        requires stands { IsAlone (state_of self).seen → (log : Log) × KeepsLog (state_of self) log }
-        ensures ends { EndsBy (state_of self.entry) result.known.seen }
+        requires stands { IsAlone (machine_state_of self).seen → (log : Log) × KeepsLog (machine_state_of self) log }
+        ensures ends { EndsBy (machine_state_of self.entry) result.known.seen }
     {
         self.callbacks.forget_lists();
         self.poll();

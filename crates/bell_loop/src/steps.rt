@@ -7,7 +7,7 @@ ghost use Rattle.aio_model.specs.Loop.Log.{flags_before, enqueued_log, canceled_
 ghost use Rattle.aio_model.specs.Loop.Seats as Seats;
 ghost use Rattle.aio_model.specs.Loop.Flags.{is_pending, lives};
 ghost use Rattle.aio_model.specs.Loop.Lists.{is_set};
-ghost use Rattle.aio_core.specs.Standing.{asked_by};
+ghost use Rattle.aio_core.specs.Standing.{asks_of_kind};
 ghost use Rattle.aio_core.specs.Calls.{IsSeatOf, first_seat};
 ghost use Rattle.aio_core.specs.Known.{is_running};
 ghost use Rattle.aio_core.specs.Scans.{SameButSleep};
@@ -37,7 +37,7 @@ pub(crate) fn enqueue<R: Wait>(
     requires idles { Idles table.now seat.old }
     requires handle { bh < table.now.sizes.handles }
     ensures idles { Idles table.now seat.new }
-    ensures goes { GoesTo (enqueued_log bh (asked_by kind) Seats.home) (λ log. result ≡ flags_before bh log) seat.old.known.seen seat.new.known.seen }
+    ensures goes { GoesTo (enqueued_log bh (asks_of_kind kind) Seats.home) (λ log. result ≡ flags_before bh log) seat.old.known.seen seat.new.known.seen }
     ensures same { SameButSeen seat.old.known seat.new.known }
 {
     match kind {

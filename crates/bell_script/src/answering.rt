@@ -2,7 +2,7 @@
 ghost use Rattle.std.specs.Prelude.{◌≡◌};
 ghost use Rattle.aio_model.specs.Scripts.LoopLines.{HasLine};
 ghost use Rattle.aio_script.specs.LoopBounds.{IsCommandWithin};
-ghost use Rattle.bell_loop.specs.Machines.{Answers, Ready, state_of};
+ghost use Rattle.bell_loop.specs.Machines.{Answers, Ready, machine_state_of};
 
 use aio_model::{Command, Kind, LoopReply};
 use bell_loop::Machine;
@@ -12,9 +12,9 @@ use std::sync::Wait;
 pub(crate) fn answer<R: Wait>(machine: &mut Machine<'_, R>, command: Command) -> LoopReply
     requires ready { Ready machine.old }
     requires other { command ≡ Command.Poll → ⊥ }
-    requires within { IsCommandWithin (state_of machine.old).sizes.handles (state_of machine.old).sizes.events command }
+    requires within { IsCommandWithin (machine_state_of machine.old).sizes.handles (machine_state_of machine.old).sizes.events command }
     ensures ready { Ready machine.new }
-    ensures answers { Answers command result (state_of machine.old) (state_of machine.new) }
+    ensures answers { Answers command result (machine_state_of machine.old) (machine_state_of machine.new) }
     ensures line { HasLine result }
 {
     match command {

@@ -4,7 +4,7 @@ ghost use Rattle.aio_model.specs.declared.scripts.loop_replies.LoopReply.{LoopRe
 ghost use Rattle.aio_model.specs.Scripts.LoopLines.{HasLine, reply_text};
 ghost use Rattle.aio_script.specs.LoopBounds.{IsCommandWithin};
 ghost use Rattle.aio_script.specs.Printing.{PutsOnPage};
-ghost use Rattle.bell_loop.specs.Machines.{Ready, state_of, ran_in, more_in};
+ghost use Rattle.bell_loop.specs.Machines.{Ready, machine_state_of, ran_in, more_in};
 ghost use Rattle.bell_script.specs.Scripts.{Rung};
 
 use crate::answering::answer;
@@ -57,9 +57,9 @@ pub(crate) fn ring<R: Wait, K: Sink>(
     written: Result<(), WriteFault>,
 ) -> Result<(), WriteFault>
     requires ready { Ready machine.old }
-    requires within { IsCommandWithin (state_of machine.old).sizes.handles (state_of machine.old).sizes.events command }
+    requires within { IsCommandWithin (machine_state_of machine.old).sizes.handles (machine_state_of machine.old).sizes.events command }
     ensures ready { Ready machine.new }
-    ensures rings { Rung command (state_of machine.old) (state_of machine.new) page.old page.new (K.held sink.old) (K.held sink.new) (K.faults sink.old) (K.faults sink.new) written result }
+    ensures rings { Rung command (machine_state_of machine.old) (machine_state_of machine.new) page.old page.new (K.held sink.old) (K.held sink.new) (K.faults sink.old) (K.faults sink.new) written result }
 {
     match command {
         Command::Poll => {

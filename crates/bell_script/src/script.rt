@@ -4,7 +4,7 @@ ghost use Rattle.std.specs.List.{AllByRecursion};
 ghost use Rattle.aio_model.specs.Scripts.LoopReplies.{sizes_of};
 ghost use Rattle.aio_script.specs.LoopBounds.{IsCommandWithin, IsLoopBounded};
 ghost use Rattle.bell_loop.specs.Entering.{acts_at, AreListsOf};
-ghost use Rattle.bell_loop.specs.Machines.{IsNew, Ready, state_of};
+ghost use Rattle.bell_loop.specs.Machines.{IsNew, Ready, machine_state_of};
 ghost use Rattle.bell_loop.specs.Running.{IsScriptOf};
 ghost use Rattle.bell_script.specs.Scripts.{Collects, RunTells, Writes};
 
@@ -35,9 +35,9 @@ fn answer_all<R: Wait, K: Sink>(
     page: &mut Page,
 ) -> Result<(), WriteFault>
     requires ready { Ready machine.old }
-    requires within { AllByRecursion (IsCommandWithin (state_of machine.old).sizes.handles (state_of machine.old).sizes.events) script.now.commands }
+    requires within { AllByRecursion (IsCommandWithin (machine_state_of machine.old).sizes.handles (machine_state_of machine.old).sizes.events) script.now.commands }
     ensures ready { Ready machine.new }
-    ensures collects { Collects script.now.commands (state_of machine.old) (state_of machine.new) page.old page.new (K.held sink.old) (K.held sink.new) (K.faults sink.old) (K.faults sink.new) result }
+    ensures collects { Collects script.now.commands (machine_state_of machine.old) (machine_state_of machine.new) page.old page.new (K.held sink.old) (K.held sink.new) (K.faults sink.old) (K.faults sink.new) result }
 {
     let mut written = Ok(());
     for command in script.commands.as_slice() {
@@ -55,9 +55,9 @@ fn print_all<R: Wait, K: Sink>(
 ) -> Result<(), WriteFault>
     requires empty { page.old ≡ [] }
     requires ready { Ready machine.old }
-    requires within { AllByRecursion (IsCommandWithin (state_of machine.old).sizes.handles (state_of machine.old).sizes.events) script.now.commands }
+    requires within { AllByRecursion (IsCommandWithin (machine_state_of machine.old).sizes.handles (machine_state_of machine.old).sizes.events) script.now.commands }
     ensures ready { Ready machine.new }
-    ensures writes { Writes script.now.commands (state_of machine.old) (state_of machine.new) (K.held sink.old) (K.held sink.new) (K.faults sink.old) (K.faults sink.new) result }
+    ensures writes { Writes script.now.commands (machine_state_of machine.old) (machine_state_of machine.new) (K.held sink.old) (K.held sink.new) (K.faults sink.old) (K.faults sink.new) result }
 {
     answer_all(machine, script, sink, page)?;
     hand_over(sink, page)
@@ -72,9 +72,9 @@ fn run_on<R: Wait, K: Sink>(
 ) -> LoopRun
     requires empty { page ≡ [] }
     requires ready { Ready machine }
-    requires within { AllByRecursion (IsCommandWithin (state_of machine).sizes.handles (state_of machine).sizes.events) script.now.commands }
-    requires new { IsNew (sizes_of script.now) (state_of machine).lists (state_of machine) }
-    requires of { IsScriptOf script.now (sizes_of script.now) (acts_at (state_of machine).lists) }
+    requires within { AllByRecursion (IsCommandWithin (machine_state_of machine).sizes.handles (machine_state_of machine).sizes.events) script.now.commands }
+    requires new { IsNew (sizes_of script.now) (machine_state_of machine).lists (machine_state_of machine) }
+    requires of { IsScriptOf script.now (sizes_of script.now) (acts_at (machine_state_of machine).lists) }
     ensures { RunTells script.now result.end.known.seen (K.held sink.old) (K.held sink.new) (K.faults sink.old) (K.faults sink.new) result.written }
 {
     let mut machine = machine;

@@ -22,7 +22,7 @@ use Rattle.co_loop.specs.Crews.{Far, SendsOn, FollowsEntered, CarriesOut, Enters
 use Rattle.co_loop.specs.Drains.{Drains, EntersAndDrains}
 use Rattle.co_loop.specs.Begins.{HomeFar, AdmitsGiven, BeginsThese, is_refused}
 use Rattle.co_loop.specs.Loops.{OnLoop, DoesFor, RunnerDoes, on_loop}
-use Rattle.co_loop.specs.Napping.{is_armed}
+use Rattle.co_loop.specs.Napping.{is_napping}
 use Rattle.co_loop.specs.Again.{PostsAgain, PostsEachAgain}
 use Rattle.co_loop.specs.declared.crew.Crew.{Crew}
 use Rattle.co_loop.specs.declared.on_loop.CoLoop.{CoLoop}
@@ -120,7 +120,7 @@ module _ {C O Q : Type 0} (at : Seats C O → Q) (woken : (co : ℕ) (b a : Seat
       by_bool (lent.bh == 0) is.0 (λ does. begins_these is_of resumes _ _ loops _ _ _ does.begins) (λ same. ap (λ (h : HomeFar C O). map at h.far.seats) same)
   does_for is_of resumes loops (ForReady ready) before after is = ap (λ (h : HomeFar C O). map at h.far.seats) is.0
   does_for is_of resumes loops (ForExpired id) before after is =
-      by_bool (is_armed before.here.far.naps id.number) is.0 (λ does. enters_and_drains is_of resumes _ _ loops id.number _ _ does) (λ same. ap (λ (f : Far C O). map at f.seats) same)
+      by_bool (is_napping before.here.far.naps id.number) is.0 (λ does. enters_and_drains is_of resumes _ _ loops id.number _ _ does) (λ same. ap (λ (f : Far C O). map at f.seats) same)
 
   pub runner_does : (is_of : ℕ → C → O → Type 0) (resumes : C → O → Wants → CoStep → C → Type 0) (shared : List (LoopShared C O)) (what : LoopEntered) (before after : OnLoop C O) → RunnerDoes is_of resumes shared what before after → map at after.here.far.seats ≡ map at before.here.far.seats
   runner_does is_of resumes shared what before after is =

@@ -28,7 +28,7 @@ use Rattle.co_loop.specs.Begins.{HomeFar, AdmitsGiven, BeginsThese, is_refused}
 use Rattle.co_loop.specs.Crews.{Far, far, destination, SendsOn, FollowsEntered, CarriesOut, EntersOne}
 use Rattle.co_loop.specs.Drains.{Drains, EntersAndDrains}
 use Rattle.co_loop.specs.Loops.{OnLoop, DoesFor, RunnerDoes, on_loop}
-use Rattle.co_loop.specs.Napping.{is_armed}
+use Rattle.co_loop.specs.Napping.{is_napping}
 use Rattle.co_loop.specs.Posts.{WakesAt}
 use Rattle.co_loop.specs.Quits.{SetsEnd, SetsEnds}
 use Rattle.co_loop.specs.Rows.{ChangesOne}
@@ -197,7 +197,7 @@ module _ {C O : Type 0} (loops : ℕ) (Sent : ℕ → ℕ → Type 0) (At : Bool
             by_bool (lent.bh == 0) is.0 (λ does. begins_these _ _ _ _ _ does.begins s) (λ same. subst (λ (h : HomeFar C O). Stands origin h.far) (sym same) s)
         does_for (ForReady ready) before after is s = subst (λ (h : HomeFar C O). Stands origin h.far) (sym is.0) s
         does_for (ForExpired id) before after is s =
-            by_bool (is_armed before.here.far.naps id.number) is.0 (λ does. enters_and_drains _ _ id.number _ _ does s) (λ same. subst (Stands origin) (sym same) s)
+            by_bool (is_napping before.here.far.naps id.number) is.0 (λ does. enters_and_drains _ _ id.number _ _ does s) (λ same. subst (Stands origin) (sym same) s)
 
         -- a runner of as many loops, of which this stands
         abbrev StandsOn : {E W : Type 0} → CoLoop C E W O → Type 0

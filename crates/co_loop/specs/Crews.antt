@@ -1,5 +1,5 @@
 -- What a loop keeps of coroutines.
-use Rattle.std.specs.Prelude.{◌≡◌, ℕ, ◌<◌, ◌+◌, Bool, true, min, nat_lt, if◌then◌else◌, ◌^◌, ◌-◌, ◌⊎◌, MatchBool, MatchOption, Option, None, Some, List, length, slice_index_or, slice_set}
+use Rattle.std.specs.Prelude.{◌≡◌, ℕ, ◌<◌, ◌+◌, Bool, true, nat_lt, if◌then◌else◌, ◌^◌, ◌-◌, ◌⊎◌, MatchBool, MatchOption, Option, None, Some, List, length, slice_index_or, slice_set}
 use Rattle.std.specs.FinMap as map
 use Rattle.aio_model.specs.declared.coroutines.causes.Cause.TheVariants.{Move}
 use Rattle.co_state.specs.Wants.{Wants}
@@ -19,6 +19,7 @@ use Rattle.co_loop.specs.Rows.{AreSeatsOfLoops, AreOfOrigin, ChangesOne}
 use Rattle.loop_rows.specs.Posts.{Posts, FindsMarked}
 use Rattle.co_loop.specs.Wakes.{reach, WakesEach}
 use Rattle.co_loop.specs.Quits.{SetsEnds}
+use Rattle.aio_model.specs.Counts.{one_more}
 
 -- what changes as coroutines are entered
 pub record Far (C O : Type 0) : Type 0 where
@@ -30,10 +31,6 @@ pub record Far (C O : Type 0) : Type 0 where
   pub done : ℕ
   pub quits : Bool
   pub seats : List (Seats C O)
-
--- one more, up to the greatest u64
-abbrev pub one_more : ℕ → ℕ
-one_more count = min (count + 1) (2 ^ 64 - 1)
 
 -- where one goes that is to move there: a loop that doesn't exist stands for the own one
 abbrev pub destination : ℕ → ℕ → ℕ → ℕ

@@ -9,7 +9,7 @@ use Rattle.co_loop.specs.declared.crew.Crew.{Crew}
 use Rattle.co_loop.specs.Crews.{Far, far, IsCrew}
 use Rattle.co_loop.specs.Drains.{EntersAndDrains}
 use Rattle.co_loop.specs.Begins.{HomeFar, home_far, IsHomeRun, TakesAndBegins}
-use Rattle.co_loop.specs.Napping.{is_armed}
+use Rattle.co_loop.specs.Napping.{is_napping}
 
 -- what the runner's entries change, and what they don't: which loop it is, and how many coroutines there are
 pub record OnLoop (C O : Type 0) : Type 0 where
@@ -44,7 +44,7 @@ module _ {C O : Type 0} where
   -- one that sleeps until this timer is entered, and another isn't touched
   abbrev pub ExpiresFor : (ℕ → C → O → Type 0) → (C → O → Wants → CoStep → C → Type 0) → ℕ → ℕ → ℕ → ℕ → Far C O → Far C O → Type 0
   ExpiresFor is_of resumes own n loops co before after =
-      MatchBool (is_armed before.naps co) (EntersAndDrains is_of resumes own n loops co before after) (after ≡ before)
+      MatchBool (is_napping before.naps co) (EntersAndDrains is_of resumes own n loops co before after) (after ≡ before)
 
   -- what an entry for this does
   abbrev pub DoesFor : (ℕ → C → O → Type 0) → (C → O → Wants → CoStep → C → Type 0) → ℕ → LoopLent → OnLoop C O → OnLoop C O → Type 0

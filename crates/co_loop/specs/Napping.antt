@@ -7,16 +7,16 @@ use Rattle.co_loop.specs.declared.naps.Nap.{Nap}
 use Rattle.co_loop.specs.declared.naps.Nap.TheVariants.{Awake, Asked, Armed}
 
 -- so many nanoseconds from now, up to the greatest time
-abbrev pub expiry : ℕ → ℕ → ℤ
-expiry now ns = pos (min (min (now + ns) (2 ^ 64 - 1)) (2 ^ 63 - 1))
+abbrev pub expiry_after : ℕ → ℕ → ℤ
+expiry_after now ns = pos (min (min (now + ns) (2 ^ 64 - 1)) (2 ^ 63 - 1))
 
 abbrev pub is_armed_nap : Nap → Bool
 is_armed_nap Armed = true
 is_armed_nap _ = false
 
 -- the coroutine sleeps until its timer expires
-abbrev pub is_armed : List Nap → ℕ → Bool
-is_armed naps co = is_armed_nap (slice_index_or naps co Awake)
+abbrev pub is_napping : List Nap → ℕ → Bool
+is_napping naps co = is_armed_nap (slice_index_or naps co Awake)
 
 -- who sleeps, and the timers
 pub record Bed : Type 0 where
@@ -30,7 +30,7 @@ bed naps timers = record { naps = naps; timers = timers }
 abbrev pub ArmsAs : Nap → ℕ → ℕ → Bed → Bed → Type 0
 ArmsAs (Asked ns) now co before after =
     (after.naps ≡ slice_set before.naps co Armed)
-    × ((calls : List TimerCall) → StandsFor before.timers calls → StandsFor after.timers (Arm co (expiry now ns) ∷ calls))
+    × ((calls : List TimerCall) → StandsFor before.timers calls → StandsFor after.timers (Arm co (expiry_after now ns) ∷ calls))
 ArmsAs Awake now co before after = after ≡ before
 ArmsAs Armed now co before after = after ≡ before
 

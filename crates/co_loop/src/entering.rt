@@ -2,8 +2,9 @@
 //! resume.
 ghost use Rattle.std.specs.Prelude.{◌≡◌, ◌<◌, length, None};
 ghost use Rattle.std.specs.FinMap as map;
-ghost use Rattle.co_loop.specs.Crews.{far, destination, one_more, IsCrew, SameCrew, SendsOn, FollowsEntered, CarriesOut, EntersOne};
+ghost use Rattle.co_loop.specs.Crews.{far, destination, IsCrew, SameCrew, SendsOn, FollowsEntered, CarriesOut, EntersOne};
 ghost use Rattle.co_loop.specs.Answers.{IsFollowable};
+ghost use Rattle.aio_model.specs.Counts.{one_more};
 
 use crate::crew::Crew;
 use crate::leaving::kept;

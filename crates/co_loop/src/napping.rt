@@ -1,13 +1,13 @@
 //! Timers of those that sleep: coroutine `co` has the timer of number `co`.
 ghost use Rattle.std.specs.Prelude.{◌≡◌, ◌<◌, ◌≤◌, length, ℕ, List, slice_index_or, None, Some};
-ghost use Rattle.co_loop.specs.Napping.{expiry, is_armed, ArmsOne, ArmsEach, bed};
+ghost use Rattle.co_loop.specs.Napping.{expiry_after, is_napping, ArmsOne, ArmsEach, bed};
 
 use crate::naps::Nap;
 use aio_timers::{TimerId, Timers};
 
 /// When a sleep of so many nanoseconds from now ends. A time past the greatest `i64` counts as that.
-fn expiry(now: u64, ns: u64) -> i64
-    ensures { result ≡ expiry now ns }
+fn expiry_after(now: u64, ns: u64) -> i64
+    ensures { result ≡ expiry_after now ns }
 {
     now.saturating_add(ns).min(i64::MAX as u64) as i64
 }
@@ -22,7 +22,7 @@ fn arm_one(naps: &mut Vec<Nap>, timers: &mut Timers, now: u64, co: u32)
     ensures arms { ArmsOne now co (bed naps.old.items timers.old) (bed naps.new.items timers.new) }
 {
     if let Nap::Asked(ns) = naps[co as usize] {
-        timers.arm(TimerId { number: co }, expiry(now, ns));
+        timers.arm(TimerId { number: co }, expiry_after(now, ns));
         naps[co as usize] = Nap::Armed;
     }
 }
@@ -42,8 +42,8 @@ pub(crate) fn arm_all(naps: &mut Vec<Nap>, timers: &mut Timers, now: u64, corout
 }
 
 /// Whether the coroutine sleeps until the timer of its number expires.
-pub(crate) fn is_armed(naps: &[Nap], co: u32) -> bool
-    ensures { result ≡ is_armed naps.now co }
+pub(crate) fn is_napping(naps: &[Nap], co: u32) -> bool
+    ensures { result ≡ is_napping naps.now co }
 {
     match naps.get(co as usize) {
         Some(Nap::Armed) => true,

@@ -9,7 +9,7 @@ ghost use Rattle.co_loop.specs.Loops.{IsOnLoop, IsNewHome, AnswersHandle, Expire
 use crate::beginning::take_and_begin;
 use crate::crew::Crew;
 use crate::draining::enter;
-use crate::napping::is_armed;
+use crate::napping::is_napping;
 use crate::quitting::END;
 use aio_bh::{Call, Turn};
 use aio_core::{LoopTable, Seat};
@@ -105,7 +105,7 @@ fn expire<C: Co<E> + Drop, E, W: Wait>(
     ensures origin { crew.new.store.origin ≡ crew.old.store.origin }
     ensures expires { ExpiresFor C.is_of C.resumes crew.old.own crew.old.coroutines (length shared.now) co (far crew.old) (far crew.new) }
 {
-    if is_armed(&crew.naps, co) {
+    if is_napping(&crew.naps, co) {
         enter(rt, env, shared, crew, co);
     }
 }

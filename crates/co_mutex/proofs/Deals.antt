@@ -15,7 +15,7 @@ use Rattle.co_mutex.specs.Rule.{Popped, Free}
 use Rattle.co_mutex.specs.Known.{OtherPart, Known, new_known}
 use Rattle.co_mutex.specs.Seats.{IsPassPart, IsSeat, SeatsStand, Kept}
 use Rattle.co_mutex.specs.Closing.{In}
-use Rattle.co_mutex.specs.Opening.{new_parts, first_of}
+use Rattle.co_mutex.specs.Opening.{new_parts, first_view_of}
 use Rattle.co_mutex.proofs.Ends.{start_stands}
 
 module _ {A : Type 0} where
@@ -120,14 +120,14 @@ module _ {T N : Type 0} (note : T → ℕ → N) (n : ℕ) (built : T) where
           (at_snoc_index (set s.views id left) (new_known o size p []) u j atj)
 
   -- a new lock
-  pub opens : (key : Opened T) (words : List ℕ) (last : ℕ) → 0 < key.passes → key.passes ≤ 64 → n ≡ key.passes → built ≡ key.value.value → length words ≡ word_count key.passes → ((k : ℕ) → slice_index words k ≡ 0) → Kept note n built (opening words (Value built ∷ Popped [] last ∷ []) (first_of key))
+  pub opens : (key : Opened T) (words : List ℕ) (last : ℕ) → 0 < key.passes → key.passes ≤ 64 → n ≡ key.passes → built ≡ key.value.value → length words ≡ word_count key.passes → ((k : ℕ) → slice_index words k ≡ 0) → Kept note n built (opening words (Value built ∷ Popped [] last ∷ []) (first_view_of key))
   opens key words last some_pass few size value long zeros =
       record { history = []; places = replicate n AtRest; baton = Free; stack = []; seat = λ k. 0; lock = start_stands n last built words (replicate n AtRest) (long ∙ ap word_count (sym size)) zeros (rest_long n) (λ p place e. all_rest_at n p place e); seats = seats; noted = tt; makers = tt; few = subst (λ z. z ≤ 64) (sym size) few }
     where
-      first : IsSeat built [] (replicate n AtRest) (λ k. 0) 0 (first_of key)
+      first : IsSeat built [] (replicate n AtRest) (λ k. 0) 0 (first_view_of key)
       first =
           record { opens = ap Some (sym value); sized = sym size ∙ sym (rest_long n); placed = rest_at n 0 (subst (λ z. 0 < z) (sym size) some_pass); part = record { sits = refl; rest = []; longer = refl; none_missed = refl; mine_is = refl }; value = λ owns. owning_rest owns; others = λ k x atx. (let t = new_at 1 (pred key.passes) k x atx in let number : x.number ≡ 1 + k = ap (λ (z : OtherPart T). z.number) t.0 in let seen : x.seen ≡ [] = ap (λ (z : OtherPart T). z.seen) t.0 in let made : x.mine ≡ [] = ap (λ (z : OtherPart T). z.mine) t.0 in let less = t.1 in let low : x.number < n = omega (arith, number, less, size) in (record { sits = refl; rest = []; longer = sym seen; none_missed = refl; mine_is = ap (made_by x.number) seen ∙ sym made }, rest_at n x.number low, λ q. omega (arith, number, q))) }
 
-      seats : SeatsStand built [] (replicate n AtRest) (λ k. 0) (first_of key ∷ [])
-      seats zero u e lives = subst (IsSeat built [] (replicate n AtRest) (λ k. 0) 0) (some-injective (first_of key) u e) first
+      seats : SeatsStand built [] (replicate n AtRest) (λ k. 0) (first_view_of key ∷ [])
+      seats zero u e lives = subst (IsSeat built [] (replicate n AtRest) (λ k. 0) 0) (some-injective (first_view_of key) u e) first
       seats (suc j) u e lives = absurd (some-ne-none u (sym e))

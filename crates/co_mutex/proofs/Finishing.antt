@@ -13,7 +13,7 @@ use Rattle.co_mutex.specs.Plays.{done, TakesDuty, TakesOwn}
 use Rattle.std.proofs.lemmas.Bool.{and_parts}
 use Rattle.std.specs.Cmp.Derive.{both_true}
 use Rattle.co_mutex.specs.Waking.{is_numbered, AllOfKinds, pushes, takes_up, walks, PushedFor, LooksAtHandOff, WokePass}
-use Rattle.co_mutex.specs.Calls.{finishes, Did, Comes, Names, word_of, HoldsNow}
+use Rattle.co_mutex.specs.Calls.{finishes, Did, Comes, Names, co_id_word, HoldsNow}
 use Rattle.co_mutex.proofs.Calls.{stands_one, stands_more}
 use Rattle.co_mutex.proofs.Codes.{M}
 use Rattle.co_mutex.proofs.Holding.{held_of, first_value}
@@ -152,7 +152,7 @@ module _ {T : Type 0} where
       }
 
   -- another was granted: the pass stays queued
-  pub queues_named : (who q named : ℕ) (v w : Known T) (co : CoId) (number : ℕ) → HasGranted who q named v w → number ≡ v.number → q ≢ number → word_of co ≡ named → (k : ℕ) × (k ≢ v.number) × Comes Queued (Grant v.number k ∷ Wait v.number who ∷ []) v w × Names co v.number k w
+  pub queues_named : (who q named : ℕ) (v w : Known T) (co : CoId) (number : ℕ) → HasGranted who q named v w → number ≡ v.number → q ≢ number → co_id_word co ≡ named → (k : ℕ) × (k ≢ v.number) × Comes Queued (Grant v.number k ∷ Wait v.number who ∷ []) v w × Names co v.number k w
   queues_named who q named v w co number h same ne e =
       let far : q ≢ v.number = λ x. ne (x ∙ sym same) in
       (q, far, record { place_is = h.place_is ∙ ap (λ b. cond b SelfGranted Queued) (ne_eqb q v.number far); number_is = h.number_is; stands = h.stands }, record { older = h.older; last = h.last; named = e ∙ h.named_is })

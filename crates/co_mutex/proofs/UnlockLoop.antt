@@ -16,7 +16,7 @@ use Rattle.co_mutex.specs.Known.{Kind, LockedFetchSub, HeadSwap, WhoLoad, GrantS
 use Rattle.co_mutex.specs.Plays.{done, LeftAlone, LeftOthers}
 use Rattle.co_mutex.specs.Passes.{IsOf, known, carried}
 use Rattle.co_mutex.specs.Waking.{AllOfKinds, looks_for, walks, Granted, Offered, WalkedPasses}
-use Rattle.co_mutex.specs.Calls.{wakes, Comes, Names, word_of, UnlockSteps}
+use Rattle.co_mutex.specs.Calls.{wakes, Comes, Names, co_id_word, UnlockSteps}
 use Rattle.co_mutex.proofs.Calls.{stands_one, stands_more}
 use Rattle.co_mutex.proofs.Codes.{M}
 use Rattle.co_mutex.proofs.WakeOne.{all_append}
@@ -211,7 +211,7 @@ module _ {P T N : Type 0} where
           (subst (λ (z : Known T). Comes AtRest (Release (known start).number x ∷ []) (known start) z) (sym w) record { place_is = refl; number_is = refl; stands = stands_one (known start).number (Release (known start).number x) h.older (known start).seen (known start).mine refl h.goes h.legal }, record { found = h.found; did = record { steps = all; is = ap (λ (z : Known T). z.did) w; kinds = all_wider looks_for wakes from_looks all (all_append looks_for o.steps (done HeadSwap head_at head ∷ h.steps) o.kinds (refl, h.kinds)) }; alone = λ one. absurd (h.more one) })
 
       -- a waiter was granted
-      pub wake_grants : (granted : Pass P T N) (q who : ℕ) (co : CoId) → Granted (side_of (known now).place) q who (known now) granted.seat.me → word_of co ≡ who → ((k : ℕ) × Comes AtRest (Grant (known start).number k ∷ Release (known start).number x ∷ []) (known start) (known granted) × Names co (known start).number k (known granted)) × UnlockSteps (Some co) (known start).did (known granted).did
+      pub wake_grants : (granted : Pass P T N) (q who : ℕ) (co : CoId) → Granted (side_of (known now).place) q who (known now) granted.seat.me → co_id_word co ≡ who → ((k : ℕ) × Comes AtRest (Grant (known start).number k ∷ Release (known start).number x ∷ []) (known start) (known granted) × Names co (known start).number k (known granted)) × UnlockSteps (Some co) (known start).did (known granted).did
       wake_grants granted q who co g0 named =
           let g = subst (λ s. Granted s q who (known now) granted.seat.me) wake_side g0 in
           let k = ap (λ (z : M T). z.0) h.is in

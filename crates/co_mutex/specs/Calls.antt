@@ -15,8 +15,8 @@ use Rattle.co_mutex.specs.Plays.{done}
 use Rattle.co_mutex.specs.Waking.{AllOfKinds}
 
 -- the number that names a coroutine
-abbrev pub word_of : CoId → ℕ
-word_of co = co.co * 2 ^ 32 + co.home
+abbrev pub co_id_word : CoId → ℕ
+co_id_word co = co.co * 2 ^ 32 + co.home
 
 -- steps that were done in between, all of kinds that pass; no hand-off was published as 0
 pub record Did (test : Kind → Bool) (before after : List Done) : Type 0 where
@@ -73,7 +73,7 @@ module _ {T : Type 0} where
   pub record Names (co : CoId) (p q : ℕ) (after : Known T) : Type 0 where
     pub older : List (LockEntry T)
     pub last : after.seen ≡ Grant p q ∷ older
-    pub named : word_of co ≡ coroutine_of q older
+    pub named : co_id_word co ≡ coroutine_of q older
 
   -- an unlock: it granted nobody, or the one that it names
   abbrev pub Unlocks : T → Known T → Option CoId → Known T → Type 0

@@ -19,8 +19,8 @@ module _ {T : Type 0} where
       record { number = p; seen = []; mine = [] } ∷ new_parts (suc p) count
 
   -- the first view has all passes
-  abbrev pub first_of : Opened T → Known T
-  first_of key = new_known (Some key.value.value) key.passes 0 (new_parts 1 (pred key.passes))
+  abbrev pub first_view_of : Opened T → Known T
+  first_view_of key = new_known (Some key.value.value) key.passes 0 (new_parts 1 (pred key.passes))
 
   -- the pass of a seat, alone
   abbrev pub front : Known T → Known T

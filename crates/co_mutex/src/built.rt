@@ -3,7 +3,7 @@ ghost use Rattle.std.specs.Prelude.{◌≡◌, ℕ, ◌+◌, ◌<◌, ◌≤◌,
 ghost use mathlib.Core.Option.{some};
 ghost use lib.ListN.{get_elem?};
 ghost use Rattle.co_mutex.specs.LockWords.{word_count};
-ghost use Rattle.co_mutex.specs.Opening.{first_of};
+ghost use Rattle.co_mutex.specs.Opening.{first_view_of};
 ghost use Rattle.co_mutex.specs.Passes.{built_of, passes_of, IsNew};
 
 use crate::lock::{CoMutex, Pass, Unmade};
@@ -30,7 +30,7 @@ impl<P: LockRule> CoMutex<P> {
         passes: &mut Vec<Pass<P>>,
         coroutines: u32,
     )
-        requires seat { (seat.table_id ≡ self.now.table.shared.table_id) × (seat.me ≡ (first_of self.now.table.shared.key, [])) }
+        requires seat { (seat.table_id ≡ self.now.table.shared.table_id) × (seat.me ≡ (first_view_of self.now.table.shared.key, [])) }
         requires count { (1 ≤ coroutines) × (passes_of self.now ≡ coroutines) }
         requires room { (passes.old.items ≡ []) × (coroutines ≤ vec_capacity passes.old) }
         ensures count { vec_len passes.new ≡ coroutines }

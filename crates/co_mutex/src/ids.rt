@@ -1,6 +1,6 @@
 //! A coroutine as the number that names it in a word of the table.
 ghost use Rattle.std.specs.Prelude.{◌≡◌};
-ghost use Rattle.co_mutex.specs.Calls.{word_of as number_of};
+ghost use Rattle.co_mutex.specs.Calls.{co_id_word as number_of};
 
 use co_state::CoId;
 

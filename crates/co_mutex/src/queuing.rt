@@ -4,7 +4,7 @@ ghost use Rattle.co_mutex.specs.Places.{Locking, ToPop, AtRest, Counted, Pushed,
 ghost use Rattle.co_mutex.specs.Rule.{Popped as Listed};
 ghost use Rattle.co_mutex.specs.Passes.{IsOf, IsPassOf, built_of, known, carried};
 ghost use Rattle.co_mutex.specs.Waking.{PushedFor, LooksAtHandOff, WokePass};
-ghost use Rattle.co_mutex.specs.Calls.{word_of as number_of, finishes, locks, Did, Finishes, Locks};
+ghost use Rattle.co_mutex.specs.Calls.{co_id_word as number_of, finishes, locks, Did, Finishes, Locks};
 
 use crate::answers::{Begun, Lock};
 use crate::ids::{co_of, word_of};

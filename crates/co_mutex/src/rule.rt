@@ -37,11 +37,11 @@ pub struct HandOff<P> {
 }
 
 impl<P: LockRule> TableRule<Slot<P::Value>, View<P::Value>, Opened<P::Value>> for HandOff<P> {
-    ghost use Rattle.co_mutex.specs.Opening.{holds_of, first_of};
+    ghost use Rattle.co_mutex.specs.Opening.{holds_of, first_view_of};
 
     ghost holds = { holds_of P.note };
 
-    ghost first = { first_of };
+    ghost first = { first_view_of };
 }
 
 /// The first pass goes to a seat of its own.

@@ -10,7 +10,7 @@ use Rattle.aio_chain.specs.Chains.{IsChain}
 use Rattle.aio_chain.proofs.Chains.{chain_kept}
 use Rattle.table_seats.specs.Seats.{owns, home}
 use Rattle.table_seats.proofs.Seats.{each_set, seats_make, makes_of}
-use Rattle.aio_model.specs.Coroutines.History.{Entry, Enter, History, seat_of, Free, Scheduled, Pushed, place_of, queue_of, IsLegal}
+use Rattle.aio_model.specs.Coroutines.History.{Entry, Enter, History, seat_of, Free, Scheduled, Pushed, co_place_of, queue_of, IsLegal}
 use Rattle.co_schedule.specs.Words.{head_at, mark_at, next_at, mark_of, next_in}
 use Rattle.co_schedule.specs.Known.{MarkLoad, MarkClear, is_at_rest, Stage, Known, part_of, numbers_of}
 use Rattle.co_schedule.specs.Rule.{IsOwed, WalkStands, Knows, Stands}
@@ -59,7 +59,7 @@ module _ (n : ℕ) (h : History) (words : List ℕ) (views : List Known) (id : �
       let head : head_of (queue_of h) ≡ Some c = ap head_of first.1 in
       let place = first_is_pushed n h c stand.legal head in
       let low : c < n = place_below n h c stand.legal (subst (λ p. is_free p ≡ false) (sym place.2) refl) in
-      let here : place_of c g ≡ Free = place_here entry h in
+      let here : co_place_of c g ≡ Free = place_here entry h in
       let same_next : (d : ℕ) → next_in words' d ≡ next_in words d = λ d. read_else words (mark_at c) (next_at d) 0 (λ q. omega arith) in
       let top : slice_index words' head_at ≡ slice_index words head_at = read_else words (mark_at c) head_at 0 (λ q. omega arith) in
       record {
@@ -67,7 +67,7 @@ module _ (n : ℕ) (h : History) (words : List ℕ) (views : List Known) (id : �
         legal = (head, stand.legal);
         seats = seats_make seat_of part_of h views id entry v w stand.seats at (record { numbers_are = refl; told_is = refl }) is_home refl refl;
         marks = λ d small. ⊎_elim
-            (λ (e : d ≡ c). subst (λ k. slice_index words' (mark_at k) ≡ mark_of (place_of k g)) (sym e) (read_here words (mark_at c) 0 (omega arith) ∙ sym (ap mark_of here)))
+            (λ (e : d ≡ c). subst (λ k. slice_index words' (mark_at k) ≡ mark_of (co_place_of k g)) (sym e) (read_here words (mark_at c) 0 (omega arith) ∙ sym (ap mark_of here)))
             (λ (ne : d ≢ c). read_else words (mark_at c) (mark_at d) 0 (λ q. ne (omega arith)) ∙ stand.marks d small ∙ sym (ap mark_of (place_else d entry h ne)))
             (cases_eq d c);
         taken = more;
@@ -89,7 +89,7 @@ module _ (n : ℕ) (h : History) (words : List ℕ) (views : List Known) (id : �
       owed_still u d given busy owed =
           let first = first_of_run n h words views id v c more stand at is_home over run in
           let place = first_is_pushed n h c stand.legal (ap head_of first.1) in
-          (place_else d (Enter c) h (λ (q : d ≡ c). let both : Pushed place.0 place.1 ≡ Scheduled u.first given = sym place.2 ∙ ap (λ k. place_of k h) (sym q) ∙ owed in cc) ∙ owed, read_else words (mark_at c) (next_at d) 0 (λ q. omega arith))
+          (place_else d (Enter c) h (λ (q : d ≡ c). let both : Pushed place.0 place.1 ≡ Scheduled u.first given = sym place.2 ∙ ap (λ k. co_place_of k h) (sym q) ∙ owed in cc) ∙ owed, read_else words (mark_at c) (next_at d) 0 (λ q. omega arith))
 
 module _ {S : Type 0} (given_in : S → Bool) (IsOf : ℕ → S → Type 0) where
   at_hand_here : (c : ℕ) (stage : Stage) (given : Bool) (at : _) → stage.hand ≡ Some c → stage.given ≡ given → Holds given_in IsOf c stage given at
@@ -134,7 +134,7 @@ module _ {S : Type 0} (given_in : S → Bool) (IsOf : ℕ → S → Type 0) wher
       let slots_now = slots_change given_in IsOf n h h s.homes (set s.homes c none) s.views id v w c kept.2 at refl
       (λ d ne. (refl, set_else s.homes c d none ne, (let other : eqb d c ≡ false = ne_eqb d c ne in other ∙ sym (ap (is_at_hand d) hand)), λ e. absurd (let no : false ≡ true = sym (ap (is_at_hand d) hand) ∙ e in cc)))
       (λ small free. absurd (let both : Free ≡ Pushed place.0 place.1 = sym free ∙ place.2 in cc))
-      (each_set (λ u. Unit {0}) (λ u. owns (numbers_of u) home ≡ true → c < n → (t : ℕ) (b : Bool) → place_of c h ≡ Pushed t b → Holds given_in IsOf c u.stage b (get_elem? (set s.homes c none) c)) s.views id w (λ far u atu. tt)
+      (each_set (λ u. Unit {0}) (λ u. owns (numbers_of u) home ≡ true → c < n → (t : ℕ) (b : Bool) → co_place_of c h ≡ Pushed t b → Holds given_in IsOf c u.stage b (get_elem? (set s.homes c none) c)) s.views id w (λ far u atu. tt)
       (λ own small t b is. at_hand_here c w.stage b (get_elem? (set s.homes c none) c) refl (state.2 ∙ same_given place.0 t place.1 b (sym place.2 ∙ is)))
       (λ far u ne atu old own small t b is. no_other_home n h s.words s.views id far v u (Holds given_in IsOf c u.stage b (get_elem? (set s.homes c none) c)) stand at atu ne is_home own)) in
       let told : Opens c found (given_in x) v w = record { rest = refl } in (
@@ -159,7 +159,7 @@ module _ {S : Type 0} (given_in : S → Bool) (IsOf : ℕ → S → Type 0) wher
       let low : c < n = place_below n h c stand.legal (subst (λ p. is_free p ≡ false) (sym place.2) refl) in
       let w = after_enter v h c more in
       let now = enter_stands n h s.words s.views id v c more stand at numbered is_home over run in
-      let here : place_of c (entry ∷ h) ≡ Free = place_here entry h in
+      let here : co_place_of c (entry ∷ h) ≡ Free = place_here entry h in
       let placed : get_elem? (set s.homes c (some x)) c ≡ some (some x) = set_here s.homes c (some x) (omega arith) in
       let slots_now = slots_change given_in IsOf n h (entry ∷ h) s.homes (set s.homes c (some x)) s.views id v w c kept.2 at refl
       (λ d ne. (place_else d entry h ne, set_else s.homes c d (some x) ne, (let other : eqb d c ≡ false = ne_eqb d c ne in sym (ap (is_at_hand d) hand ∙ other)), λ _. refl))
@@ -172,7 +172,7 @@ module _ {S : Type 0} (given_in : S → Bool) (IsOf : ℕ → S → Type 0) wher
       let told : IsFirstEntered c more v w = record {
         makes = makes;
         scheduler = place.0;
-        was = ap (place_of c) (sym (same_older entry h (makes.others ++ v.seen) makes.seen)) ∙ place.2 ∙ ap (λ b. Pushed place.0 b) (sym gave_then);
+        was = ap (co_place_of c) (sym (same_older entry h (makes.others ++ v.seen) makes.seen)) ∙ place.2 ∙ ap (λ b. Pushed place.0 b) (sym gave_then);
         rest = refl;
       } in (
         w,

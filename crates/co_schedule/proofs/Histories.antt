@@ -8,7 +8,7 @@ use Rattle.aio_model.proofs.Indices.{times_of-append, drop-head}
 use Rattle.aio_chain.specs.LinkList.{contains, IsEachOnce}
 use Rattle.aio_chain.proofs.Chains.{Each}
 use Rattle.aio_chain.proofs.Contained.{length-le_room}
-use Rattle.aio_model.specs.Coroutines.History.{Entry, Schedule, Push, Enter, History, CoPlace, Free, Scheduled, Pushed, pushed, place_of, queue_of, IsLegal}
+use Rattle.aio_model.specs.Coroutines.History.{Entry, Schedule, Push, Enter, History, CoPlace, Free, Scheduled, Pushed, pushed, co_place_of, queue_of, IsLegal}
 use Rattle.aio_model.proofs.CoroutineHistories.{is_free}
 
 -- Places.
@@ -29,22 +29,22 @@ co_of (Schedule d cause given s) = d
 co_of (Push d s) = d
 co_of (Enter d) = d
 
-pub place_here : (e : Entry) (h : History) → place_of (co_of e) (e ∷ h) ≡ moved e (place_of (co_of e) h)
+pub place_here : (e : Entry) (h : History) → co_place_of (co_of e) (e ∷ h) ≡ moved e (co_place_of (co_of e) h)
 place_here (Schedule d cause given s) h = let same : eqb d d ≡ true = eq-eqb d d refl in rw same refl
 place_here (Push d s) h = let same : eqb d d ≡ true = eq-eqb d d refl in rw same refl
 place_here (Enter d) h = let same : eqb d d ≡ true = eq-eqb d d refl in rw same refl
 
-pub place_else : (c : ℕ) (e : Entry) (h : History) → c ≢ co_of e → place_of c (e ∷ h) ≡ place_of c h
+pub place_else : (c : ℕ) (e : Entry) (h : History) → c ≢ co_of e → co_place_of c (e ∷ h) ≡ co_place_of c h
 place_else c (Schedule d cause given s) h ne = let other : eqb c d ≡ false = ne_eqb c d ne in rw other refl
 place_else c (Push d s) h ne = let other : eqb c d ≡ false = ne_eqb c d ne in rw other refl
 place_else c (Enter d) h ne = let other : eqb c d ≡ false = ne_eqb c d ne in rw other refl
 
 -- a coroutine that stands somewhere is one of the table's
-pub place_below : (n : ℕ) (h : History) (c : ℕ) → IsLegal n h → is_free (place_of c h) ≡ false → c < n
+pub place_below : (n : ℕ) (h : History) (c : ℕ) → IsLegal n h → is_free (co_place_of c h) ≡ false → c < n
 place_below n [] c legal busy = absurd cc
 place_below n (Schedule d cause given s ∷ P) c legal busy = by (eqb c d) refl busy (place_below n P c legal.1)
   where
-    by : (b : Bool) → eqb c d ≡ b → is_free (cond b (Scheduled s given) (place_of c P)) ≡ false → (is_free (place_of c P) ≡ false → c < n) → c < n
+    by : (b : Bool) → eqb c d ≡ b → is_free (cond b (Scheduled s given) (co_place_of c P)) ≡ false → (is_free (co_place_of c P) ≡ false → c < n) → c < n
     by true e k more = subst (λ i. i < n) (sym (eqb-true c d e)) legal.0.0
     by false e k more = more k
 place_below n (Push d s ∷ P) c legal busy = by (eqb c d) busy (place_below n P c legal.1)
@@ -54,12 +54,12 @@ place_below n (Push d s ∷ P) c legal busy = by (eqb c d) busy (place_below n P
     was (Scheduled t g) k = refl
     was (Pushed t g) k = refl
 
-    by : (b : Bool) → is_free (cond b (pushed (place_of c P)) (place_of c P)) ≡ false → (is_free (place_of c P) ≡ false → c < n) → c < n
-    by true k more = more (was (place_of c P) k)
+    by : (b : Bool) → is_free (cond b (pushed (co_place_of c P)) (co_place_of c P)) ≡ false → (is_free (co_place_of c P) ≡ false → c < n) → c < n
+    by true k more = more (was (co_place_of c P) k)
     by false k more = more k
 place_below n (Enter d ∷ P) c legal busy = by (eqb c d) busy (place_below n P c legal.1)
   where
-    by : (b : Bool) → is_free (cond b Free (place_of c P)) ≡ false → (is_free (place_of c P) ≡ false → c < n) → c < n
+    by : (b : Bool) → is_free (cond b Free (co_place_of c P)) ≡ false → (is_free (co_place_of c P) ≡ false → c < n) → c < n
     by true k more = absurd cc
     by false k more = more k
 
@@ -69,18 +69,18 @@ pub queue_head : (P : History) (d : ℕ) → head_of (queue_of P) ≡ Some d →
 queue_head P d h = drop-head 0 (queue_of P) d h
 
 -- a coroutine stands in the queue once where it was pushed, and not at all else
-pub once : (n : ℕ) (h : History) (c : ℕ) → IsLegal n h → times_of c (queue_of h) ≡ bit (is_pushed (place_of c h))
+pub once : (n : ℕ) (h : History) (c : ℕ) → IsLegal n h → times_of c (queue_of h) ≡ bit (is_pushed (co_place_of c h))
 once n [] c legal = refl
 once n (Schedule d cause given s ∷ P) c legal = by (eqb c d) refl (once n P c legal.1)
   where
-    by : (b : Bool) → eqb c d ≡ b → times_of c (queue_of P) ≡ bit (is_pushed (place_of c P)) → times_of c (queue_of P) ≡ bit (is_pushed (cond b (Scheduled s given) (place_of c P)))
-    by true e older = older ∙ ap (λ p. bit (is_pushed p)) (ap (λ i. place_of i P) (eqb-true c d e) ∙ legal.0.1)
+    by : (b : Bool) → eqb c d ≡ b → times_of c (queue_of P) ≡ bit (is_pushed (co_place_of c P)) → times_of c (queue_of P) ≡ bit (is_pushed (cond b (Scheduled s given) (co_place_of c P)))
+    by true e older = older ∙ ap (λ p. bit (is_pushed p)) (ap (λ i. co_place_of i P) (eqb-true c d e) ∙ legal.0.1)
     by false e older = older
 once n (Push d s ∷ P) c legal = by (eqb c d) refl (once n P c legal.1)
   where
-    by : (b : Bool) → eqb c d ≡ b → times_of c (queue_of P) ≡ bit (is_pushed (place_of c P)) → times_of c (queue_of P ++ d ∷ []) ≡ bit (is_pushed (cond b (pushed (place_of c P)) (place_of c P)))
+    by : (b : Bool) → eqb c d ≡ b → times_of c (queue_of P) ≡ bit (is_pushed (co_place_of c P)) → times_of c (queue_of P ++ d ∷ []) ≡ bit (is_pushed (cond b (pushed (co_place_of c P)) (co_place_of c P)))
     by true e older =
-        let was : place_of c P ≡ Scheduled s legal.0.0 = ap (λ i. place_of i P) (eqb-true c d e) ∙ legal.0.1 in
+        let was : co_place_of c P ≡ Scheduled s legal.0.0 = ap (λ i. co_place_of i P) (eqb-true c d e) ∙ legal.0.1 in
         let before : times_of c (queue_of P) ≡ 0 = older ∙ ap (λ p. bit (is_pushed p)) was in
         let now : times_of c (d ∷ []) ≡ 1 = rw e refl in
         let sum = times_of-append c (queue_of P) (d ∷ []) in
@@ -99,10 +99,10 @@ once n (Enter d ∷ P) c legal = by (eqb c d) refl (once n P c legal.1)
     most true k e = omega arith
     most false k e = absurd (omega arith)
 
-    by : (b : Bool) → eqb c d ≡ b → times_of c (queue_of P) ≡ bit (is_pushed (place_of c P)) → times_of c (drop 1 (queue_of P)) ≡ bit (is_pushed (cond b Free (place_of c P)))
+    by : (b : Bool) → eqb c d ≡ b → times_of c (queue_of P) ≡ bit (is_pushed (co_place_of c P)) → times_of c (drop 1 (queue_of P)) ≡ bit (is_pushed (cond b Free (co_place_of c P)))
     by true e older =
         let all = ap (λ (k : Bool). bit k + times_of c (drop 1 (queue_of P))) (sym e) ∙ sym counted ∙ older in
-        most (is_pushed (place_of c P)) (times_of c (drop 1 (queue_of P))) all
+        most (is_pushed (co_place_of c P)) (times_of c (drop 1 (queue_of P))) all
     by false e older =
         let all : times_of c (queue_of P) ≡ 0 + times_of c (drop 1 (queue_of P)) = counted ∙ ap (λ (k : Bool). bit k + times_of c (drop 1 (queue_of P))) e in
         let before = older in
@@ -123,23 +123,23 @@ queued (Pushed s g) t e k = refl
 
 pub queue_below : (n : ℕ) (h : History) → IsLegal n h → Each (λ c. c < n) (queue_of h)
 queue_below n h legal =
-    each_by_times (λ c. c < n) (queue_of h) (λ c there. place_below n h c legal (queued (place_of c h) (times_of c (queue_of h)) (once n h c legal) there))
+    each_by_times (λ c. c < n) (queue_of h) (λ c there. place_below n h c legal (queued (co_place_of c h) (times_of c (queue_of h)) (once n h c legal) there))
 
 -- what is scheduled and not pushed isn't in the queue
-pub scheduled_alone : (n : ℕ) (h : History) (c s : ℕ) (given : Bool) → IsLegal n h → place_of c h ≡ Scheduled s given → Each (λ d. c ≢ d) (queue_of h)
+pub scheduled_alone : (n : ℕ) (h : History) (c s : ℕ) (given : Bool) → IsLegal n h → co_place_of c h ≡ Scheduled s given → Each (λ d. c ≢ d) (queue_of h)
 scheduled_alone n h c s given legal is =
     let none : times_of c (queue_of h) ≡ 0 = once n h c legal ∙ ap (λ p. bit (is_pushed p)) is in
     each_by_times (λ d. c ≢ d) (queue_of h) (λ d there same. let here : 1 ≤ times_of c (queue_of h) = subst (λ k. 1 ≤ times_of k (queue_of h)) (sym same) there in omega arith)
 
 -- the first of the queue was pushed
-pub first_is_pushed : (n : ℕ) (h : History) (c : ℕ) → IsLegal n h → head_of (queue_of h) ≡ Some c → (s : ℕ) × (given : Bool) × (place_of c h ≡ Pushed s given)
+pub first_is_pushed : (n : ℕ) (h : History) (c : ℕ) → IsLegal n h → head_of (queue_of h) ≡ Some c → (s : ℕ) × (given : Bool) × (co_place_of c h ≡ Pushed s given)
 first_is_pushed n h c legal first =
     let here : eqb c c ≡ true = eq-eqb c c refl in
     let counted : times_of c (queue_of h) ≡ bit (eqb c c) + times_of c (drop 1 (queue_of h)) = ap (times_of c) (queue_head h c first) in
     let one : times_of c (queue_of h) ≡ 1 + times_of c (drop 1 (queue_of h)) = counted ∙ ap (λ (k : Bool). bit k + times_of c (drop 1 (queue_of h))) here in
-    of (place_of c h) refl (sym (once n h c legal) ∙ one)
+    of (co_place_of c h) refl (sym (once n h c legal) ∙ one)
   where
-    of : (p : CoPlace) → place_of c h ≡ p → bit (is_pushed p) ≡ 1 + times_of c (drop 1 (queue_of h)) → (s : ℕ) × (given : Bool) × (place_of c h ≡ Pushed s given)
+    of : (p : CoPlace) → co_place_of c h ≡ p → bit (is_pushed p) ≡ 1 + times_of c (drop 1 (queue_of h)) → (s : ℕ) × (given : Bool) × (co_place_of c h ≡ Pushed s given)
     of Free e k = absurd (omega arith)
     of (Scheduled s g) e k = absurd (omega arith)
     of (Pushed s g) e k = (s, g, e)
@@ -147,7 +147,7 @@ first_is_pushed n h c legal first =
 -- no coroutine stands in the queue twice, so there are no more than the table's
 pub queue_few : (n : ℕ) (h : History) → IsLegal n h → length (queue_of h) ≤ n
 queue_few n h legal =
-    length-le_room (queue_of h) n (each_once (queue_of h) (λ c. at_most (is_pushed (place_of c h)) (times_of c (queue_of h)) (once n h c legal))) (λ c there. place_below n h c legal (queued (place_of c h) (times_of c (queue_of h)) (once n h c legal) (in_list c (queue_of h) there)))
+    length-le_room (queue_of h) n (each_once (queue_of h) (λ c. at_most (is_pushed (co_place_of c h)) (times_of c (queue_of h)) (once n h c legal))) (λ c there. place_below n h c legal (queued (co_place_of c h) (times_of c (queue_of h)) (once n h c legal) (in_list c (queue_of h) there)))
   where
     at_most : (b : Bool) (t : ℕ) → t ≡ bit b → t ≤ 1
     at_most true t e = omega arith

@@ -8,7 +8,7 @@ use Rattle.aio_chain.proofs.Chains.{Each, each-front, each-back, chain_kept}
 use Rattle.table_seats.specs.Seats.{owns, home, EachView}
 use Rattle.table_seats.proofs.Seats.{each_set, IsSame, seats_keep}
 use Rattle.table_seats.proofs.Entries.{owns_first}
-use Rattle.aio_model.specs.Coroutines.History.{History, seat_of, Free, Scheduled, Pushed, place_of}
+use Rattle.aio_model.specs.Coroutines.History.{History, seat_of, Free, Scheduled, Pushed, co_place_of}
 use Rattle.co_schedule.specs.Words.{next_in}
 use Rattle.co_schedule.specs.Known.{Phase, AtRest, Marked, HeadLoaded, Linked, is_at_rest, Stage, Known, part_of, numbers_of}
 use Rattle.co_schedule.specs.Rule.{IsOwed, Owes, WalkStands, Knows, Stands}
@@ -65,7 +65,7 @@ same_seat s t a b e = cc
 -- two seats never owe one coroutine
 pub owed_apart : (n : ℕ) (h : History) (words : List ℕ) (views : List Known) (id other : ℕ) (v u : Known) (c d : ℕ) (a b : Bool) → Stands n h words views → get_elem? views id ≡ some v → get_elem? views other ≡ some u → other ≢ id → IsOwed h v.first c a → 0 < v.count → IsOwed h u.first d b → 0 < u.count → c ≢ d
 owed_apart n h words views id other v u c d a b stand at atu ne mine has theirs have same =
-    let firsts : v.first ≡ u.first = same_seat v.first u.first a b (sym mine ∙ ap (λ k. place_of k h) same ∙ theirs) in
+    let firsts : v.first ≡ u.first = same_seat v.first u.first a b (sym mine ∙ ap (λ k. co_place_of k h) same ∙ theirs) in
     let not_theirs : owns (numbers_of u) v.first ≡ false = stand.seats.apart id other v u at atu (λ q. ne (sym q)) v.first (owns_first (numbers_of v) has) in
     let is_theirs : owns (numbers_of u) v.first ≡ true = subst (λ k. owns (numbers_of u) k ≡ true) (sym firsts) (owns_first (numbers_of u) have) in
     cc
@@ -107,14 +107,14 @@ load_stands n h words views id k v w stand at same seen mine knows =
 module _ {S : Type 0} (given_in : S → Bool) (IsOf : ℕ → S → Type 0) where
   -- one slot's facts are given, and the others' stay
   pub slots_change : (n : ℕ) (h g : History) (homes other : List (mathlib.Core.Option.Option S)) (views : List Known) (id : ℕ) (v w : Known) (c0 : ℕ) → SlotsStand given_in IsOf n h homes views → get_elem? views id ≡ some v → numbers_of w ≡ numbers_of v
-      → ((c : ℕ) → c ≢ c0 → (place_of c g ≡ place_of c h) × (get_elem? other c ≡ get_elem? homes c) × (is_at_hand c w.stage.hand ≡ is_at_hand c v.stage.hand) × (is_at_hand c v.stage.hand ≡ true → w.stage.given ≡ v.stage.given))
-      → (c0 < n → place_of c0 g ≡ Free → IsVacant given_in IsOf (get_elem? other c0))
-      → EachView (λ u. owns (numbers_of u) home ≡ true → c0 < n → (s : ℕ) (given : Bool) → place_of c0 g ≡ Pushed s given → Holds given_in IsOf c0 u.stage given (get_elem? other c0)) (set views id w)
+      → ((c : ℕ) → c ≢ c0 → (co_place_of c g ≡ co_place_of c h) × (get_elem? other c ≡ get_elem? homes c) × (is_at_hand c w.stage.hand ≡ is_at_hand c v.stage.hand) × (is_at_hand c v.stage.hand ≡ true → w.stage.given ≡ v.stage.given))
+      → (c0 < n → co_place_of c0 g ≡ Free → IsVacant given_in IsOf (get_elem? other c0))
+      → EachView (λ u. owns (numbers_of u) home ≡ true → c0 < n → (s : ℕ) (given : Bool) → co_place_of c0 g ≡ Pushed s given → Holds given_in IsOf c0 u.stage given (get_elem? other c0)) (set views id w)
       → SlotsStand given_in IsOf n g other (set views id w)
   slots_change n h g homes other views id v w c0 stand at numbers same vacant full =
       record {
-        vacant = λ c low is. ⊎_elim (λ (e : c ≡ c0). subst (λ k. k < n → place_of k g ≡ Free → IsVacant given_in IsOf (get_elem? other k)) (sym e) vacant low is) (λ (ne : c ≢ c0). let s = same c ne in let old = stand.vacant c low (sym s.0 ∙ is) in (old.0, s.1 ∙ old.1, old.2)) (cases_eq c c0);
-        full = λ far u atu own c low s given is. ⊎_elim (λ (e : c ≡ c0). subst (λ k. k < n → (s : ℕ) (given : Bool) → place_of k g ≡ Pushed s given → Holds given_in IsOf k u.stage given (get_elem? other k)) (sym e) (full far u atu own) low s given is) (λ (ne : c ≢ c0). kept c (same c ne) low far u atu own s given is) (cases_eq c c0);
+        vacant = λ c low is. ⊎_elim (λ (e : c ≡ c0). subst (λ k. k < n → co_place_of k g ≡ Free → IsVacant given_in IsOf (get_elem? other k)) (sym e) vacant low is) (λ (ne : c ≢ c0). let s = same c ne in let old = stand.vacant c low (sym s.0 ∙ is) in (old.0, s.1 ∙ old.1, old.2)) (cases_eq c c0);
+        full = λ far u atu own c low s given is. ⊎_elim (λ (e : c ≡ c0). subst (λ k. k < n → (s : ℕ) (given : Bool) → co_place_of k g ≡ Pushed s given → Holds given_in IsOf k u.stage given (get_elem? other k)) (sym e) (full far u atu own) low s given is) (λ (ne : c ≢ c0). kept c (same c ne) low far u atu own s given is) (cases_eq c c0);
       }
     where
       moved_to : (c : ℕ) (a b : Stage) (given : Bool) (p q : _) → is_at_hand c b.hand ≡ is_at_hand c a.hand → (is_at_hand c a.hand ≡ true → b.given ≡ a.given) → q ≡ p → Holds given_in IsOf c a given p → Holds given_in IsOf c b given q
@@ -126,8 +126,8 @@ module _ {S : Type 0} (given_in : S → Bool) (IsOf : ℕ → S → Type 0) wher
           by true k m false e = absurd cc
           by false k m true e = absurd cc
 
-      kept : (c : ℕ) → (place_of c g ≡ place_of c h) × (get_elem? other c ≡ get_elem? homes c) × (is_at_hand c w.stage.hand ≡ is_at_hand c v.stage.hand) × (is_at_hand c v.stage.hand ≡ true → w.stage.given ≡ v.stage.given) → c < n → EachView (λ u. owns (numbers_of u) home ≡ true → (s : ℕ) (given : Bool) → place_of c g ≡ Pushed s given → Holds given_in IsOf c u.stage given (get_elem? other c)) (set views id w)
-      kept c s low = each_set (HoldsAll given_in IsOf n h homes) (λ u. owns (numbers_of u) home ≡ true → (s : ℕ) (given : Bool) → place_of c g ≡ Pushed s given → Holds given_in IsOf c u.stage given (get_elem? other c)) views id w stand.full
+      kept : (c : ℕ) → (co_place_of c g ≡ co_place_of c h) × (get_elem? other c ≡ get_elem? homes c) × (is_at_hand c w.stage.hand ≡ is_at_hand c v.stage.hand) × (is_at_hand c v.stage.hand ≡ true → w.stage.given ≡ v.stage.given) → c < n → EachView (λ u. owns (numbers_of u) home ≡ true → (s : ℕ) (given : Bool) → co_place_of c g ≡ Pushed s given → Holds given_in IsOf c u.stage given (get_elem? other c)) (set views id w)
+      kept c s low = each_set (HoldsAll given_in IsOf n h homes) (λ u. owns (numbers_of u) home ≡ true → (s : ℕ) (given : Bool) → co_place_of c g ≡ Pushed s given → Holds given_in IsOf c u.stage given (get_elem? other c)) views id w stand.full
           (λ own t given is. moved_to c v.stage w.stage given (get_elem? homes c) (get_elem? other c) s.2 s.3 s.1 (stand.full id v at (subst (λ m. owns m home ≡ true) numbers own) c low t given (sym s.0 ∙ is)))
           (λ far u ne atu old own t given is. moved_to c u.stage u.stage given (get_elem? homes c) (get_elem? other c) refl (λ _. refl) s.1 (old own c low t given (sym s.0 ∙ is)))
 

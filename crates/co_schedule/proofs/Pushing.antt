@@ -11,7 +11,7 @@ use Rattle.aio_chain.proofs.Chains.{Each, each-front, each-back, chain_kept, pus
 use Rattle.table_seats.specs.Seats.{owns, home}
 use Rattle.table_seats.proofs.Seats.{each_set, seats_make, makes_of}
 use Rattle.table_seats.proofs.Entries.{owns_first}
-use Rattle.aio_model.specs.Coroutines.History.{Push, History, seat_of, CoPlace, Free, Scheduled, Pushed, pushed, place_of, IsLegal}
+use Rattle.aio_model.specs.Coroutines.History.{Push, History, seat_of, CoPlace, Free, Scheduled, Pushed, pushed, co_place_of, IsLegal}
 use Rattle.co_schedule.specs.Words.{head_at, mark_at, next_at, mark_of, next_in}
 use Rattle.co_schedule.specs.Known.{HeadCompare, AtRest, Marked, Linked, Stage, Known, part_of, numbers_of}
 use Rattle.co_schedule.specs.Rule.{IsOwed, Owes, OutIsFirst, WalkStands, Knows, Stands}
@@ -56,7 +56,7 @@ module _ (n : ℕ) (h : History) (words : List ℕ) (views : List Known) (id : �
         legal = ((given, owed), stand.legal);
         seats = seats_make seat_of part_of h views id entry v w stand.seats at (record { numbers_are = refl; told_is = refl }) (owns_first (numbers_of v) numbered) refl refl;
         marks = λ d small. read_else words head_at (mark_at d) (c + 1) (λ q. omega arith) ∙ stand.marks d small ∙ ⊎_elim
-            (λ (e : d ≡ c). sym (ap (λ k. mark_of (place_of k g)) e ∙ ap mark_of (place_here entry h) ∙ same_mark (place_of c h) ∙ ap (λ k. mark_of (place_of k h)) (sym e)))
+            (λ (e : d ≡ c). sym (ap (λ k. mark_of (co_place_of k g)) e ∙ ap mark_of (place_here entry h) ∙ same_mark (co_place_of c h) ∙ ap (λ k. mark_of (co_place_of k h)) (sym e)))
             (λ (ne : d ≢ c). sym (ap mark_of (place_else d entry h ne)))
             (cases_eq d c);
         taken = stand.taken;
@@ -113,11 +113,11 @@ module _ {S : Type 0} (given_in : S → Bool) (IsOf : ℕ → S → Type 0) wher
         let low = owed_below n h s.words s.views v.first c given stand owed_now.0 in
         let away : Each (λ d. c ≢ d) stand.taken = each-front (λ d. c ≢ d) stand.taken (reverse stand.stack) (subst (Each (λ d. c ≢ d)) stand.queue (scheduled_alone n h c v.first given stand.legal owed_now.0)) in
         let placed : get_elem? (set s.homes c (some x)) c ≡ some (some x) = set_here s.homes c (some x) (omega arith) in
-        let here : place_of c (entry ∷ h) ≡ Pushed v.first given = place_here entry h ∙ ap pushed owed_now.0 in
+        let here : co_place_of c (entry ∷ h) ≡ Pushed v.first given = place_here entry h ∙ ap pushed owed_now.0 in
         let slots_now = slots_change given_in IsOf n h (entry ∷ h) s.homes (set s.homes c (some x)) s.views id v w c kept.2 at refl
         (λ d ne. (place_else d entry h ne, set_else s.homes c d (some x) ne, refl, λ _. refl))
         (λ small free. absurd (let both : Free ≡ Pushed v.first given = sym free ∙ here in cc))
-        (each_set (Knows n h s.words stand.taken) (λ u. owns (numbers_of u) home ≡ true → c < n → (t : ℕ) (b : Bool) → place_of c (entry ∷ h) ≡ Pushed t b → Holds given_in IsOf c u.stage b (get_elem? (set s.homes c (some x)) c)) s.views id w stand.knows
+        (each_set (Knows n h s.words stand.taken) (λ u. owns (numbers_of u) home ≡ true → c < n → (t : ℕ) (b : Bool) → co_place_of c (entry ∷ h) ≡ Pushed t b → Holds given_in IsOf c u.stage b (get_elem? (set s.homes c (some x)) c)) s.views id w stand.knows
         (λ own small t b is_pushed. has_here c v.stage b x (get_elem? (set s.homes c (some x)) c) (not_at_hand s.words stand.taken v.stage c ((stand.knows id v at).walks own) away) placed (gave ∙ same_given v.first t given b (sym here ∙ is_pushed)) of)
         (λ far u ne atu k own small t b is_pushed. has_here c u.stage b x (get_elem? (set s.homes c (some x)) c) (not_at_hand s.words stand.taken u.stage c (k.walks own) away) placed (gave ∙ same_given v.first t given b (sym here ∙ is_pushed)) of)) in
         let sized : v.coroutines ≡ n = (stand.knows id v at).coroutines_are numbered in

@@ -12,7 +12,7 @@ use Rattle.table_seats.proofs.Seats.{each_set, seats_make, makes_of}
 use Rattle.table_seats.specs.Seats.{own_entries}
 use Rattle.table_seats.proofs.Entries.{owns_first, own-append}
 use Rattle.aio_model.specs.declared.coroutines.causes.Cause.{Cause}
-use Rattle.aio_model.specs.Coroutines.History.{Schedule, History, seat_of, CoPlace, Free, Scheduled, Pushed, place_of, IsLegal}
+use Rattle.aio_model.specs.Coroutines.History.{Schedule, History, seat_of, CoPlace, Free, Scheduled, Pushed, co_place_of, IsLegal}
 use Rattle.co_schedule.specs.Words.{head_at, mark_at, next_at, mark_of, next_in}
 use Rattle.co_schedule.specs.Known.{MarkCompare, AtRest, Marked, Known, part_of, numbers_of}
 use Rattle.co_schedule.specs.Rule.{Knows, Stands}
@@ -37,14 +37,14 @@ free_of_mark (Scheduled s g) e = absurd (omega arith)
 free_of_mark (Pushed s g) e = absurd (omega arith)
 
 module _ (n : ℕ) (h : History) (words : List ℕ) (views : List Known) (id : ℕ) (v : Known) (c : ℕ) (cause : Cause) (given : Bool) where
-  pub schedule_stands : Stands n h words views → get_elem? views id ≡ some v → 0 < v.count → v.phase ≡ AtRest → c < n → v.first < 64 → place_of c h ≡ Free → Stands n (Schedule c cause given v.first ∷ h) (set words (mark_at c) (v.first + 1)) (set views id (after_schedule v h c cause given))
+  pub schedule_stands : Stands n h words views → get_elem? views id ≡ some v → 0 < v.count → v.phase ≡ AtRest → c < n → v.first < 64 → co_place_of c h ≡ Free → Stands n (Schedule c cause given v.first ∷ h) (set words (mark_at c) (v.first + 1)) (set views id (after_schedule v h c cause given))
   schedule_stands stand at numbered rest low seat free =
       let entry = Schedule c cause given v.first in
       let g = entry ∷ h in
       let w = after_schedule v h c cause given in
       let words' = set words (mark_at c) (v.first + 1) in
       let long = stand.long in
-      let here : place_of c g ≡ Scheduled v.first given = place_here entry h in
+      let here : co_place_of c g ≡ Scheduled v.first given = place_here entry h in
       let same_next : (d : ℕ) → next_in words' d ≡ next_in words d = λ d. read_else words (mark_at c) (next_at d) (v.first + 1) (λ q. omega arith) in
       let top : slice_index words' head_at ≡ slice_index words head_at = read_else words (mark_at c) head_at (v.first + 1) (λ q. omega arith) in
       record {
@@ -52,7 +52,7 @@ module _ (n : ℕ) (h : History) (words : List ℕ) (views : List Known) (id : �
         legal = ((low, free, seat), stand.legal);
         seats = seats_make seat_of part_of h views id entry v w stand.seats at (record { numbers_are = refl; told_is = refl }) (owns_first (numbers_of v) numbered) refl refl;
         marks = λ d small. ⊎_elim
-            (λ (e : d ≡ c). subst (λ k. slice_index words' (mark_at k) ≡ mark_of (place_of k g)) (sym e) (read_here words (mark_at c) (v.first + 1) (omega arith) ∙ sym (ap mark_of here)))
+            (λ (e : d ≡ c). subst (λ k. slice_index words' (mark_at k) ≡ mark_of (co_place_of k g)) (sym e) (read_here words (mark_at c) (v.first + 1) (omega arith) ∙ sym (ap mark_of here)))
             (λ (ne : d ≢ c). read_else words (mark_at c) (mark_at d) (v.first + 1) (λ q. ne (omega arith)) ∙ stand.marks d small ∙ sym (ap mark_of (place_else d entry h ne)))
             (cases_eq d c);
         taken = stand.taken;
@@ -67,7 +67,7 @@ module _ (n : ℕ) (h : History) (words : List ℕ) (views : List Known) (id : �
               walks = λ own. walks_kept words words' stand.taken v.stage (each_all _ stand.taken same_next) ((stand.knows id v at).walks own);
             })
             (λ beside u ne atu. knows_kept n words words' h g stand.taken stand.taken u
-            (λ d b busy owed. (place_else d entry h (λ (q : d ≡ c). let no : Free ≡ Scheduled u.first b = sym free ∙ ap (λ k. place_of k h) (sym q) ∙ owed in cc) ∙ owed, same_next d))
+            (λ d b busy owed. (place_else d entry h (λ (q : d ≡ c). let no : Free ≡ Scheduled u.first b = sym free ∙ ap (λ k. co_place_of k h) (sym q) ∙ owed in cc) ∙ owed, same_next d))
             (λ own. walks_kept words words' stand.taken u.stage (each_all _ stand.taken same_next)));
       }
 
@@ -90,11 +90,11 @@ module _ {S : Type 0} (cause_in : S → Cause) (given_in : S → Bool) (IsOf : �
         let v = me.0 in
         let given = given_in y in
         let entry = Schedule c (cause_in y) given v.first in
-        let free : place_of c h ≡ Free = free_of_mark (place_of c h) (sym (stand.marks c low) ∙ eqb-true word_now 0 is) in
+        let free : co_place_of c h ≡ Free = free_of_mark (co_place_of c h) (sym (stand.marks c low) ∙ eqb-true word_now 0 is) in
         let vacant = kept.2.vacant c low free in
         let w = after_schedule v h c (cause_in y) given in
         let now = schedule_stands n h s.words s.views id v c (cause_in y) given stand at numbered rest low seat free in
-        let here : place_of c (entry ∷ h) ≡ Scheduled v.first given = place_here entry h in
+        let here : co_place_of c (entry ∷ h) ≡ Scheduled v.first given = place_here entry h in
         let slots_now = slots_change given_in IsOf n h (entry ∷ h) s.homes (set s.homes c none) s.views id v w c kept.2 at refl
         (λ d ne. (place_else d entry h ne, set_else s.homes c d none ne, refl, λ _. refl))
         (λ small is_free. absurd (let no : Free ≡ Scheduled v.first given = sym is_free ∙ here in cc))
@@ -123,7 +123,7 @@ module _ {S : Type 0} (cause_in : S → Cause) (given_in : S → Bool) (IsOf : �
           others = seen.rest;
           own = own-append seat_of (numbers_of v) seen.rest v.seen ∙ ap (λ k. k ++ own_entries seat_of (numbers_of v) v.seen) seen.none_missed ∙ sym seen.mine_is;
           legal = subst (λ k. IsLegal k (seen.rest ++ v.seen)) (sym sized) (subst (IsLegal n) seen.longer stand.legal);
-          mark_is = stand.marks c low ∙ ap (λ k. mark_of (place_of c k)) seen.longer;
+          mark_is = stand.marks c low ∙ ap (λ k. mark_of (co_place_of c k)) seen.longer;
         } in
         (w, keeps, tt, (h, load_stands n h s.words s.views id (mark_at c) v w stand at (record { numbers_are = refl; told_is = refl }) refl refl (record { coroutines_are = was.coroutines_are; active = was.active; owes = was.owes; walks = was.walks }), slots_kept given_in IsOf n h s.homes s.views id v w kept.2 at refl refl refl), λ x d said word. rw is (told, subst (λ k. IsMarkOf k word_now v) (let index : c ≡ d = omega arith in index) mark_is, refl))
 

@@ -2,14 +2,15 @@
 use Rattle.std.proofs.Common.{◌≡◌, ℕ, zero, suc, ◌+◌, ◌<◌, ◌≤◌, Bool, true, false, cond, eqb, [], ◌∷◌, ◌++◌, length, refl, sym, ap, ◌∙◌, subst, arith, length-append}
 use Rattle.std.proofs.lemmas.Bool.{eqb-true, eqb-false}
 use Rattle.aio_model.specs.Loop.FlagsWord.{bit}
-use Rattle.aio_model.specs.Coroutines.History.{Entry, Schedule, Push, Enter, History, seat_of, CoPlace, Free, Scheduled, Pushed, pushed, place_of, IsLegal}
+use Rattle.aio_model.specs.Coroutines.History.{Entry, Schedule, Push, Enter, History, seat_of, CoPlace, Free, Scheduled, Pushed, pushed, co_place_of, IsLegal}
 use Rattle.aio_model.proofs.CoroutineHistories.{is_free}
 use Rattle.table_seats.specs.Seats.{Numbers, owns, own_entries, IsPart}
 use Rattle.table_seats.proofs.Entries.{own-append, own-here, owns_first}
 use Rattle.co_schedule.specs.Calls.{AreFree, HasTaken, HasBegunFirst}
 use Rattle.co_schedule.specs.Known.{Known, numbers_of}
-use Rattle.co_schedule.specs.States.{CountsOwn, counted, states_given, states_taken, given_at}
+use Rattle.co_schedule.specs.States.{CountsOwn, states_given, states_taken, given_at}
 use Rattle.co_schedule.proofs.Histories.{moved, co_of, place_here, place_else, place_below, first_is_pushed}
+use Rattle.aio_model.specs.Counts.{counted}
 
 -- What others do, home aside.
 
@@ -80,8 +81,8 @@ counts_begun c given states next v w first count is counts was =
     ap (λ (n : Numbers). own_entries seat_of n w.seen) numbers ∙ ap (own_entries seat_of (numbers_of v)) seen
     ∙ own-here seat_of (numbers_of v) (Enter c) (makes.others ++ v.seen) owns_home
     ∙ ap (λ (l : History). Enter c ∷ l) (own-append seat_of (numbers_of v) makes.others v.seen ∙ ap (λ (l : History). l ++ own_entries seat_of (numbers_of v) v.seen) not_own) in
-    let place : place_of c (makes.others ++ v.seen) ≡ Pushed begins.enters.scheduler given =
-    ap (λ (l : History). place_of c (makes.others ++ l)) (sym old) ∙ begins.enters.was ∙ ap (λ (b : Bool). Pushed begins.enters.scheduler b) given_is in
+    let place : co_place_of c (makes.others ++ v.seen) ≡ Pushed begins.enters.scheduler given =
+    ap (λ (l : History). co_place_of c (makes.others ++ l)) (sym old) ∙ begins.enters.was ∙ ap (λ (b : Bool). Pushed begins.enters.scheduler b) given_is in
     let same = taken_by_others (numbers_of v) makes.others v.seen owns_home not_own in
     let more : states_taken w.seen ≡ bit given + states_taken v.seen =
     ap states_taken seen ∙ ap (λ (p : CoPlace). bit (given_at p) + states_taken (makes.others ++ v.seen)) place ∙ ap (λ (n : ℕ). bit given + n) same in
@@ -97,30 +98,30 @@ counts_begun c given states next v w first count is counts was =
 -- of the first so many coroutines
 abbrev left_in : ℕ → History → ℕ
 left_in zero h = 0
-left_in (suc k) h = bit (given_at (place_of k h)) + left_in k h
+left_in (suc k) h = bit (given_at (co_place_of k h)) + left_in k h
 
 left_else : (k : ℕ) (e : Entry) (h : History) → k ≤ co_of e → left_in k (e ∷ h) ≡ left_in k h
 left_else zero e h le = refl
 left_else (suc k) e h le =
     let other = place_else k e h (λ same. omega (arith, le, same)) in
     let rest = left_else k e h (omega (arith, le)) in
-    ap (λ (p : CoPlace). bit (given_at p) + left_in k (e ∷ h)) other ∙ ap (λ (m : ℕ). bit (given_at (place_of k h)) + m) rest
+    ap (λ (p : CoPlace). bit (given_at p) + left_in k (e ∷ h)) other ∙ ap (λ (m : ℕ). bit (given_at (co_place_of k h)) + m) rest
 
-left_here : (k : ℕ) (e : Entry) (h : History) → co_of e < k → left_in k (e ∷ h) + bit (given_at (place_of (co_of e) h)) ≡ left_in k h + bit (given_at (moved e (place_of (co_of e) h)))
+left_here : (k : ℕ) (e : Entry) (h : History) → co_of e < k → left_in k (e ∷ h) + bit (given_at (co_place_of (co_of e) h)) ≡ left_in k h + bit (given_at (moved e (co_place_of (co_of e) h)))
 left_here zero e h lt = absurd (omega (arith, lt))
 left_here (suc k) e h lt = by (eqb k (co_of e)) refl (λ less. left_here k e h less)
   where
-    by : (b : Bool) → eqb k (co_of e) ≡ b → (co_of e < k → left_in k (e ∷ h) + bit (given_at (place_of (co_of e) h)) ≡ left_in k h + bit (given_at (moved e (place_of (co_of e) h))))
-        → left_in (suc k) (e ∷ h) + bit (given_at (place_of (co_of e) h)) ≡ left_in (suc k) h + bit (given_at (moved e (place_of (co_of e) h)))
+    by : (b : Bool) → eqb k (co_of e) ≡ b → (co_of e < k → left_in k (e ∷ h) + bit (given_at (co_place_of (co_of e) h)) ≡ left_in k h + bit (given_at (moved e (co_place_of (co_of e) h))))
+        → left_in (suc k) (e ∷ h) + bit (given_at (co_place_of (co_of e) h)) ≡ left_in (suc k) h + bit (given_at (moved e (co_place_of (co_of e) h)))
     by true is more =
         let same : k ≡ co_of e = eqb-true k (co_of e) is in
         let rest = left_else k e h (omega (arith, same)) in
-        let now : bit (given_at (place_of k (e ∷ h))) ≡ bit (given_at (moved e (place_of (co_of e) h))) = ap (λ (c : ℕ). bit (given_at (place_of c (e ∷ h)))) same ∙ ap (λ (p : CoPlace). bit (given_at p)) (place_here e h) in
-        let was : bit (given_at (place_of k h)) ≡ bit (given_at (place_of (co_of e) h)) = ap (λ (c : ℕ). bit (given_at (place_of c h))) same in
+        let now : bit (given_at (co_place_of k (e ∷ h))) ≡ bit (given_at (moved e (co_place_of (co_of e) h))) = ap (λ (c : ℕ). bit (given_at (co_place_of c (e ∷ h)))) same ∙ ap (λ (p : CoPlace). bit (given_at p)) (place_here e h) in
+        let was : bit (given_at (co_place_of k h)) ≡ bit (given_at (co_place_of (co_of e) h)) = ap (λ (c : ℕ). bit (given_at (co_place_of c h))) same in
         omega (arith, rest, now, was)
     by false is more =
         let apart = eqb-false k (co_of e) is in
-        let other : bit (given_at (place_of k (e ∷ h))) ≡ bit (given_at (place_of k h)) = ap (λ (p : CoPlace). bit (given_at p)) (place_else k e h apart) in
+        let other : bit (given_at (co_place_of k (e ∷ h))) ≡ bit (given_at (co_place_of k h)) = ap (λ (p : CoPlace). bit (given_at p)) (place_else k e h apart) in
         let rest = more (omega (arith, lt, apart)) in
         omega (arith, other, rest)
 
@@ -136,13 +137,13 @@ given_pushed (Pushed s g) = refl
 given_is : (n : ℕ) (h : History) → IsLegal n h → states_given h ≡ states_taken h + left_in n h
 given_is n [] legal = omega (arith, left_nothing n)
 given_is n (Schedule d cause given s ∷ P) legal =
-    let none : bit (given_at (place_of d P)) ≡ 0 = ap (λ (p : CoPlace). bit (given_at p)) legal.0.1 in
+    let none : bit (given_at (co_place_of d P)) ≡ 0 = ap (λ (p : CoPlace). bit (given_at p)) legal.0.1 in
     let here = left_here n (Schedule d cause given s) P legal.0.0 in
     let older = given_is n P legal.1 in
     omega (arith, here, none, older)
 given_is n (Push d s ∷ P) legal =
     let low = place_below n P d legal.1 (ap is_free legal.0.1) in
-    let same : bit (given_at (pushed (place_of d P))) ≡ bit (given_at (place_of d P)) = ap bit (given_pushed (place_of d P)) in
+    let same : bit (given_at (pushed (co_place_of d P))) ≡ bit (given_at (co_place_of d P)) = ap bit (given_pushed (co_place_of d P)) in
     let here = left_here n (Push d s) P low in
     let older = given_is n P legal.1 in
     omega (arith, here, same, older)
@@ -156,7 +157,7 @@ given_is n (Enter d ∷ P) legal =
 left_free : (k n : ℕ) (h : History) → k ≤ n → AreFree n h → left_in k h ≡ 0
 left_free zero n h le free = refl
 left_free (suc k) n h le free =
-    let none : bit (given_at (place_of k h)) ≡ 0 = ap (λ (p : CoPlace). bit (given_at p)) (free k (omega (arith, le))) in
+    let none : bit (given_at (co_place_of k h)) ≡ 0 = ap (λ (p : CoPlace). bit (given_at p)) (free k (omega (arith, le))) in
     let rest = left_free k n h (omega (arith, le)) free in
     omega (arith, none, rest)
 

@@ -3,7 +3,7 @@ use Rattle.std.specs.Prelude.{◌≡◌, ℕ, ◌+◌, ◌==◌, Bool, false, So
 use mathlib.Core.Option.{some}
 use Rattle.atomic_table.specs.Table.{Me, Step, rest}
 use Rattle.aio_model.specs.declared.coroutines.causes.Cause.{Cause}
-use Rattle.aio_model.specs.Coroutines.History.{Entry, seat_of, place_of, IsLegal}
+use Rattle.aio_model.specs.Coroutines.History.{Entry, seat_of, co_place_of, IsLegal}
 use Rattle.table_seats.specs.Seats.{Told, longer_of}
 use Rattle.table_seats.specs.Calls.{IsJoined}
 use Rattle.co_schedule.specs.Words.{mark_at, mark_of}
@@ -43,7 +43,7 @@ module _ {S : Type 0} where
   -- who owns all has seen all, so a mark tells where its coroutine stands in what was seen
   abbrev pub mark_seen : Step S → Me S Known → ℕ → Me S Known → Type 0
   mark_seen step before found after =
-      (after.1 ≡ before.1) × ((c : ℕ) → step.word ≡ mark_at c → Looks MarkLoad (mark_at c) found before.0 after.0 × (found ≡ mark_of (place_of c before.0.seen)))
+      (after.1 ≡ before.1) × ((c : ℕ) → step.word ≡ mark_at c → Looks MarkLoad (mark_at c) found before.0 after.0 × (found ≡ mark_of (co_place_of c before.0.seen)))
 
 module _ {S : Type 0} (cause_in : S → Cause) (given_in : S → Bool) where
   -- a compare that succeeds takes the slot, in which there is no state; one that fails tells where the coroutine stood

@@ -2,13 +2,13 @@
 use Rattle.std.specs.Prelude.{◌≡◌, ℕ, ◌<◌, Bool, true, false, Option, None, Some, List, ◌∷◌, ◌++◌, length, reverse, slice_index}
 use Rattle.aio_chain.specs.Chains.{IsChain}
 use Rattle.table_seats.specs.Seats.{owns, home, EachView, SeatsStand}
-use Rattle.aio_model.specs.Coroutines.History.{History, seat_of, Scheduled, place_of, queue_of, IsLegal}
+use Rattle.aio_model.specs.Coroutines.History.{History, seat_of, Scheduled, co_place_of, queue_of, IsLegal}
 use Rattle.co_schedule.specs.Words.{head_at, mark_at, word_count, mark_of, next_in}
 use Rattle.co_schedule.specs.Known.{Phase, AtRest, Marked, HeadLoaded, Linked, is_at_rest, Stage, Known, part_of, numbers_of}
 
 -- the seat of this number is to push the coroutine
 abbrev pub IsOwed : History → ℕ → ℕ → Bool → Type 0
-IsOwed history number c given = place_of c history ≡ Scheduled number given
+IsOwed history number c given = co_place_of c history ≡ Scheduled number given
 
 -- what a phase says
 abbrev pub Owes : List ℕ → History → ℕ → Phase → Type 0
@@ -43,7 +43,7 @@ pub record Stands (n : ℕ) (history : History) (words : List ℕ) (views : List
   pub long : length words ≡ word_count n
   pub legal : IsLegal n history
   pub seats : SeatsStand seat_of part_of history views
-  pub marks : (c : ℕ) → c < n → slice_index words (mark_at c) ≡ mark_of (place_of c history)
+  pub marks : (c : ℕ) → c < n → slice_index words (mark_at c) ≡ mark_of (co_place_of c history)
   pub taken : List ℕ
   pub stack : List ℕ
   pub queue : queue_of history ≡ taken ++ reverse stack

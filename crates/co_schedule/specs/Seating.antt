@@ -1,7 +1,7 @@
 -- How what a seat knows is cut in two and put together.
 use Rattle.std.specs.Prelude.{◌+◌, ◌-◌, ℕ, if◌then◌else◌, None, []}
 use Rattle.table_seats.specs.Seats.{Told, owns, home}
-use Rattle.table_seats.specs.Dividing.{front_part, back_part, joined_part, half_of, told_of}
+use Rattle.table_seats.specs.Dividing.{front_part, back_part, joined_part, half_as_many, told_of}
 use Rattle.aio_model.specs.Coroutines.History.{Entry, seat_of}
 use Rattle.co_schedule.specs.Known.{AtRest, empty_stage, Known, part_of, numbers_of}
 
@@ -25,7 +25,7 @@ spent_known =
 
 -- how many numbers stay where a seat is split
 abbrev pub half_cut : Known → ℕ
-half_cut known = known.count - half_of known.count
+half_cut known = known.count - half_as_many known.count
 
 -- what a join of two remembers
 abbrev pub told_by : Known → Known → Told Entry

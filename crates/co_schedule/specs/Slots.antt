@@ -5,7 +5,7 @@ use mathlib.Core.Option.{some}
 use lib.ListN.{get_elem?}
 use Rattle.atomic_table.specs.Table.{State}
 use Rattle.table_seats.specs.Seats.{owns, home, EachView}
-use Rattle.aio_model.specs.Coroutines.History.{History, Free, Pushed, place_of}
+use Rattle.aio_model.specs.Coroutines.History.{History, Free, Pushed, co_place_of}
 use Rattle.co_schedule.specs.Known.{Stage, Known, numbers_of}
 use Rattle.co_schedule.specs.Rule.{Stands}
 
@@ -31,10 +31,10 @@ module _ {S : Type 0} (given_in : S → Bool) (IsOf : ℕ → S → Type 0) wher
 
   abbrev pub HoldsAll : ℕ → History → List (mathlib.Core.Option.Option S) → Known → Type 0
   HoldsAll n history homes known =
-      owns (numbers_of known) home ≡ true → (c : ℕ) → c < n → (seat : ℕ) (given : Bool) → place_of c history ≡ Pushed seat given → Holds c known.stage given (get_elem? homes c)
+      owns (numbers_of known) home ≡ true → (c : ℕ) → c < n → (seat : ℕ) (given : Bool) → co_place_of c history ≡ Pushed seat given → Holds c known.stage given (get_elem? homes c)
 
   pub record SlotsStand (n : ℕ) (history : History) (homes : List (mathlib.Core.Option.Option S)) (views : List Known) : Type 0 where
-    pub vacant : (c : ℕ) → c < n → place_of c history ≡ Free → IsVacant (get_elem? homes c)
+    pub vacant : (c : ℕ) → c < n → co_place_of c history ≡ Free → IsVacant (get_elem? homes c)
     pub full : EachView (HoldsAll n history homes) views
 
   abbrev pub Kept : ℕ → State S Known → Type 0

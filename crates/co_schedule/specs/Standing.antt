@@ -2,7 +2,7 @@
 use Rattle.std.specs.Prelude.{◌≡◌, ◌≢◌, ℕ, ◌≤◌, ◌<◌, Bool, false, ◌==◌, ◌||◌, None, Some, List, [], ◌∷◌, ◌++◌, length}
 use Rattle.table_seats.specs.Seats.{Makes as makes_part, own_entries}
 use Rattle.aio_model.specs.declared.coroutines.causes.Cause.{Cause}
-use Rattle.aio_model.specs.Coroutines.History.{Entry, Schedule, Push, Enter, History, seat_of, Pushed, place_of, queue_of, IsLegal}
+use Rattle.aio_model.specs.Coroutines.History.{Entry, Schedule, Push, Enter, History, seat_of, Pushed, co_place_of, queue_of, IsLegal}
 use Rattle.co_schedule.specs.Words.{head_at, mark_at, mark_of, next_at}
 use Rattle.co_schedule.specs.Known.{Kind, MarkCompare, HeadLoad, NextStore, HeadCompare, TakeSwap, NextLoad, MarkLoad, MarkClear, Done, AtRest, Marked, HeadLoaded, Linked, Known, part_of, numbers_of}
 
@@ -23,11 +23,11 @@ pub record Looks (kind : Kind) (word found : ℕ) (before after : Known) : Type 
   pub rest : after ≡ record before { did = done kind word found ∷ before.did }
 
 -- the coroutine was scheduled by one of these entries
-abbrev pub was_scheduled : ℕ → List Entry → Bool
-was_scheduled c [] = false
-was_scheduled c (Schedule d cause given seat ∷ older) = (c == d) || was_scheduled c older
-was_scheduled c (Push d seat ∷ older) = was_scheduled c older
-was_scheduled c (Enter d ∷ older) = was_scheduled c older
+abbrev pub was_scheduled_by : ℕ → List Entry → Bool
+was_scheduled_by c [] = false
+was_scheduled_by c (Schedule d cause given seat ∷ older) = (c == d) || was_scheduled_by c older
+was_scheduled_by c (Push d seat ∷ older) = was_scheduled_by c older
+was_scheduled_by c (Enter d ∷ older) = was_scheduled_by c older
 
 -- The mark is the coroutine's in the history of that step, which is what was seen and then some of others: the seat's own entries in it
 -- are just those that it made.
@@ -35,7 +35,7 @@ pub record IsMarkOf (c mark : ℕ) (before : Known) : Type 0 where
   pub others : History
   pub own : own_entries seat_of (numbers_of before) (others ++ before.seen) ≡ before.mine
   pub legal : IsLegal before.coroutines (others ++ before.seen)
-  pub mark_is : mark ≡ mark_of (place_of c (others ++ before.seen))
+  pub mark_is : mark ≡ mark_of (co_place_of c (others ++ before.seen))
 
 pub record HeadIsLoaded (c : ℕ) (given : Bool) (found : ℕ) (before after : Known) : Type 0 where
   pub below : c < before.coroutines
@@ -79,7 +79,7 @@ pub record Opens (c found : ℕ) (given : Bool) (before after : Known) : Type 0 
 pub record IsFirstEntered (c : ℕ) (more : List ℕ) (before after : Known) : Type 0 where
   pub makes : Makes (Enter c) before after
   pub scheduler : ℕ
-  pub was : place_of c (makes.others ++ before.seen) ≡ Pushed scheduler before.stage.given
+  pub was : co_place_of c (makes.others ++ before.seen) ≡ Pushed scheduler before.stage.given
   pub rest : after ≡ record before { seen = after.seen; mine = after.mine; did = done MarkClear (mark_at c) 0 ∷ before.did; stage = record before.stage { taken = more; run = more; hand = None } }
 
 -- Calls.

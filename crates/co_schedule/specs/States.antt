@@ -1,9 +1,10 @@
 -- How many states came with what was scheduled, and how many came out again at home.
-use Rattle.std.specs.Prelude.{◌≡◌, ℕ, ◌+◌, ◌-◌, ◌^◌, Bool, false, min, [], ◌∷◌, length}
+use Rattle.std.specs.Prelude.{◌≡◌, ℕ, ◌+◌, ◌-◌, ◌^◌, Bool, false, [], ◌∷◌, length}
 use Rattle.aio_model.specs.Loop.FlagsWord.{bit}
-use Rattle.aio_model.specs.Coroutines.History.{Schedule, Push, Enter, History, seat_of, CoPlace, Free, Scheduled, Pushed, place_of}
+use Rattle.aio_model.specs.Coroutines.History.{Schedule, Push, Enter, History, seat_of, CoPlace, Free, Scheduled, Pushed, co_place_of}
 use Rattle.table_seats.specs.Seats.{own_entries}
 use Rattle.co_schedule.specs.Known.{Known, numbers_of}
+use Rattle.aio_model.specs.Counts.{counted}
 
 -- how many schedules gave a state
 abbrev pub states_given : History → ℕ
@@ -23,11 +24,7 @@ abbrev pub states_taken : History → ℕ
 states_taken [] = 0
 states_taken (Schedule c cause given seat ∷ older) = states_taken older
 states_taken (Push c seat ∷ older) = states_taken older
-states_taken (Enter c ∷ older) = bit (given_at (place_of c older)) + states_taken older
-
--- a count that stays at the greatest u64
-abbrev pub counted : ℕ → ℕ
-counted n = min n (2 ^ 64 - 1)
+states_taken (Enter c ∷ older) = bit (given_at (co_place_of c older)) + states_taken older
 
 -- what home counts: its own entries are as many as those of its number in what it has seen, and the states that came out are counted
 abbrev pub CountsOwn : ℕ → Known → Type 0

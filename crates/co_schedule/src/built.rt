@@ -3,7 +3,8 @@ ghost use Rattle.std.specs.Prelude.{◌≡◌, ◌≤◌, None, [], Some, true, 
 ghost use Rattle.co_schedule.specs.Known.{first_known, AtRest};
 ghost use Rattle.co_schedule.specs.Seating.{front_known, back_known};
 ghost use Rattle.co_schedule.specs.Calls.{are_within, IsSeatOf, IsNew};
-ghost use Rattle.co_schedule.specs.States.{counted, states_taken};
+ghost use Rattle.co_schedule.specs.States.{states_taken};
+ghost use Rattle.aio_model.specs.Counts.{counted};
 
 use crate::about::About;
 use crate::homes::CoHome;

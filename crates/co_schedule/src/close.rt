@@ -1,6 +1,6 @@
 //! The end of a table, at which all its seats are there.
 ghost use Rattle.std.specs.Prelude.{◌≡◌, ◌<◌, ◌+◌, [], MatchOption, MatchResult};
-ghost use Rattle.aio_model.specs.Coroutines.History.{Free, place_of, seat_of, IsLegal};
+ghost use Rattle.aio_model.specs.Coroutines.History.{Free, co_place_of, seat_of, IsLegal};
 ghost use Rattle.table_seats.specs.Calls.{IsJoined};
 ghost use Rattle.co_schedule.specs.Words.{mark_at, mark_of};
 ghost use Rattle.co_schedule.specs.Known.{MarkLoad};
@@ -8,7 +8,8 @@ ghost use Rattle.co_schedule.specs.Standing.{Looks};
 ghost use Rattle.co_schedule.specs.Seating.{joined_known, told_by};
 ghost use Rattle.co_schedule.specs.Calls.{IsSeatOf, AreFree, Ends, IsLeftOver};
 ghost use Rattle.co_schedule.specs.Closing.{ClosesAs};
-ghost use Rattle.co_schedule.specs.States.{counted, states_taken};
+ghost use Rattle.co_schedule.specs.States.{states_taken};
+ghost use Rattle.aio_model.specs.Counts.{counted};
 
 use crate::built::CoBuilt;
 use crate::ends::{CoClosed, CoEnd};
@@ -27,7 +28,7 @@ impl<C: Origin + Drop> CoTable<C> {
         requires below { co < self.now.coroutines }
         ensures seat { (inner.new.table_id ≡ inner.old.table_id) × (inner.new.id ≡ inner.old.id) × (inner.new.me.0.origin ≡ inner.old.me.0.origin) × (inner.new.me.1 ≡ inner.old.me.1) }
         ensures looks { Looks MarkLoad (mark_at co) result inner.old.me.0.known inner.new.me.0.known }
-        ensures mark { result ≡ mark_of (place_of co inner.old.me.0.known.seen) }
+        ensures mark { result ≡ mark_of (co_place_of co inner.old.me.0.known.seen) }
     {
         self.table.shared.load::<LookAtMark>(inner, mark_word(co))
     }
@@ -38,7 +39,7 @@ impl<C: Origin + Drop> CoTable<C> {
         requires numbers { (inner.old.me.0.known.first ≡ 0) × (inner.old.me.0.known.count ≡ 65) }
         ensures seat { (inner.new.table_id ≡ inner.old.table_id) × (inner.new.id ≡ inner.old.id) × (inner.new.me.0.origin ≡ inner.old.me.0.origin) × (inner.new.me.1 ≡ inner.old.me.1) }
         ensures same { inner.new.me.0.known ≡ record inner.old.me.0.known { did = inner.new.me.0.known.did } }
-        ensures found { MatchOption result (AreFree self.now.coroutines inner.old.me.0.known.seen) (λ co. (co < self.now.coroutines) × (0 < mark_of (place_of co inner.old.me.0.known.seen)) × AreFree co inner.old.me.0.known.seen) }
+        ensures found { MatchOption result (AreFree self.now.coroutines inner.old.me.0.known.seen) (λ co. (co < self.now.coroutines) × (0 < mark_of (co_place_of co inner.old.me.0.known.seen)) × AreFree co inner.old.me.0.known.seen) }
     {
         let mut co = 0;
         while co < self.coroutines {

@@ -1,3 +1,4 @@
+ghost use Rattle.aio_model.specs.Counts.{counted};
 //! What a table comes to in the end.
 use crate::built::CoBuilt;
 use crate::plays::Inner;

@@ -7,7 +7,7 @@ use Rattle.std.specs.FinMap as map
 use Rattle.slab.specs.Slab.{Slab}
 use Rattle.co_state.specs.Coroutines.{AllOf}
 use Rattle.co_state.specs.Lookup.{Table, shape, is_among, AreOnce, AreListed}
-use Rattle.co_state.specs.Kept.{coroutine_of, under, with_this, collected, key_for, ids_of, held_in, AreKept}
+use Rattle.co_state.specs.Kept.{coroutine_in, under, with_this, collected, key_for, ids_of, held_in, AreKept}
 use Rattle.co_state.specs.declared.store.Slot.{Slot}
 use Rattle.co_state.proofs.Trees.{no_key, key_of_one}
 
@@ -120,4 +120,4 @@ module _ {C : Type 0} where
       len-collected (λ id. under s (key_for d id)) (ids_of d) listed.once (λ q among.
       let at = key_of_one (shape d.tree) q listed among in
       let there = kept.numbered q at.0 at.1 in
-      subst IsSome (sym (ap (under s) at.1 ∙ ap coroutine_of there.1)) refl)
+      subst IsSome (sym (ap (under s) at.1 ∙ ap coroutine_in there.1)) refl)

@@ -7,7 +7,7 @@ use Rattle.slab.specs.Slab.{Slab, get, slab_len, Updates, with_value}
 use Rattle.slab.proofs.SlabLemmas.{Updates-with_value, ContainsKey-within}
 use Rattle.co_state.specs.Coroutines.{Coroutines, AllOf}
 use Rattle.co_state.specs.Lookup.{Table, shape, AreListed}
-use Rattle.co_state.specs.Kept.{coroutine_of, under, AreNumbered, collected, key_for, ids_of, held_in, AreKept}
+use Rattle.co_state.specs.Kept.{coroutine_in, under, AreNumbered, collected, key_for, ids_of, held_in, AreKept}
 use Rattle.co_state.specs.declared.store.Slot.{Slot}
 use Rattle.co_state.proofs.Held.{get_inserted, get_removed, same_held, remove-insert, get-held, len-held}
 
@@ -67,7 +67,7 @@ module _ {C : Type 0} where
   -- what is under another number stays
   stays_under : (s s' : Slab (Slot C)) (slot : Option (Slot C)) (key : ℕ) (o : Option ℕ) → Updates s s' key slot → (o ≡ Some key → ⊥) → under s' o ≡ under s o
   stays_under s s' slot key None updates apart = refl
-  stays_under s s' slot key (Some k) updates apart = ap coroutine_of (updates.others k (λ e. apart (ap Some e)))
+  stays_under s s' slot key (Some k) updates apart = ap coroutine_in (updates.others k (λ e. apart (ap Some e)))
 
   record Changed (d d' : Table) (s s' : Slab (Slot C)) (id : ℕ) (now : Option C) : Type 0 where
     pub numbered : AreNumbered s' (key_for d')
@@ -113,7 +113,7 @@ module _ {C : Type 0} where
       let all = changed d d' s s' (Some (record { id = id; co = co })) id key (Some co) kept.numbered updates
       (λ q differs found. no_key None s (key_for d) key kept.numbered vacant q found)
       (λ q differs. keys q ∙ ap (λ b. cond b (Some key) (key_for d q)) (ne_eqb q id differs))
-      (ap (under s') own_key ∙ ap coroutine_of updates.changed)
+      (ap (under s') own_key ∙ ap coroutine_in updates.changed)
       (λ k found. let same = one_key (eqb id id) key k (key_for d id) mine (sym (keys id) ∙ found) in (co, ap (get s') (sym same) ∙ updates.changed)) in
       record {
         kept = record {
@@ -147,7 +147,7 @@ module _ {C : Type 0} where
       let all = changed d d s s' (Some new) id key (Some co) kept.numbered updates
       (apart s (key_for d) id key named.0 kept.numbered named.1)
       (λ q differs. refl)
-      (ap (under s') found ∙ ap coroutine_of updates.changed)
+      (ap (under s') found ∙ ap coroutine_in updates.changed)
       (λ k is. let same : key ≡ k = cc (found, is) in (co, ap (get s') (sym same) ∙ updates.changed ∙ ap (λ (n : ℕ). Some (record { id = n; co = co })) own)) in
       record {
         kept = record {
@@ -201,7 +201,7 @@ module _ {C : Type 0} where
   held_absent d s id none = get-held d s id ∙ ap (under s) none
 
   pub held_present : (d : Table) (s : Slab (Slot C)) (id key : ℕ) (slot : Slot C) → key_for d id ≡ Some key → get s key ≡ Some slot → map.get (held_in d s) id ≡ Some slot.co
-  held_present d s id key slot found there = get-held d s id ∙ ap (under s) found ∙ ap coroutine_of there
+  held_present d s id key slot found there = get-held d s id ∙ ap (under s) found ∙ ap coroutine_in there
 
   -- and it is of the origin of all, as its number
   pub of_there : {O : Type 0} (is_of : ℕ → C → O → Type 0) (id key : ℕ) (slot : Slot C) (d : Table) (s : Slab (Slot C)) (origin : O) → AllOf is_of (held_in d s) origin → key_for d id ≡ Some key → get s key ≡ Some slot → is_of id slot.co origin
@@ -210,7 +210,7 @@ module _ {C : Type 0} where
 
   present_by : (d : Table) (s : Slab (Slot C)) (id : ℕ) (o : Option ℕ) → AreNumbered s (key_for d) → key_for d id ≡ o → IsSome o → is_some (under s o) ≡ true
   present_by d s id None numbered e some = absurd (cc)
-  present_by d s id (Some key) numbered e some = let there = numbered id key e in ap (λ o. is_some (coroutine_of o)) there.1
+  present_by d s id (Some key) numbered e some = let there = numbered id key e in ap (λ o. is_some (coroutine_in o)) there.1
 
   -- when a put is refused
   pub refused_present : (room : ℕ) (d : Table) (s : Slab (Slot C)) (id : ℕ) → AreKept room d s → IsSome (key_for d id) → true ≡ (map.contains_key (held_in d s) id || nat_le room (map.len (held_in d s)))

@@ -7,14 +7,14 @@ use Rattle.co_state.specs.Lookup.{Table, shape, ids_in, key_in}
 use Rattle.co_state.specs.declared.store.Slot.{Slot}
 
 module _ {C : Type 0} where
-  abbrev pub coroutine_of : Option (Slot C) → Option C
-  coroutine_of None = None
-  coroutine_of (Some slot) = Some slot.co
+  abbrev pub coroutine_in : Option (Slot C) → Option C
+  coroutine_in None = None
+  coroutine_in (Some slot) = Some slot.co
 
   -- the coroutine under a key
   abbrev pub under : Slab (Slot C) → Option ℕ → Option C
   under slab None = None
-  under slab (Some key) = coroutine_of (get slab key)
+  under slab (Some key) = coroutine_in (get slab key)
 
   -- the numbers that have a coroutine, each with it
   abbrev pub with_this : ℕ → Option C → List (ℕ × C) → List (ℕ × C)

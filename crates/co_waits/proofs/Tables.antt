@@ -6,28 +6,28 @@ use Rattle.aio_model.specs.declared.holds.Hold.TheVariants.{Reads}
 use Rattle.aio_model.specs.declared.holds.Wish.TheVariants as wish
 use Rattle.aio_model.specs.Holds.Readers.{Holders, Readers, Writer, Ticket, ReadersWriter, waiting, hold_in, hold_of}
 use Rattle.aio_model.specs.Holds.Table.{with_ticket, read_by, read_locked, written_by, write_locked, without_holder, wake_one, stepped_back, queued_again, upgraded_by, upgraded}
-use Rattle.co_waits.specs.Registers.{is_written, readers_in, is_vacant, is_open, is_single}
+use Rattle.co_waits.specs.Registers.{is_written, readers_in, is_vacant, lets_readers_in, is_single}
 
-opened : (who : ℕ) (state : ReadersWriter) (holders : Holders) (tickets : List Ticket) → is_open holders tickets ≡ true → read_by who state holders tickets ≡ record { answer = Got; state = record state { holders = Readers (readers_in holders ++ who ∷ []) } }
+opened : (who : ℕ) (state : ReadersWriter) (holders : Holders) (tickets : List Ticket) → lets_readers_in holders tickets ≡ true → read_by who state holders tickets ≡ record { answer = Got; state = record state { holders = Readers (readers_in holders ++ who ∷ []) } }
 opened who state (Readers []) tickets e = refl
 opened who state (Readers (r ∷ rs)) [] e = refl
 opened who state (Readers (r ∷ rs)) (t ∷ ts) e = absurd (cc e)
 opened who state (Writer writer) tickets e = absurd (cc e)
 
-pub opens : (who : ℕ) (state : ReadersWriter) → is_open state.holders state.tickets ≡ true → read_locked who state ≡ record { answer = Got; state = record state { holders = Readers (readers_in state.holders ++ who ∷ []) } }
+pub opens : (who : ℕ) (state : ReadersWriter) → lets_readers_in state.holders state.tickets ≡ true → read_locked who state ≡ record { answer = Got; state = record state { holders = Readers (readers_in state.holders ++ who ∷ []) } }
 opens who state e = opened who state state.holders state.tickets e
 
-pub open_unwritten : (holders : Holders) (tickets : List Ticket) → is_open holders tickets ≡ true → is_written holders ≡ false
+pub open_unwritten : (holders : Holders) (tickets : List Ticket) → lets_readers_in holders tickets ≡ true → is_written holders ≡ false
 open_unwritten (Readers readers) tickets e = refl
 open_unwritten (Writer writer) tickets e = absurd (cc e)
 
-closed : (who : ℕ) (state : ReadersWriter) (holders : Holders) (tickets : List Ticket) → is_open holders tickets ≡ false → read_by who state holders tickets ≡ record { answer = Queued; state = with_ticket who wish.Read state }
+closed : (who : ℕ) (state : ReadersWriter) (holders : Holders) (tickets : List Ticket) → lets_readers_in holders tickets ≡ false → read_by who state holders tickets ≡ record { answer = Queued; state = with_ticket who wish.Read state }
 closed who state (Readers []) tickets e = absurd (cc e)
 closed who state (Readers (r ∷ rs)) [] e = absurd (cc e)
 closed who state (Readers (r ∷ rs)) (t ∷ ts) e = refl
 closed who state (Writer writer) tickets e = refl
 
-pub closes : (who : ℕ) (state : ReadersWriter) → is_open state.holders state.tickets ≡ false → read_locked who state ≡ record { answer = Queued; state = with_ticket who wish.Read state }
+pub closes : (who : ℕ) (state : ReadersWriter) → lets_readers_in state.holders state.tickets ≡ false → read_locked who state ≡ record { answer = Queued; state = with_ticket who wish.Read state }
 closes who state e = closed who state state.holders state.tickets e
 
 vacated : (who : ℕ) (state : ReadersWriter) (holders : Holders) → is_vacant holders ≡ true → written_by who state holders ≡ record { answer = Got; state = record state { holders = Writer who } }

@@ -49,11 +49,11 @@ is_vacant (Readers (r ∷ rs)) = false
 is_vacant (Writer writer) = false
 
 -- a reader may come in
-abbrev pub is_open : Holders → List Ticket → Bool
-is_open (Readers []) tickets = true
-is_open (Readers (r ∷ rs)) [] = true
-is_open (Readers (r ∷ rs)) (t ∷ ts) = false
-is_open (Writer writer) tickets = false
+abbrev pub lets_readers_in : Holders → List Ticket → Bool
+lets_readers_in (Readers []) tickets = true
+lets_readers_in (Readers (r ∷ rs)) [] = true
+lets_readers_in (Readers (r ∷ rs)) (t ∷ ts) = false
+lets_readers_in (Writer writer) tickets = false
 
 -- one reads, and nobody waits
 abbrev pub is_single : Holders → List Ticket → Bool

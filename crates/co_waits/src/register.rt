@@ -1,6 +1,6 @@
 //! Who holds and who waits.
 ghost use Rattle.std.specs.Prelude.{◌≡◌, ◌<◌, ◌++◌, ◌∷◌, [], IfOk, IsTrue, IsFalse};
-ghost use Rattle.co_waits.specs.Registers.{is_written, readers_in, is_vacant, is_open, is_single};
+ghost use Rattle.co_waits.specs.Registers.{is_written, readers_in, is_vacant, lets_readers_in, is_single};
 ghost use Rattle.aio_model.specs.declared.holds.Hold.TheVariants.{Free};
 ghost use Rattle.aio_model.specs.Holds.Readers.{Readers, Writer, waiting, hold_of};
 ghost use Rattle.aio_model.specs.Holds.{Has, IsOrderly};
@@ -90,7 +90,7 @@ impl Register {
 
     /// Whether a reader may come in.
     pub(crate) fn is_open(&self) -> bool
-        ensures open { result ≡ is_open self.now.holders self.now.tickets }
+        ensures open { result ≡ lets_readers_in self.now.holders self.now.tickets }
         ensures orderly { IsOrderly self.now }
     {
         match self.writer {

@@ -5,11 +5,11 @@ use Rattle.lot_pool.specs.Pools.{PoolState}
 use Rattle.aio_loop.specs.Entering.{LoopLent, LoopEntered, ForBottom, ForReady, ForExpired}
 use Rattle.aio_loop.specs.Walks.{LoopFar}
 use Rattle.device_loop.specs.declared.counts.Counts.{Counts}
-use Rattle.device_loop.specs.Devices.{counted, DeviceWorks, DeviceIsDone}
+use Rattle.device_loop.specs.Devices.{counts_after_call, DeviceWorks, DeviceIsDone}
 use Rattle.device_loop.specs.Turning.{OneTurn, TurnsSome}
 
 -- a device that is done stays so
-counted_done : (what : LoopLent) (counts : Counts) → DeviceIsDone counts → DeviceIsDone (counted what counts)
+counted_done : (what : LoopLent) (counts : Counts) → DeviceIsDone counts → DeviceIsDone (counts_after_call what counts)
 counted_done (ForBottom lent answer) counts done = record { stopped = done.stopped; ticks = done.ticks }
 counted_done (ForReady ready) counts done = record { stopped = refl; ticks = done.ticks }
 counted_done (ForExpired id) counts done =

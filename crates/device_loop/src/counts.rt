@@ -1,5 +1,5 @@
 ghost use Rattle.std.specs.Prelude.{◌≡◌, true, false};
-ghost use Rattle.device_loop.specs.Counting.{one_more};
+ghost use Rattle.aio_model.specs.Counts.{one_more};
 
 /// What a device was called for. A count stays at the greatest u64.
 #[derive(Clone, Copy, Debug, PartialEq, Eq)]

@@ -15,10 +15,11 @@ use Rattle.aio_bh.specs.Enqueuing.{enqueue_entries}
 use Rattle.aio_bh.specs.Polling.{Polls}
 use Rattle.aio_bh.specs.Serving.{WasMade}
 use Rattle.aio_bh.proofs.Served.{served, never_nests, callback_awaits}
-use Rattle.doorbells.specs.Responding.{is_new, one_more, count_of, answers, PassesOn, CountsOne, AreFit}
+use Rattle.doorbells.specs.Responding.{is_new, count_of, answers, PassesOn, CountsOne, AreFit}
 use Rattle.doorbells.specs.Rings.{Rings}
 use Rattle.doorbells.specs.Answering.{Counted, AnswersDoorbells, AnswersTwice, AnswersOne}
 use Rattle.doorbells.proofs.Rang.{is_new-parts, none_dequeued_by}
+use Rattle.aio_model.specs.Counts.{one_more}
 
 time_of : (b x : Bool) → cond b (bit x) 0 ≡ bit (b && x)
 time_of true x = refl

@@ -1,7 +1,7 @@
 -- Two seats rang at once, and were joined.
 use Rattle.std.proofs.Common.{◌≡◌, Option, None, Some, MatchOption, ℕ, ◌<◌, ◌+◌, ◌-◌, ◌++◌, sym, ap, ◌∙◌, subst, append_assoc, arith}
 use Rattle.std.proofs.lemmas.List.{append_cancel_right}
-use Rattle.table_seats.specs.Dividing.{front_numbers, back_numbers, half_of}
+use Rattle.table_seats.specs.Dividing.{front_numbers, back_numbers, half_as_many}
 use Rattle.table_seats.proofs.Entries.{own-append}
 use Rattle.aio_model.specs.declared.loops.flags.Flags.{Flags}
 use Rattle.aio_model.specs.Loop.History.{ToCall, History}
@@ -31,9 +31,9 @@ numbers_are k numbers first count =
 both_halves : (count half : ℕ) → (count - half) + (count - (count - half)) ≡ count
 both_halves count half = omega arith
 
-pub rings_twice : (table : TableState) (low high : ℕ) (found_low found_high : Flags) (seat a0 b0 a1 b1 joined : SeatState) → low < table.sizes.handles → high < table.sizes.handles → a0.known ≡ front_known (seat.known.count - half_of seat.known.count) seat.known → b0.known ≡ back_known (seat.known.count - half_of seat.known.count) seat.known → Rings table low found_low a0 a1 → Rings table high found_high b0 b1 → IsSeatOf table joined → joined.known ≡ joined_known a1.known b1.known → IsJoined table.sizes (told_of a1.known b1.known) joined.known.seen → RingsTwice table low high found_low found_high seat joined
+pub rings_twice : (table : TableState) (low high : ℕ) (found_low found_high : Flags) (seat a0 b0 a1 b1 joined : SeatState) → low < table.sizes.handles → high < table.sizes.handles → a0.known ≡ front_known (seat.known.count - half_as_many seat.known.count) seat.known → b0.known ≡ back_known (seat.known.count - half_as_many seat.known.count) seat.known → Rings table low found_low a0 a1 → Rings table high found_high b0 b1 → IsSeatOf table joined → joined.known ≡ joined_known a1.known b1.known → IsJoined table.sizes (told_of a1.known b1.known) joined.known.seen → RingsTwice table low high found_low found_high seat joined
 rings_twice table low high found_low found_high seat a0 b0 a1 b1 joined low_handle high_handle is_front is_back first second of both parts =
-    let cut = seat.known.count - half_of seat.known.count in
+    let cut = seat.known.count - half_as_many seat.known.count in
     let front = front_numbers (numbers_of seat.known) cut in
     let back = back_numbers (numbers_of seat.known) cut in
     let s = first.stands.stands.stands in
@@ -50,7 +50,7 @@ rings_twice table low high found_low found_high seat a0 b0 a1 b1 joined low_hand
       back = record {
         ready = record { of = of; rest = ap (λ (k : Known). k.phase) both ∙ first.back.ready.rest };
         first = ap (λ (k : Known). k.first) both ∙ first.back.first ∙ first_a;
-        count = ap (λ (k : Known). k.count) both ∙ ap (λ n. n + b1.known.count) (first.back.count ∙ ap (λ (k : Known). k.count) is_front) ∙ ap (λ n. cut + n) (second.back.count ∙ ap (λ (k : Known). k.count) is_back) ∙ both_halves seat.known.count (half_of seat.known.count);
+        count = ap (λ (k : Known). k.count) both ∙ ap (λ n. n + b1.known.count) (first.back.count ∙ ap (λ (k : Known). k.count) is_front) ∙ ap (λ n. cut + n) (second.back.count ∙ ap (λ (k : Known). k.count) is_back) ∙ both_halves seat.known.count (half_as_many seat.known.count);
       };
       since = since;
       seen = seen;

@@ -9,8 +9,9 @@ use Rattle.aio_model.specs.Loop.Calls.{dequeue_times, stops, AwaitsCall}
 use Rattle.aio_core.specs.Known.{empty_stage}
 use Rattle.aio_core.specs.Calls.{TableState, SeatState}
 use Rattle.aio_bh.specs.Ready.{IsReady}
-use Rattle.doorbells.specs.Responding.{is_new, one_more, count_of}
+use Rattle.doorbells.specs.Responding.{is_new, count_of}
 use Rattle.doorbells.specs.Rings.{RingsTwice}
+use Rattle.aio_model.specs.Counts.{one_more}
 
 -- the home between two polls
 pub record IsHomeReady (table : TableState) (seat : SeatState) : Type 0 where

@@ -1,17 +1,14 @@
 -- What one answer to a doorbell does to the devices.
-use Rattle.std.specs.Prelude.{◌≡◌, ℕ, ◌<◌, ◌≤◌, ◌+◌, ◌-◌, ◌^◌, min, Bool, true, false, not, ◌&&◌, ◌==◌, if◌then◌else◌, List, [], length, get_or}
+use Rattle.std.specs.Prelude.{◌≡◌, ℕ, ◌<◌, ◌≤◌, ◌+◌, ◌-◌, ◌^◌, Bool, true, false, not, ◌&&◌, ◌==◌, if◌then◌else◌, List, [], length, get_or}
 use Rattle.aio_model.specs.declared.loops.flags.Flags.{Flags}
 use Rattle.aio_model.specs.Loop.History.{ToCall, History}
 use Rattle.aio_model.specs.Loop.Frame.{Entered}
 use Rattle.aio_bh.specs.Enqueuing.{enqueue_entries}
+use Rattle.aio_model.specs.Counts.{one_more}
 
 -- the ring is a new one: its doorbell was neither pending nor deleted
 abbrev pub is_new : Flags → Bool
 is_new flags = not flags.pending && not flags.deleted
-
--- a count stays at the greatest u64
-abbrev pub one_more : ℕ → ℕ
-one_more n = min (n + 1) (2 ^ 64 - 1)
 
 -- how often the doorbell was answered
 abbrev pub count_of : List ℕ → ℕ → ℕ

@@ -1,6 +1,6 @@
 -- What a ring says.
 use Rattle.std.specs.Prelude.{◌≡◌, ℕ, ◌+◌, ◌-◌, true, false, ◌++◌}
-use Rattle.table_seats.specs.Dividing.{front_numbers, back_numbers, half_of}
+use Rattle.table_seats.specs.Dividing.{front_numbers, back_numbers, half_as_many}
 use Rattle.aio_model.specs.declared.loops.flags.Flags.{Flags}
 use Rattle.aio_model.specs.Loop.History.{ToCall, History}
 use Rattle.aio_model.specs.Loop.Legal.{IsLegal}
@@ -31,7 +31,7 @@ pub record RingsTwice (table : TableState) (low high : ℕ) (found_low found_hig
   pub since : History
   pub seen : after.known.seen ≡ since ++ before.known.seen
   pub legal : IsLegal table.sizes after.known.seen
-  pub by_low : own_entries (front_numbers (numbers_of before.known) (before.known.count - half_of before.known.count)) since ≡ enqueue_entries low ToCall before.known.first found_low
-  pub by_high : own_entries (back_numbers (numbers_of before.known) (before.known.count - half_of before.known.count)) since ≡ enqueue_entries high ToCall (before.known.first + (before.known.count - half_of before.known.count)) found_high
+  pub by_low : own_entries (front_numbers (numbers_of before.known) (before.known.count - half_as_many before.known.count)) since ≡ enqueue_entries low ToCall before.known.first found_low
+  pub by_high : own_entries (back_numbers (numbers_of before.known) (before.known.count - half_as_many before.known.count)) since ≡ enqueue_entries high ToCall (before.known.first + (before.known.count - half_as_many before.known.count)) found_high
   pub low_awaits : AwaitsUnless low found_low since after.known.seen
   pub high_awaits : AwaitsUnless high found_high since after.known.seen

@@ -4,7 +4,8 @@ ghost use Rattle.aio_model.specs.Loop.History.{History};
 ghost use Rattle.aio_model.specs.Loop.Legal.{IsLegal};
 ghost use Rattle.aio_bh.specs.Ready.{IsReady};
 ghost use Rattle.aio_bh.specs.Running.{SeatComesBack};
-ghost use Rattle.doorbells.specs.Responding.{one_more, count_of, PassesOn, AreFit};
+ghost use Rattle.doorbells.specs.Responding.{count_of, PassesOn, AreFit};
+ghost use Rattle.aio_model.specs.Counts.{one_more};
 
 use crate::ringing::ring;
 use aio_bh::{Call, Runner, Turn};

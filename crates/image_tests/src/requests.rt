@@ -1,6 +1,6 @@
 ghost use Rattle.std.specs.Prelude.{◌≡◌, ◌<◌, ◌≤◌, ◌^◌, ◌∷◌, ◌++◌, length, slice_index, IfOk, IfSome, Some, None, []};
 ghost use Rattle.aio_model.specs.Serving.{length_of, end_of};
-ghost use Rattle.img_requests.specs.Journal.{entries_of, entry_next};
+ghost use Rattle.img_requests.specs.Journal.{entry_count, entry_next};
 ghost use Rattle.img_requests.specs.Pieces.{HasRoom};
 ghost use Rattle.img_requests.specs.Progress.{IsServedThrough};
 ghost use Rattle.img_requests.specs.Presents.{begun_of};
@@ -52,7 +52,7 @@ struct Run {
 fn serve<D: Device>(image: &mut Image<D>, stream: u32, request: &Request, buf: &mut [u8]) -> Run
     requires known { stream < length image.old.requests }
     requires free { image.old.present ≡ None }
-    requires due { entries_of stream image.old.journal < slice_index image.old.requests stream }
+    requires due { entry_count stream image.old.journal < slice_index image.old.requests stream }
     requires small { length_of request.now < 2 ^ 32 }
     requires room { HasRoom request.now buf.old }
     ensures free { image.new.present ≡ None }

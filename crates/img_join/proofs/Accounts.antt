@@ -15,7 +15,7 @@ use Rattle.img_requests.specs.declared.present.Present.{Present}
 use Rattle.img_requests.specs.declared.present.Stage.{Stage}
 use Rattle.img_requests.specs.declared.present.Stage.TheVariants as stage
 use Rattle.img_requests.specs.ImageState.{IsEnded}
-use Rattle.img_requests.specs.Journal.{mark_at, reply_of}
+use Rattle.img_requests.specs.Journal.{mark_ended_at, reply_of}
 use Rattle.img_requests.specs.Pieces.{Pieced, HasRoom, piece_length, done_after, stage_after}
 use Rattle.img_requests.specs.Presents.{present_of, begun_of, kind_of}
 use Rattle.img_requests.specs.Progress.{Progress, Replied}
@@ -25,7 +25,7 @@ use Rattle.img_shared.specs.declared.phases.Phase.{Phase}
 use Rattle.img_shared.specs.declared.phases.Phase.TheVariants.{Idle, Waiting, Active, Retired}
 use Rattle.img_shared.specs.Calls.{Enters, Serves, Leaves, IsServing}
 use Rattle.img_shared.specs.Images.{ImageState}
-use Rattle.img_shared.specs.Journals.{entries_of}
+use Rattle.img_shared.specs.Journals.{noted_count}
 use Rattle.img_shared.specs.Phases.{hold_asked}
 use Rattle.aio_model.specs.Holds.Table.{wake_one, unlocked}
 use Rattle.aio_model.specs.Holds.Readers.{ReadersWriter}
@@ -36,11 +36,11 @@ use Rattle.img_shared.proofs.Sounds.{phase_set}
 
 -- ---- entries
 
-pub length_from : {D : Type 0} → (place k : ℕ) (journal : List (Entry D)) → length (entries_from place k journal) ≡ entries_of k journal
+pub length_from : {D : Type 0} → (place k : ℕ) (journal : List (Entry D)) → length (entries_from place k journal) ≡ noted_count k journal
 length_from place k [] = refl
 length_from {D} place k (one ∷ journal) =
-    let ih : length (entries_from (place + 1) k journal) ≡ entries_of k journal = length_from (place + 1) k journal in
-    let parts : entries_of k (one ∷ journal) ≡ cond (one.stream == k) 1 0 + entries_of k journal = sum_by-cons (λ (entry : Entry D). cond (entry.stream == k) 1 0) one journal in
+    let ih : length (entries_from (place + 1) k journal) ≡ noted_count k journal = length_from (place + 1) k journal in
+    let parts : noted_count k (one ∷ journal) ≡ cond (one.stream == k) 1 0 + noted_count k journal = sum_by-cons (λ (entry : Entry D). cond (entry.stream == k) 1 0) one journal in
     elim (cases_Bool (one.stream == k)) [
       | inl h ↦
           let here : cond {A = ℕ} (one.stream == k) 1 0 ≡ 1 = cond-true (one.stream == k) 1 0 h in
@@ -213,7 +213,7 @@ module _ {D : Type 0} (bytes : D → Option (List ℕ)) (asked : List Asked) (id
 
       -- the stream's next entry is made
       account_entry : (entry : Entry D) (found next : List ℕ) (left : D) (phases : List Phase) (access : ReadersWriter)
-          → entry.stream ≡ s → entry.index ≡ entries_of s old.journal
+          → entry.stream ≡ s → entry.index ≡ noted_count s old.journal
           → Replied size request (bytes entry.before.value.value) (bytes entry.after.value.value) (reply_of entry.mark found)
           → phase_at phases s ≡ Idle
           → Acc (record old { left = left; journal = old.journal ++ entry ∷ []; phases = phases; access = access }) (buffers ++ found ∷ []) next
@@ -246,7 +246,7 @@ module _ {D : Type 0} (bytes : D → Option (List ℕ)) (asked : List Asked) (id
 
       ended_replied : (ended : Stage) (done : ℕ) (left now : Option (List ℕ)) → IsEnded ended
           → Going size ended request done before (Some (record { left = left; now = now }))
-          → Replied size request left now (reply_of (mark_at ended (kind_of request) (length_of request) done) before)
+          → Replied size request left now (reply_of (mark_ended_at ended (kind_of request) (length_of request) done) before)
       ended_replied stage.Begun done left now over going = absurd over
       ended_replied stage.Whole done left now over going = going
       ended_replied stage.Failed done left now over going = going
@@ -260,14 +260,14 @@ module _ {D : Type 0} (bytes : D → Option (List ℕ)) (asked : List Asked) (id
           let over : IsEnded p.stage = subst CanLeave left.was ended in
           let was : Doing s size request before (Active p) (told_in (Active p) (bytes old.left) (bytes old.device)) =
           subst (λ (x : Phase). Doing s size request before x (told_in x (bytes old.left) (bytes old.device))) left.was (account.doing request named) in
-          let good : Replied size request (bytes old.left) (bytes old.device) (reply_of (mark_at p.stage (kind_of request) (length_of request) p.done) before) =
+          let good : Replied size request (bytes old.left) (bytes old.device) (reply_of (mark_ended_at p.stage (kind_of request) (length_of request) p.done) before) =
           ended_replied p.stage p.done (bytes old.left) (bytes old.device) over was.1 in
-          let marked : left.entry.mark ≡ mark_at p.stage (kind_of request) (length_of request) p.done =
-          ap (λ (e : Entry D). e.mark) left.entry_is ∙ ap (λ (q : Present). mark_at p.stage q.kind q.length p.done) was.0 in
+          let marked : left.entry.mark ≡ mark_ended_at p.stage (kind_of request) (length_of request) p.done =
+          ap (λ (e : Entry D). e.mark) left.entry_is ∙ ap (λ (q : Present). mark_ended_at p.stage q.kind q.length p.done) was.0 in
           subst (λ (i : ImageState D). Acc i (buffers ++ before ∷ []) next) (sym left.image)
           (account_entry left.entry before next old.device (set old.phases s Idle) (unlocked s old.access).state
           (ap (λ (e : Entry D). e.stream) left.entry_is) (ap (λ (e : Entry D). e.index) left.entry_is)
           (subst (λ (m : Mark). Replied size request (bytes left.entry.before.value.value) (bytes left.entry.after.value.value) (reply_of m before)) (sym marked)
-          (subst (λ (d : D). Replied size request (bytes d) (bytes left.entry.after.value.value) (reply_of (mark_at p.stage (kind_of request) (length_of request) p.done) before)) (sym left.before)
-          (subst (λ (d : D). Replied size request (bytes old.left) (bytes d) (reply_of (mark_at p.stage (kind_of request) (length_of request) p.done) before)) (sym left.after) good)))
+          (subst (λ (d : D). Replied size request (bytes d) (bytes left.entry.after.value.value) (reply_of (mark_ended_at p.stage (kind_of request) (length_of request) p.done) before)) (sym left.before)
+          (subst (λ (d : D). Replied size request (bytes old.left) (bytes d) (reply_of (mark_ended_at p.stage (kind_of request) (length_of request) p.done) before)) (sym left.after) good)))
           (phase_set old.phases s Idle below))

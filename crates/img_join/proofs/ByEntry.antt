@@ -12,15 +12,15 @@ use Rattle.img_requests.specs.declared.journal.Mark.{Mark}
 use Rattle.img_requests.specs.declared.journal.Mark.TheVariants as mark
 use Rattle.img_requests.specs.Journal.{reply_of}
 use Rattle.img_shared.specs.declared.journal.Entry.{Entry}
-use Rattle.img_shared.specs.Journals.{entries_of, noted, Noted, indices_noted, is_eio_mark, eios_in}
+use Rattle.img_shared.specs.Journals.{noted_count, noted_entry, Noted, indices_noted, is_eio_mark, eios_in}
 use Rattle.img_shared.specs.Notes.{Placement, entries_from}
 use Rattle.img_join.specs.Answers.{placed_of}
 use Rattle.img_join.specs.Ended.{replies_to}
-use Rattle.img_join.specs.Placing.{row_at, first_of, rest_of, placed_as, placed_from, HaveAll}
+use Rattle.img_join.specs.Placing.{row_at, first_buffer, rest_of, placed_as, placed_from, HaveAll}
 
 -- ---- a row with a buffer left
 
-row_split : (row : List (List ℕ)) → 0 < length row → row ≡ first_of row ∷ rest_of row
+row_split : (row : List (List ℕ)) → 0 < length row → row ≡ first_buffer row ∷ rest_of row
 row_split [] some = absurd (omega arith)
 row_split (found ∷ row) some = refl
 
@@ -41,29 +41,29 @@ module _ (rows : List (List (List ℕ))) (s : ℕ) where
 -- ---- each entry finds a buffer
 
 module _ {D : Type 0} (ids : List ℕ) where
-  entries_of-cons : (k : ℕ) (one : Entry D) (journal : List (Entry D)) → entries_of k (one ∷ journal) ≡ cond (one.stream == k) 1 0 + entries_of k journal
-  entries_of-cons k one journal = sum_by-cons (λ (entry : Entry D). cond (entry.stream == k) 1 0) one journal
+  noted_count-cons : (k : ℕ) (one : Entry D) (journal : List (Entry D)) → noted_count k (one ∷ journal) ≡ cond (one.stream == k) 1 0 + noted_count k journal
+  noted_count-cons k one journal = sum_by-cons (λ (entry : Entry D). cond (entry.stream == k) 1 0) one journal
 
   pub have_all : (journal : List (Entry D)) (rows : List (List (List ℕ))) → AllByRecursion (λ (entry : Entry D). entry.stream < length ids) journal
       → length rows ≡ length ids
-      → ((k : ℕ) → k < length ids → entries_of k journal ≤ length (row_at rows k))
+      → ((k : ℕ) → k < length ids → noted_count k journal ≤ length (row_at rows k))
       → HaveAll ids journal rows
   have_all [] rows known long each = tt
   have_all (one ∷ journal) rows known long each =
       let s = one.stream in
       let below : s < length rows = omega (arith, known.0, long) in
       let here : cond {A = ℕ} (s == s) 1 0 ≡ 1 = cond-true (s == s) 1 0 (eq-eqb s s refl) in
-      let many : entries_of s journal + 1 ≤ length (row_at rows s) = omega (arith, each s known.0, entries_of-cons s one journal, here) in (
+      let many : noted_count s journal + 1 ≤ length (row_at rows s) = omega (arith, each s known.0, noted_count-cons s one journal, here) in (
         known.0,
         below,
         omega (arith, many),
         have_all journal (taken rows s) known.1 (length-set rows s (rest_of (row_at rows s)) ∙ long) (λ k known_k. elim (cases_eq k s) [
-          | inl e ↦ subst (λ (m : ℕ). entries_of m journal ≤ length (row_at (taken rows s) m)) (sym e)
-              (subst (λ (row : List (List ℕ)). entries_of s journal ≤ length row) (sym (row_taken rows s below)) (rest_length (row_at rows s) (entries_of s journal) many))
-          | inr ne ↦ subst (λ (row : List (List ℕ)). entries_of k journal ≤ length row) (sym (row_else rows s k ne))
+          | inl e ↦ subst (λ (m : ℕ). noted_count m journal ≤ length (row_at (taken rows s) m)) (sym e)
+              (subst (λ (row : List (List ℕ)). noted_count s journal ≤ length row) (sym (row_taken rows s below)) (rest_length (row_at rows s) (noted_count s journal) many))
+          | inr ne ↦ subst (λ (row : List (List ℕ)). noted_count k journal ≤ length row) (sym (row_else rows s k ne))
               (
               let other : cond {A = ℕ} (s == k) 1 0 ≡ 0 = cond-false (s == k) 1 0 (ne_eqb s k (λ e. ne (sym e))) in
-              omega (arith, each k known_k, entries_of-cons k one journal, other)
+              omega (arith, each k known_k, noted_count-cons k one journal, other)
               )
         ]),
       )
@@ -76,7 +76,7 @@ module _ {D : Type 0} (bytes : D → Option (List ℕ)) (ids : List ℕ) (reply 
   Follows n place journal rows = (k j : ℕ) → reply k (n k + j) ≡ get_or (replies_to (entries_from place k journal) (row_at rows k)) j Einval
 
   abbrev pub Counts : (ℕ → ℕ) → List (Entry D) → Type 0
-  Counts n journal = (k : ℕ) → CountsFrom (n k) (indices_noted k (map (noted bytes) journal))
+  Counts n journal = (k : ℕ) → CountsFrom (n k) (indices_noted k (map (noted_entry bytes) journal))
 
   module _ (n : ℕ → ℕ) (place : ℕ) (one : Entry D) (journal : List (Entry D)) (rows : List (List (List ℕ))) (below : one.stream < length rows)
       (some : 0 < length (row_at rows one.stream)) (follows : Follows n place (one ∷ journal) rows) (counts : Counts n (one ∷ journal)) where
@@ -91,15 +91,15 @@ module _ {D : Type 0} (bytes : D → Option (List ℕ)) (ids : List ℕ) (reply 
     own_entries = cond-true (s == s) _ _ (eq-eqb s s refl)
 
     own_replies : replies_to (entries_from place s (one ∷ journal)) (row_at rows s)
-        ≡ reply_of one.mark (first_of (row_at rows s)) ∷ replies_to (entries_from (place + 1) s journal) (rest_of (row_at rows s))
+        ≡ reply_of one.mark (first_buffer (row_at rows s)) ∷ replies_to (entries_from (place + 1) s journal) (rest_of (row_at rows s))
     own_replies =
         ap (λ (l : List (Placement D)). replies_to l (row_at rows s)) own_entries
         ∙ ap (λ (row : List (List ℕ)). replies_to (record { place = place; entry = one } ∷ entries_from (place + 1) s journal) row) (row_split (row_at rows s) some)
 
-    own_counts : CountsFrom (n s) (one.index ∷ indices_noted s (map (noted bytes) journal))
+    own_counts : CountsFrom (n s) (one.index ∷ indices_noted s (map (noted_entry bytes) journal))
     own_counts = subst (λ (l : List Noted). CountsFrom (n s) (map (λ (entry : Noted). entry.index) l)) (cond-true (s == s) _ _ (eq-eqb s s refl)) (counts s)
 
-    reply_here : reply s one.index ≡ reply_of one.mark (first_of (row_at rows s))
+    reply_here : reply s one.index ≡ reply_of one.mark (first_buffer (row_at rows s))
     reply_here =
         let at : one.index ≡ n s + 0 = own_counts.0 ∙ (let z : n s ≡ n s + 0 = omega arith in z) in
         ap (reply s) at ∙ follows s 0 ∙ ap (λ (l : List Reply). get_or l 0 Einval) own_replies
@@ -122,26 +122,26 @@ module _ {D : Type 0} (bytes : D → Option (List ℕ)) (ids : List ℕ) (reply 
 
     counts_on : Counts after journal
     counts_on k = elim (cases_eq k s) [
-      | inl e ↦ subst (λ (m : ℕ). CountsFrom (after m) (indices_noted m (map (noted bytes) journal))) (sym e)
-          (subst (λ (i : ℕ). CountsFrom i (indices_noted s (map (noted bytes) journal))) (sym (cond-true (s == s) (n s + 1) (n s) (eq-eqb s s refl))) own_counts.1)
+      | inl e ↦ subst (λ (m : ℕ). CountsFrom (after m) (indices_noted m (map (noted_entry bytes) journal))) (sym e)
+          (subst (λ (i : ℕ). CountsFrom i (indices_noted s (map (noted_entry bytes) journal))) (sym (cond-true (s == s) (n s + 1) (n s) (eq-eqb s s refl))) own_counts.1)
       | inr ne ↦
           let away : (s == k) ≡ false = ne_eqb s k (λ e. ne (sym e)) in
-          subst (λ (i : ℕ). CountsFrom i (indices_noted k (map (noted bytes) journal))) (sym (cond-false (s == k) (n k + 1) (n k) away))
+          subst (λ (i : ℕ). CountsFrom i (indices_noted k (map (noted_entry bytes) journal))) (sym (cond-false (s == k) (n k + 1) (n k) away))
           (subst (λ (l : List Noted). CountsFrom (n k) (map (λ (entry : Noted). entry.index) l)) (cond-false (s == k) _ _ away) (counts k))
     ]
 
   pub placed_same : (n : ℕ → ℕ) (place : ℕ) (journal : List (Entry D)) (rows : List (List (List ℕ))) → HaveAll ids journal rows
       → Follows n place journal rows → Counts n journal
-      → placed_from ids journal rows ≡ map (placed_of (slice_index ids) reply) (map (noted bytes) journal)
+      → placed_from ids journal rows ≡ map (placed_of (slice_index ids) reply) (map (noted_entry bytes) journal)
   placed_same n place [] rows have follows counts = refl
   placed_same n place (one ∷ journal) rows have follows counts =
-      let here : reply one.stream one.index ≡ reply_of one.mark (first_of (row_at rows one.stream)) =
+      let here : reply one.stream one.index ≡ reply_of one.mark (first_buffer (row_at rows one.stream)) =
       reply_here n place one journal rows have.1 have.2 follows counts in
-      let rest : placed_from ids journal (taken rows one.stream) ≡ map (placed_of (slice_index ids) reply) (map (noted bytes) journal) =
+      let rest : placed_from ids journal (taken rows one.stream) ≡ map (placed_of (slice_index ids) reply) (map (noted_entry bytes) journal) =
       placed_same (after n place one journal rows have.1 have.2 follows counts) (place + 1) journal (taken rows one.stream) have.3
       (follows_on n place one journal rows have.1 have.2 follows counts) (counts_on n place one journal rows have.1 have.2 follows counts) in
-      ap (λ (l : List Placed). placed_as ids one (first_of (row_at rows one.stream)) ∷ l) rest
-      ∙ ap (λ (r : Reply). record { stream = slice_index ids one.stream; index = one.index; reply = r } ∷ map (placed_of (slice_index ids) reply) (map (noted bytes) journal)) (sym here)
+      ap (λ (l : List Placed). placed_as ids one (first_buffer (row_at rows one.stream)) ∷ l) rest
+      ∙ ap (λ (r : Reply). record { stream = slice_index ids one.stream; index = one.index; reply = r } ∷ map (placed_of (slice_index ids) reply) (map (noted_entry bytes) journal)) (sym here)
 
 -- ---- faults
 
@@ -156,7 +156,7 @@ eio_reply mark.Einval found = refl
 pub eios_placed : {D : Type 0} → (ids : List ℕ) (journal : List (Entry D)) (rows : List (List (List ℕ))) → eios_of (placed_from ids journal rows) ≡ eios_in journal
 eios_placed ids [] rows = refl
 eios_placed {D} ids (one ∷ journal) rows =
-    let found = first_of (row_at rows one.stream) in
+    let found = first_buffer (row_at rows one.stream) in
     let rest : eios_of (placed_from ids journal (taken rows one.stream)) ≡ eios_in journal = eios_placed ids journal (taken rows one.stream) in
     let first : cond {A = ℕ} (is_eio (reply_of one.mark found)) 1 0 ≡ cond (is_eio_mark one.mark) 1 0 = ap (λ (b : Bool). cond b 1 0) (eio_reply one.mark found) in
     omega (

@@ -15,7 +15,7 @@ use Rattle.aio_words.specs.Faults.{HasRisenBy}
 use Rattle.img_requests.specs.Journal.{reply_of}
 use Rattle.img_requests.specs.Progress.{Replied}
 use Rattle.img_shared.specs.Calls.{IsWholeRun}
-use Rattle.img_shared.specs.Journals.{entries_of, noted, Noted, of_stream, eios_in}
+use Rattle.img_shared.specs.Journals.{noted_count, noted_entry, Noted, of_stream, eios_in}
 use Rattle.img_join.specs.Answers.{IsAnswered, placed_of}
 use Rattle.img_join.specs.Ended.{HaveOwnIds, AreOurs, HasRetired, IsChargedFor, IsServedWhole, replies_to}
 use Rattle.img_join.specs.Placing.{row_at, placed_from, HaveAll}
@@ -33,14 +33,14 @@ use Rattle.img_join.specs.Accounts.{IsAnsweredBy, AllAnswered}
 
 module _ {D : Type 0} (bytes : D → Option (List ℕ)) where
   abbrev noted_at : Placement D → Noted
-  noted_at placed = noted bytes placed.entry
+  noted_at placed = noted_entry bytes placed.entry
 
-  stream_from : (place k : ℕ) (journal : List (Entry D)) → of_stream k (map (noted bytes) journal) ≡ map noted_at (entries_from place k journal)
+  stream_from : (place k : ℕ) (journal : List (Entry D)) → of_stream k (map (noted_entry bytes) journal) ≡ map noted_at (entries_from place k journal)
   stream_from place k [] = refl
   stream_from place k (one ∷ journal) =
-      let ih : of_stream k (map (noted bytes) journal) ≡ map noted_at (entries_from (place + 1) k journal) = stream_from (place + 1) k journal in
+      let ih : of_stream k (map (noted_entry bytes) journal) ≡ map noted_at (entries_from (place + 1) k journal) = stream_from (place + 1) k journal in
       elim (cases_Bool (one.stream == k)) [
-        | inl h ↦ cond-true _ _ _ h ∙ ap (λ (l : List Noted). noted bytes one ∷ l) ih ∙ sym (ap (λ (l : List (Placement D)). map noted_at l) (cond-true (one.stream == k) (record { place = place; entry = one } ∷ entries_from (place + 1) k journal) (entries_from (place + 1) k journal) h))
+        | inl h ↦ cond-true _ _ _ h ∙ ap (λ (l : List Noted). noted_entry bytes one ∷ l) ih ∙ sym (ap (λ (l : List (Placement D)). map noted_at l) (cond-true (one.stream == k) (record { place = place; entry = one } ∷ entries_from (place + 1) k journal) (entries_from (place + 1) k journal) h))
         | inr h ↦ cond-false _ _ _ h ∙ ih ∙ sym (ap (λ (l : List (Placement D)). map noted_at l) (cond-false (one.stream == k) (record { place = place; entry = one } ∷ entries_from (place + 1) k journal) (entries_from (place + 1) k journal) h))
       ]
 
@@ -74,7 +74,7 @@ retired_silent : (phase : Phase) → phase ≡ Retired → Writing phase → ⊥
 retired_silent phase e writes = subst Writing e writes
 
 known_noted : {D : Type 0} → (bytes : D → Option (List ℕ)) (id : ℕ → ℕ) (reply : ℕ → ℕ → Reply) (n m : ℕ) (journal : List (Entry D)) → m ≡ n
-    → AllByRecursion (λ (entry : Entry D). entry.stream < m) journal → joining.AreKnown id reply n (map (noted bytes) journal)
+    → AllByRecursion (λ (entry : Entry D). entry.stream < m) journal → joining.AreKnown id reply n (map (noted_entry bytes) journal)
 known_noted bytes id reply n m [] same known = tt
 known_noted bytes id reply n m (one ∷ journal) same known = (omega (arith, known.0, same), known_noted bytes id reply n m journal same known.1)
 
@@ -85,13 +85,13 @@ module _ {D : Type 0} (bytes : D → Option (List ℕ)) (extent faults size_faul
   reply k j = get_or (replies_to (entries_from 0 k image.journal) (row_at rows k)) j Einval
 
   abbrev pub served : List Placed
-  served = map (placed_of (slice_index ids) reply) (map (noted bytes) image.journal)
+  served = map (placed_of (slice_index ids) reply) (map (noted_entry bytes) image.journal)
 
   module _ (many : length image.requests ≡ length ids) (whole : IsWholeRun bytes extent faults size_faults calls image) where
     all_in : (k : ℕ) → HasRetired bytes lines ids image k (row_at rows k) → length (entries_from 0 k image.journal) ≡ requests_of (slice_index ids k) lines
     all_in k retired =
-        let due : entries_of k image.journal ≡ slice_index image.requests k =
-        subst (λ (p : Phase). IsDue p (entries_of k image.journal) (slice_index image.requests k)) retired.retired (whole.due k) in
+        let due : noted_count k image.journal ≡ slice_index image.requests k =
+        subst (λ (p : Phase). IsDue p (noted_count k image.journal) (slice_index image.requests k)) retired.retired (whole.due k) in
         length_from 0 k image.journal ∙ due ∙ retired.account.many
 
     pub finished : HaveOwnIds ids → AreOurs ids lines
@@ -103,7 +103,7 @@ module _ {D : Type 0} (bytes : D → Option (List ℕ)) (extent faults size_faul
           | inl h ↦ retired_silent (phase_at image.phases k) (retired k h).retired
           | inr h ↦ idle_silent (phase_at image.phases k) (past_end image.phases k (omega (arith, h, many, whole.streams)))
         ]) in
-        let ended : joining.HasEnded (slice_index ids) reply (length ids) lines image.size (bytes image.opening) (bytes image.left) (map (noted bytes) image.journal) = record {
+        let ended : joining.HasEnded (slice_index ids) reply (length ids) lines image.size (bytes image.opening) (bytes image.left) (map (noted_entry bytes) image.journal) = record {
           apart = apart;
           ours = ours;
           known = known_noted bytes (slice_index ids) reply (length ids) (length image.requests) image.journal many whole.known;
@@ -116,7 +116,7 @@ module _ {D : Type 0} (bytes : D → Option (List ℕ)) (extent faults size_faul
               (subst (λ (l : List Noted). CountsFrom 0 (map (λ (entry : Noted). entry.index) l)) (stream_from bytes 0 k image.journal) (whole.ordered k))
               (retired k below).account.answered);
         } in
-        let both = joining.joined (slice_index ids) reply (length ids) lines image.size (bytes image.opening) (bytes image.left) (map (noted bytes) image.journal) ended in
+        let both = joining.joined (slice_index ids) reply (length ids) lines image.size (bytes image.opening) (bytes image.left) (map (noted_entry bytes) image.journal) ended in
         (both.0, clean ∙ both.1)
 
 less_risen : (n m before now : ℕ) → HasRisenBy (n + m) before now → HasRisenBy n before now

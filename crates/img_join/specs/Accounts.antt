@@ -4,7 +4,7 @@ use Rattle.aio_model.specs.declared.serving.requests.Request.{Request}
 use Rattle.aio_model.specs.Serving.Asked.{Asked, request_named}
 use Rattle.img_requests.specs.declared.present.Stage.{Stage}
 use Rattle.img_requests.specs.declared.present.Stage.TheVariants.{Begun, Whole, Failed}
-use Rattle.img_requests.specs.Journal.{mark_at, reply_of}
+use Rattle.img_requests.specs.Journal.{mark_ended_at, reply_of}
 use Rattle.img_requests.specs.Pieces.{HasRoom}
 use Rattle.img_requests.specs.Presents.{present_of, begun_of, kind_of}
 use Rattle.img_requests.specs.Progress.{Progress, Replied}
@@ -34,9 +34,9 @@ abbrev pub Going : ℕ → Stage → Request → ℕ → List ℕ → Option Byt
 Going size stage request done buffer None = ⊥
 Going size Begun request done buffer (Some bytes) = Progress size request bytes.left bytes.now buffer done
 Going size Whole request done buffer (Some bytes) =
-    Replied size request bytes.left bytes.now (reply_of (mark_at Whole (kind_of request) (length_of request) done) buffer)
+    Replied size request bytes.left bytes.now (reply_of (mark_ended_at Whole (kind_of request) (length_of request) done) buffer)
 Going size Failed request done buffer (Some bytes) =
-    Replied size request bytes.left bytes.now (reply_of (mark_at Failed (kind_of request) (length_of request) done) buffer)
+    Replied size request bytes.left bytes.now (reply_of (mark_ended_at Failed (kind_of request) (length_of request) done) buffer)
 
 -- what a stream's phase says of its request in progress
 abbrev pub Doing : ℕ → ℕ → Request → List ℕ → Phase → Option Bytes → Type 0

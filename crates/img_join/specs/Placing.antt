@@ -8,9 +8,9 @@ use Rattle.img_shared.specs.declared.journal.Entry.{Entry}
 abbrev pub row_at : List (List (List ℕ)) → ℕ → List (List ℕ)
 row_at rows stream = get_or rows stream []
 
-abbrev pub first_of : List (List ℕ) → List ℕ
-first_of [] = []
-first_of (buffer ∷ row) = buffer
+abbrev pub first_buffer : List (List ℕ) → List ℕ
+first_buffer [] = []
+first_buffer (buffer ∷ row) = buffer
 
 abbrev pub rest_of : List (List ℕ) → List (List ℕ)
 rest_of [] = []
@@ -24,7 +24,7 @@ placed_as ids entry found = record { stream = slice_index ids entry.stream; inde
 abbrev pub placed_from : {D : Type 0} → List ℕ → List (Entry D) → List (List (List ℕ)) → List Placed
 placed_from ids [] rows = []
 placed_from ids (entry ∷ entries) rows =
-    placed_as ids entry (first_of (row_at rows entry.stream)) ∷ placed_from ids entries (set rows entry.stream (rest_of (row_at rows entry.stream)))
+    placed_as ids entry (first_buffer (row_at rows entry.stream)) ∷ placed_from ids entries (set rows entry.stream (rest_of (row_at rows entry.stream)))
 
 -- each entry is of one of the streams and finds a buffer
 abbrev pub HaveAll : {D : Type 0} → List ℕ → List (Entry D) → List (List (List ℕ)) → Type 0

@@ -1,5 +1,5 @@
 ghost use Rattle.std.specs.Prelude.{◌≡◌, ◌<◌, ℕ, List, length, map, set};
-ghost use Rattle.img_join.specs.Placing.{first_of, rest_of, row_at};
+ghost use Rattle.img_join.specs.Placing.{first_buffer, rest_of, row_at};
 
 use std::collections::VecDeque;
 use std::marker::Model;
@@ -30,7 +30,7 @@ impl Buffers {
     pub fn next(&mut self, stream: u32) -> Vec<u8>
         requires known { stream < length self.old }
         requires some { 0 < length (row_at self.old stream) }
-        ensures found { result.items ≡ first_of (row_at self.old stream) }
+        ensures found { result.items ≡ first_buffer (row_at self.old stream) }
         ensures rest { self.new ≡ set self.old stream (rest_of (row_at self.old stream)) }
     {
         let Some(buffer) = self.rows[stream as usize].pop_front() else {

@@ -3,7 +3,7 @@ ghost use Rattle.aio_model.specs.declared.scripts.image_scripts.Step.{Step};
 ghost use Rattle.img_join.specs.Ended.{HaveOwnIds, AreOurs, HasRetired, IsChargedFor, IsServedWhole};
 ghost use Rattle.img_join.specs.Placing.{placed_from, row_at};
 ghost use Rattle.img_shared.specs.declared.phases.Phase.TheVariants.{Retired};
-ghost use Rattle.img_shared.specs.Journals.{entries_of};
+ghost use Rattle.img_shared.specs.Journals.{noted_count};
 ghost use Rattle.img_shared.specs.Phases.{phase_at};
 
 use crate::buffers::Buffers;
@@ -23,7 +23,7 @@ pub fn finish<D: Device>(
 ) -> D
     requires streams { length image.requests ≡ length ids.now }
     requires rows { length buffers ≡ length ids.now }
-    requires buffered { (k : ℕ) → k < length ids.now → entries_of k image.journal ≤ length (row_at buffers k) }
+    requires buffered { (k : ℕ) → k < length ids.now → noted_count k image.journal ≤ length (row_at buffers k) }
     requires none { served.old.items ≡ [] }
     requires room { length image.journal ≤ vec_capacity served.old }
     ensures device { result ≡ image.device }

@@ -6,18 +6,18 @@ use Rattle.std.proofs.lemmas.List.{length-set, length_push}
 use Rattle.std.proofs.lemmas.List.Sums.{sum_by-cons, sum_by-set, sum_by_push}
 use Rattle.img_requests.specs.declared.journal.Entry.{Entry}
 use Rattle.img_requests.specs.declared.journal.Mark.{Mark}
-use Rattle.img_requests.specs.Journal.{entries_of, entry_next}
+use Rattle.img_requests.specs.Journal.{entry_count, entry_next}
 use Rattle.img_requests.specs.Soundness.{IsCounted}
 
 -- one entry more of the stream
-pub entries_of-next : (journal : List Entry) (stream : ℕ) (mark : Mark)
-    → entries_of stream (journal ++ entry_next stream journal mark ∷ []) ≡ entries_of stream journal + 1
-entries_of-next journal stream mark = search (rules, common_steps)
+pub entry_count-next : (journal : List Entry) (stream : ℕ) (mark : Mark)
+    → entry_count stream (journal ++ entry_next stream journal mark ∷ []) ≡ entry_count stream journal + 1
+entry_count-next journal stream mark = search (rules, common_steps)
 
 -- and none more of another
-pub entries_of-other : (journal : List Entry) (stream other : ℕ) (mark : Mark) → stream ≢ other
-    → entries_of other (journal ++ entry_next stream journal mark ∷ []) ≡ entries_of other journal
-entries_of-other journal stream other mark ne =
+pub entry_count-other : (journal : List Entry) (stream other : ℕ) (mark : Mark) → stream ≢ other
+    → entry_count other (journal ++ entry_next stream journal mark ∷ []) ≡ entry_count other journal
+entry_count-other journal stream other mark ne =
     let differ : (stream == other) ≡ false = ne_eqb stream other ne in
     sum_by_push (λ entry. cond (entry.stream == other) 1 0) journal (entry_next stream journal mark)
     ∙ rw differ (omega arith)
@@ -47,12 +47,12 @@ one_more replied stream = set replied stream (slice_index replied stream + 1)
 
 module _ {requests replied : List ℕ} {capacity : ℕ} {entries : List Entry}
     (counted : IsCounted requests replied capacity entries)
-    (stream : ℕ) (known : stream < length requests) (due : entries_of stream entries < slice_index requests stream) where
+    (stream : ℕ) (known : stream < length requests) (due : entry_count stream entries < slice_index requests stream) where
   found : stream < length replied
   found = omega (arith, counted.streams, known)
 
   -- the count of the stream is the next entry's index
-  pub IsCounted-index : slice_index replied stream ≡ entries_of stream entries
+  pub IsCounted-index : slice_index replied stream ≡ entry_count stream entries
   IsCounted-index = counted.counts stream found
 
   written : slice_index (one_more replied stream) stream ≡ slice_index replied stream + 1
@@ -82,13 +82,13 @@ module _ {requests replied : List ℕ} {capacity : ℕ} {entries : List Entry}
     few = counted.few;
     room = counted.room;
     streams = long;
-    counts = EachIndex-set (λ i. slice_index (one_more replied stream) i ≡ entries_of i (entries ++ entry_next stream entries mark ∷ []))
+    counts = EachIndex-set (λ i. slice_index (one_more replied stream) i ≡ entry_count i (entries ++ entry_next stream entries mark ∷ []))
         replied stream (slice_index replied stream + 1)
-        (omega (arith, written, IsCounted-index, entries_of-next entries stream mark))
+        (omega (arith, written, IsCounted-index, entry_count-next entries stream mark))
         (λ i below ne.
         get_or-set_other replied stream i (slice_index replied stream + 1) 0 ne
         ∙ counted.counts i below
-        ∙ sym (entries_of-other entries stream i mark (λ e. ne (sym e))));
+        ∙ sym (entry_count-other entries stream i mark (λ e. ne (sym e))));
     within = within_more;
     whole = omega (arith, length_push entries (entry_next stream entries mark), sum_more, counted.whole);
   }

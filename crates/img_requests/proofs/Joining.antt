@@ -8,7 +8,7 @@ use Rattle.aio_model.specs.declared.serving.replies.Reply.TheVariants as reply
 use Rattle.aio_model.specs.Serving.{put_at, length_of, end_of, FindsBytes, bytes_after}
 use Rattle.img_requests.specs.declared.answers.Piece.{Piece}
 use Rattle.img_requests.specs.declared.answers.Piece.TheVariants.{More, Whole, Failed}
-use Rattle.img_requests.specs.Journal.{good_mark, mark_of, reply_of}
+use Rattle.img_requests.specs.Journal.{good_mark, mark_of_present, reply_of}
 use Rattle.img_requests.specs.Presents.{kind_of, present_of}
 use Rattle.img_requests.specs.Pieces.{Pieced, HasRoom, bytes_with, buffer_with, piece_at, done_after, stage_after}
 use Rattle.img_requests.specs.Progress.{Progress, Replied, bytes_so_far, FoundSoFar, good_reply}
@@ -202,7 +202,7 @@ pub Replied-last : (stream : ℕ) {size : ℕ} {request : Request} {told now nex
     → Progress size request told now before done → Pieced request done n answer now next before after
     → (answer ≡ Whole) ⊎ (answer ≡ Failed)
     → Replied size request told next
-    (reply_of (mark_of (Some (present_of stream request (done_after answer done n) (stage_after answer)))) after)
+    (reply_of (mark_of_present (Some (present_of stream request (done_after answer done n) (stage_after answer)))) after)
 Replied-last stream More so_far piece last = elim last [ inl whole ↦ cc | inr failed ↦ cc ]
 Replied-last stream {size} {request} {told} {now} {next} {before} {after} {done} {n} Whole so_far piece last =
     let whole : done + n ≡ length_of request = piece.answered in

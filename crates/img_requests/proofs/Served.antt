@@ -7,7 +7,7 @@ use Rattle.img_requests.specs.declared.answers.Piece.TheVariants.{More, Whole, F
 use Rattle.img_requests.specs.declared.present.Present.{Present}
 use Rattle.img_requests.specs.declared.present.Stage.TheVariants.{Begun}
 use Rattle.img_requests.specs.ImageState.{ImageState, IsEnded, CanLeave, Serves}
-use Rattle.img_requests.specs.Journal.{mark_of, reply_of}
+use Rattle.img_requests.specs.Journal.{mark_of_present, reply_of}
 use Rattle.img_requests.specs.Pieces.{HasRoom, stage_after}
 use Rattle.img_requests.specs.Presents.{present_of, done_of}
 use Rattle.img_requests.specs.Progress.{Progress, Replied, UnderWay, IsServedThrough}
@@ -72,6 +72,6 @@ IsServedThrough-last {D} {bytes} {stream} {request} {old} {now} {new} {before} {
     record {
       ended = subst (CanLeave stream) (sym next) (refl, IsEnded-last answer last);
       kept = kept_further old now new _ under.kept piece.image;
-      replied = subst (λ present. Replied old.size request (bytes old.device) (bytes new.device) (reply_of (mark_of present) after)) (sym next)
+      replied = subst (λ present. Replied old.size request (bytes old.device) (bytes new.device) (reply_of (mark_of_present present) after)) (sym next)
           (Replied-last stream answer under.progress piece.pieced last);
     }

@@ -12,12 +12,12 @@ use Rattle.img_requests.specs.declared.present.Stage.TheVariants.{Begun, Whole, 
 use Rattle.img_requests.specs.declared.present.Present.{Present}
 
 -- how many entries are of the stream
-abbrev pub entries_of : ℕ → List Entry → ℕ
-entries_of stream journal = count_by (λ entry. entry.stream == stream) journal
+abbrev pub entry_count : ℕ → List Entry → ℕ
+entry_count stream journal = count_by (λ entry. entry.stream == stream) journal
 
 -- the stream's next entry
 abbrev pub entry_next : ℕ → List Entry → Mark → Entry
-entry_next stream journal mark = record { stream = stream; index = entries_of stream journal; mark = mark }
+entry_next stream journal mark = record { stream = stream; index = entry_count stream journal; mark = mark }
 
 -- the mark of a request that was served whole
 abbrev pub good_mark : RequestKind → ℕ → Mark
@@ -27,15 +27,15 @@ good_mark Zero length = Zeroed length
 good_mark Flush length = Flushed
 
 -- the mark of a request that ended at this stage, with so many bytes done
-abbrev pub mark_at : Stage → RequestKind → ℕ → ℕ → Mark
-mark_at Failed kind length done = Eio done
-mark_at Whole kind length done = good_mark kind length
-mark_at Begun kind length done = Eio done
+abbrev pub mark_ended_at : Stage → RequestKind → ℕ → ℕ → Mark
+mark_ended_at Failed kind length done = Eio done
+mark_ended_at Whole kind length done = good_mark kind length
+mark_ended_at Begun kind length done = Eio done
 
 -- the mark of the present request, which has ended
-abbrev pub mark_of : Option Present → Mark
-mark_of None = Einval
-mark_of (Some present) = mark_at present.stage present.kind present.length present.done
+abbrev pub mark_of_present : Option Present → Mark
+mark_of_present None = Einval
+mark_of_present (Some present) = mark_ended_at present.stage present.kind present.length present.done
 
 -- the reply of a mark, where a read found these bytes
 abbrev pub reply_of : Mark → List ℕ → Reply

@@ -6,7 +6,7 @@ use Rattle.aio_model.specs.declared.serving.replies.Reply.{Reply}
 use Rattle.aio_model.specs.declared.serving.replies.Reply.TheVariants.{Put, Got, Zeroed, Flushed}
 use Rattle.aio_model.specs.Serving.{put_at, length_of, end_of, Fits, bytes_after}
 use Rattle.img_requests.specs.ImageState.{ImageState, CanLeave}
-use Rattle.img_requests.specs.Journal.{mark_of, reply_of}
+use Rattle.img_requests.specs.Journal.{mark_of_present, reply_of}
 use Rattle.img_requests.specs.Pieces.{HasRoom}
 use Rattle.img_requests.specs.Presents.{IsBegun, done_of}
 
@@ -63,4 +63,4 @@ pub record IsServedThrough {D : Type 0} (bytes : D → Option (List ℕ)) (strea
     : Type 0 where
   pub ended : CanLeave stream now.present
   pub kept : now ≡ record old { device = now.device; present = now.present }
-  pub replied : Replied old.size request (bytes old.device) (bytes now.device) (reply_of (mark_of now.present) buffer)
+  pub replied : Replied old.size request (bytes old.device) (bytes now.device) (reply_of (mark_of_present now.present) buffer)

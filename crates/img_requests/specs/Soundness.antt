@@ -4,7 +4,7 @@ use Rattle.img_requests.specs.declared.journal.Entry.{Entry}
 use Rattle.img_requests.specs.declared.present.Present.{Present}
 use Rattle.img_requests.specs.declared.present.Stage.{Stage}
 use Rattle.img_requests.specs.declared.present.Stage.TheVariants.{Begun, Whole, Failed}
-use Rattle.img_requests.specs.Journal.{entries_of}
+use Rattle.img_requests.specs.Journal.{entry_count}
 
 -- the journal, and how many requests each stream has
 pub record LedgerState : Type 0 where
@@ -16,7 +16,7 @@ pub record IsCounted (requests replied : List ℕ) (capacity : ℕ) (entries : L
   pub few : sum requests ≤ 4096
   pub room : sum requests ≤ capacity
   pub streams : length replied ≡ length requests
-  pub counts : EachIndex replied (λ stream. slice_index replied stream ≡ entries_of stream entries)
+  pub counts : EachIndex replied (λ stream. slice_index replied stream ≡ entry_count stream entries)
   -- no stream has more entries than requests
   pub within : EachIndex replied (λ stream. slice_index replied stream ≤ slice_index requests stream)
   -- each entry is of one of the streams
@@ -31,7 +31,7 @@ IsInStep Failed done = Unit {0}
 -- the present request lies inside the image, and the journal has no entry of it yet
 pub record IsInside (size : ℕ) (ledger : LedgerState) (present : Present) : Type 0 where
   pub known : present.stream < length ledger.requests
-  pub due : entries_of present.stream ledger.entries < slice_index ledger.requests present.stream
+  pub due : entry_count present.stream ledger.entries < slice_index ledger.requests present.stream
   pub within : present.at + present.length ≤ size
   pub done : present.done ≤ present.length
   pub in_step : IsInStep present.stage present.done

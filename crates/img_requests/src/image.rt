@@ -33,7 +33,7 @@ impl<D: Device> Image<D> {
     ghost use Rattle.std.specs.Prelude.{None, Some};
     ghost use Rattle.aio_words.specs.Faults.{HasRisen};
     ghost use Rattle.img_requests.specs.ImageState.{Enters, CanLeave, OnBegun, Serves};
-    ghost use Rattle.img_requests.specs.Journal.{entries_of, entry_next, mark_of};
+    ghost use Rattle.img_requests.specs.Journal.{entry_count, entry_next, mark_of_present};
     ghost use Rattle.img_requests.specs.PieceCalls.{MakesDeviceCall, is_failed};
     ghost use Rattle.img_requests.specs.Pieces.{OnFailed, HasRoom, IsSilent, piece_length};
     ghost use Rattle.img_requests.specs.Presents.{done_of, IsBegun};
@@ -66,7 +66,7 @@ impl<D: Device> Image<D> {
     pub fn enter(&mut self, stream: u32, request: &Request) -> Enter
         requires known { stream < length self.old.requests }
         requires free { self.old.present ≡ None }
-        requires due { entries_of stream self.old.journal < slice_index self.old.requests stream }
+        requires due { entry_count stream self.old.journal < slice_index self.old.requests stream }
         requires small { length_of request.now < 2 ^ 32 }
         ensures entered { Enters self.old stream request.now result self.new }
 
@@ -111,7 +111,7 @@ impl<D: Device> Image<D> {
         requires { CanLeave stream self.old.present }
         ensures left { result ≡ record { place = length self.old.journal; woken = None } }
         ensures image { self.new ≡ record self.old {
-          journal = self.old.journal ++ entry_next stream self.old.journal (mark_of self.old.present) ∷ [];
+          journal = self.old.journal ++ entry_next stream self.old.journal (mark_of_present self.old.present) ∷ [];
           present = None;
         } }
     {

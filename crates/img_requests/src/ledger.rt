@@ -24,7 +24,7 @@ impl Model for Ledger {
 }
 
 impl Ledger {
-    ghost use Rattle.img_requests.specs.Journal.{entries_of, entry_next};
+    ghost use Rattle.img_requests.specs.Journal.{entry_count, entry_next};
 
     /// A journal without entries, for so many requests of each stream.
     pub(crate) fn build(alloc: Global, requests: &[u32]) -> Result<Ledger, AllocError>
@@ -42,7 +42,7 @@ impl Ledger {
     /// Puts the next entry of the stream to the journal's end, and answers its place there.
     pub(crate) fn note(&mut self, stream: u32, mark: Mark) -> u32
         requires known { stream < length self.old.requests }
-        requires due { entries_of stream self.old.entries < slice_index self.old.requests stream }
+        requires due { entry_count stream self.old.entries < slice_index self.old.requests stream }
         ensures place { result ≡ length self.old.entries }
         ensures entries { self.new
             ≡ record self.old { entries = self.old.entries ++ entry_next stream self.old.entries mark ∷ [] } }

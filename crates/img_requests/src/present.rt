@@ -37,7 +37,7 @@ pub struct Present {
 }
 
 impl Present {
-    ghost use Rattle.img_requests.specs.Journal.{mark_at};
+    ghost use Rattle.img_requests.specs.Journal.{mark_ended_at};
     ghost use Rattle.img_requests.specs.Pieces.{answer_to, done_after, stage_after};
     ghost use Rattle.img_requests.specs.Presents.{present_of};
 
@@ -97,7 +97,7 @@ impl Present {
 
     /// What stands in the journal of it, once it has ended.
     pub fn mark(&self) -> Mark
-        ensures { result ≡ mark_at self.now.stage self.now.kind self.now.length self.now.done }
+        ensures { result ≡ mark_ended_at self.now.stage self.now.kind self.now.length self.now.done }
     {
         match (self.stage, self.kind) {
             (Stage::Whole, RequestKind::Read) => Mark::Got(self.length),

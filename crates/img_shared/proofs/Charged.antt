@@ -15,14 +15,14 @@ use Rattle.img_requests.specs.declared.present.RequestKind.TheVariants.{Read, Wr
 use Rattle.img_requests.specs.declared.present.Stage.{Stage}
 use Rattle.img_requests.specs.declared.present.Stage.TheVariants.{Begun, Whole, Failed}
 use Rattle.img_requests.specs.ImageState.{IsEnded}
-use Rattle.img_requests.specs.Journal.{mark_at}
+use Rattle.img_requests.specs.Journal.{mark_ended_at}
 use Rattle.img_requests.specs.Pieces.{OnFailed, answer_to, stage_after}
 use Rattle.img_shared.specs.declared.journal.Entry.{Entry}
 use Rattle.img_shared.specs.declared.phases.Phase.{Phase}
 use Rattle.img_shared.specs.declared.phases.Phase.TheVariants.{Idle, Active}
 use Rattle.img_shared.specs.Images.{ImageState}
 use Rattle.img_shared.specs.Journals.{entry_next, is_eio_mark, eios_in}
-use Rattle.img_shared.specs.Phases.{phase_at, is_failed, has_failed}
+use Rattle.img_shared.specs.Phases.{phase_at, is_failed_stage, has_failed}
 use Rattle.img_shared.specs.Soundness.{IsCharged}
 
 abbrev one_if : Bool → ℕ
@@ -38,13 +38,13 @@ eios_push : {D : Type 0} → (journal : List (Entry D)) (s : ℕ) (mark : Mark) 
     → eios_in (journal ++ entry_next s journal mark b a ∷ []) ≡ eios_in journal + one_if (is_eio_mark mark)
 eios_push {D} journal s mark b a = sum_by_push (λ (entry : Entry D). cond (is_eio_mark entry.mark) 1 0) journal (entry_next s journal mark b a)
 
-good_mark_no_eio : (kind : RequestKind) (length done : ℕ) → is_eio_mark (mark_at Whole kind length done) ≡ false
+good_mark_no_eio : (kind : RequestKind) (length done : ℕ) → is_eio_mark (mark_ended_at Whole kind length done) ≡ false
 good_mark_no_eio Read length done = refl
 good_mark_no_eio Write length done = refl
 good_mark_no_eio Zero length done = refl
 good_mark_no_eio Flush length done = refl
 
-marked_at : (ended : Stage) (kind : RequestKind) (length done : ℕ) → IsEnded ended → is_eio_mark (mark_at ended kind length done) ≡ is_failed ended
+marked_at : (ended : Stage) (kind : RequestKind) (length done : ℕ) → IsEnded ended → is_eio_mark (mark_ended_at ended kind length done) ≡ is_failed_stage ended
 marked_at Begun kind length done over = absurd over
 marked_at Whole kind length done over = good_mark_no_eio kind length done
 marked_at Failed kind length done over = refl
@@ -62,17 +62,17 @@ cause_of (Ok u) served done length P answer is what cause =
 
 -- its call failed where the piece did
 pub failed_as : {E : Type 0} → (result : Result (Unit {0}) E) (served : Bool) (done length : ℕ) (answer : Piece)
-    → served ≡ is_ok result → answer ≡ answer_to served done length → one_if (is_err result) ≡ one_if (is_failed (stage_after answer))
+    → served ≡ is_ok result → answer ≡ answer_to served done length → one_if (is_err result) ≡ one_if (is_failed_stage (stage_after answer))
 failed_as (Err e) served done length answer is what =
-    sym (ap (λ (a : Piece). one_if (is_failed (stage_after a))) (what ∙ ap (λ (b : Bool). answer_to b done length) is))
+    sym (ap (λ (a : Piece). one_if (is_failed_stage (stage_after a))) (what ∙ ap (λ (b : Bool). answer_to b done length) is))
 failed_as (Ok u) served done length answer is what =
-    sym (ap (λ (a : Piece). one_if (is_failed (stage_after a))) (what ∙ ap (λ (b : Bool). answer_to b done length) is) ∙ whole_or_more (done == length)) where
-      whole_or_more : (b : Bool) → one_if (is_failed (stage_after (cond b piece.Whole piece.More))) ≡ 0
+    sym (ap (λ (a : Piece). one_if (is_failed_stage (stage_after a))) (what ∙ ap (λ (b : Bool). answer_to b done length) is) ∙ whole_or_more (done == length)) where
+      whole_or_more : (b : Bool) → one_if (is_failed_stage (stage_after (cond b piece.Whole piece.More))) ≡ 0
       whole_or_more true = refl
       whole_or_more false = refl
 
 risen_piece : (answer : Piece) (n first before now : ℕ) → HasRisenBy n first before → before ≤ now → OnFailed answer (HasRisen before now)
-    → HasRisenBy (n + one_if (is_failed (stage_after answer))) first now
+    → HasRisenBy (n + one_if (is_failed_stage (stage_after answer))) first now
 risen_piece piece.More n first before now so_far later risen = omega (arith, so_far, later)
 risen_piece piece.Whole n first before now so_far later risen = omega (arith, so_far, later)
 risen_piece piece.Failed n first before now so_far later risen = omega (arith, so_far, later, risen)
@@ -125,7 +125,7 @@ module _ {D : Type 0} (extent faults size_faults : D → ℕ) (calls : D → Lis
       → extent device ≡ extent old.device → size_faults device ≡ size_faults old.device
       → faults old.device ≤ faults device → OnFailed answer (HasRisen (faults old.device) (faults device))
       → sizes_asked (calls device) ≡ sizes_asked (calls old.device)
-      → failures_in (calls device) ≡ failures_in (calls old.device) + one_if (is_failed (stage_after answer))
+      → failures_in (calls device) ≡ failures_in (calls old.device) + one_if (is_failed_stage (stage_after answer))
       → IsCharged extent faults size_faults calls (record old { device = device; phases = set old.phases s (Active next) })
   charged_piece present next answer device active begun stage long sizes later risen asked failed = record {
     fits = omega (arith, charged.fits, long);
@@ -133,16 +133,16 @@ module _ {D : Type 0} (extent faults size_faults : D → ℕ) (calls : D → Lis
     sizes = sizes ∙ charged.sizes;
     counted =
         let step = failed_set old.phases s (Active next) below in
-        let before : one_if (has_failed (phase_at old.phases s)) ≡ 0 = ap (λ (p : Phase). one_if (has_failed p)) active ∙ ap (λ (g : Stage). one_if (is_failed g)) begun in
-        let after : one_if (has_failed (Active next)) ≡ one_if (is_failed (stage_after answer)) = ap (λ (g : Stage). one_if (is_failed g)) stage in
+        let before : one_if (has_failed (phase_at old.phases s)) ≡ 0 = ap (λ (p : Phase). one_if (has_failed p)) active ∙ ap (λ (g : Stage). one_if (is_failed_stage g)) begun in
+        let after : one_if (has_failed (Active next)) ≡ one_if (is_failed_stage (stage_after answer)) = ap (λ (g : Stage). one_if (is_failed_stage g)) stage in
         subst (λ (n : ℕ). HasRisenBy n (faults old.opening) (faults device)) (omega (arith, step, before, after))
         (risen_piece answer (eios_in old.journal + count_by has_failed old.phases) (faults old.opening) (faults old.device) (faults device) charged.counted later risen);
     later = omega (arith, charged.later, later);
     asked = asked ∙ charged.asked;
     failures =
         let step = failed_set old.phases s (Active next) below in
-        let before : one_if (has_failed (phase_at old.phases s)) ≡ 0 = ap (λ (p : Phase). one_if (has_failed p)) active ∙ ap (λ (g : Stage). one_if (is_failed g)) begun in
-        let after : one_if (has_failed (Active next)) ≡ one_if (is_failed (stage_after answer)) = ap (λ (g : Stage). one_if (is_failed g)) stage in
+        let before : one_if (has_failed (phase_at old.phases s)) ≡ 0 = ap (λ (p : Phase). one_if (has_failed p)) active ∙ ap (λ (g : Stage). one_if (is_failed_stage g)) begun in
+        let after : one_if (has_failed (Active next)) ≡ one_if (is_failed_stage (stage_after answer)) = ap (λ (g : Stage). one_if (is_failed_stage g)) stage in
         omega (arith, charged.failures, failed, step, before, after);
   }
 
@@ -150,7 +150,7 @@ module _ {D : Type 0} (extent faults size_faults : D → ℕ) (calls : D → Lis
   pub charged_left : (present : Present) (b a : Snapshot (Snapshot D)) (left : D) (access : ReadersWriter) → phase_at old.phases s ≡ Active present → IsEnded present.stage
       → IsCharged extent faults size_faults calls (record old {
         left = left;
-        journal = old.journal ++ entry_next s old.journal (mark_at present.stage present.kind present.length present.done) b a ∷ [];
+        journal = old.journal ++ entry_next s old.journal (mark_ended_at present.stage present.kind present.length present.done) b a ∷ [];
         phases = set old.phases s Idle;
         access = access;
       })
@@ -159,19 +159,19 @@ module _ {D : Type 0} (extent faults size_faults : D → ℕ) (calls : D → Lis
     long = charged.long;
     sizes = charged.sizes;
     counted =
-        let mark = mark_at present.stage present.kind present.length present.done in
+        let mark = mark_ended_at present.stage present.kind present.length present.done in
         let push = eios_push old.journal s mark b a in
         let step = failed_set old.phases s Idle below in
-        let before : one_if (has_failed (phase_at old.phases s)) ≡ one_if (is_failed present.stage) = ap (λ (p : Phase). one_if (has_failed p)) active in
-        let marked : one_if (is_eio_mark mark) ≡ one_if (is_failed present.stage) = ap one_if (marked_at present.stage present.kind present.length present.done ended) in
+        let before : one_if (has_failed (phase_at old.phases s)) ≡ one_if (is_failed_stage present.stage) = ap (λ (p : Phase). one_if (has_failed p)) active in
+        let marked : one_if (is_eio_mark mark) ≡ one_if (is_failed_stage present.stage) = ap one_if (marked_at present.stage present.kind present.length present.done ended) in
         subst (λ (n : ℕ). HasRisenBy n (faults old.opening) (faults old.device)) (omega (arith, push, step, before, marked)) charged.counted;
     later = charged.later;
     asked = charged.asked;
     failures =
-        let mark = mark_at present.stage present.kind present.length present.done in
+        let mark = mark_ended_at present.stage present.kind present.length present.done in
         let push = eios_push old.journal s mark b a in
         let step = failed_set old.phases s Idle below in
-        let before : one_if (has_failed (phase_at old.phases s)) ≡ one_if (is_failed present.stage) = ap (λ (p : Phase). one_if (has_failed p)) active in
-        let marked : one_if (is_eio_mark mark) ≡ one_if (is_failed present.stage) = ap one_if (marked_at present.stage present.kind present.length present.done ended) in
+        let before : one_if (has_failed (phase_at old.phases s)) ≡ one_if (is_failed_stage present.stage) = ap (λ (p : Phase). one_if (has_failed p)) active in
+        let marked : one_if (is_eio_mark mark) ≡ one_if (is_failed_stage present.stage) = ap one_if (marked_at present.stage present.kind present.length present.done ended) in
         omega (arith, charged.failures, push, step, before, marked);
   }

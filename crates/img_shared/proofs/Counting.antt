@@ -7,17 +7,17 @@ use Rattle.std.proofs.lemmas.List.Sums.{sum_by-cons, sum_by-set, sum_by_push}
 use Rattle.img_shared.specs.declared.journal.Entry.{Entry}
 use Rattle.std.specs.declared.snapshot.Snapshot.{Snapshot}
 use Rattle.img_requests.specs.declared.journal.Mark.{Mark}
-use Rattle.img_shared.specs.Journals.{entries_of, entry_next, IsCounted}
+use Rattle.img_shared.specs.Journals.{noted_count, entry_next, IsCounted}
 
 -- one entry more of the stream
-pub entries_of-next : {D : Type 0} → (journal : List (Entry D)) (stream : ℕ) (mark : Mark) (b a : Snapshot (Snapshot D))
-    → entries_of stream (journal ++ entry_next stream journal mark b a ∷ []) ≡ entries_of stream journal + 1
-entries_of-next journal stream mark b a = search (rules, common_steps)
+pub noted_count-next : {D : Type 0} → (journal : List (Entry D)) (stream : ℕ) (mark : Mark) (b a : Snapshot (Snapshot D))
+    → noted_count stream (journal ++ entry_next stream journal mark b a ∷ []) ≡ noted_count stream journal + 1
+noted_count-next journal stream mark b a = search (rules, common_steps)
 
 -- and none more of another
-pub entries_of-other : {D : Type 0} → (journal : List (Entry D)) (stream other : ℕ) (mark : Mark) (b a : Snapshot (Snapshot D)) → stream ≢ other
-    → entries_of other (journal ++ entry_next stream journal mark b a ∷ []) ≡ entries_of other journal
-entries_of-other journal stream other mark b a ne =
+pub noted_count-other : {D : Type 0} → (journal : List (Entry D)) (stream other : ℕ) (mark : Mark) (b a : Snapshot (Snapshot D)) → stream ≢ other
+    → noted_count other (journal ++ entry_next stream journal mark b a ∷ []) ≡ noted_count other journal
+noted_count-other journal stream other mark b a ne =
     let differ : (stream == other) ≡ false = ne_eqb stream other ne in
     sum_by_push (λ entry. cond (entry.stream == other) 1 0) journal (entry_next stream journal mark b a)
     ∙ rw differ (omega arith)
@@ -52,12 +52,12 @@ one_more replied stream = set replied stream (slice_index replied stream + 1)
 
 module _ {D : Type 0} {requests replied : List ℕ} {capacity : ℕ} {entries : List (Entry D)}
     (counted : IsCounted requests replied capacity entries)
-    (stream : ℕ) (known : stream < length requests) (due : entries_of stream entries < slice_index requests stream) where
+    (stream : ℕ) (known : stream < length requests) (due : noted_count stream entries < slice_index requests stream) where
   found : stream < length replied
   found = omega (arith, counted.streams, known)
 
   -- the count of the stream is the next entry's index
-  pub IsCounted-index : slice_index replied stream ≡ entries_of stream entries
+  pub IsCounted-index : slice_index replied stream ≡ noted_count stream entries
   IsCounted-index = counted.counts stream found
 
   written : slice_index (one_more replied stream) stream ≡ slice_index replied stream + 1
@@ -87,13 +87,13 @@ module _ {D : Type 0} {requests replied : List ℕ} {capacity : ℕ} {entries : 
     few = counted.few;
     room = counted.room;
     streams = long;
-    counts = EachIndex-set (λ i. slice_index (one_more replied stream) i ≡ entries_of i (entries ++ entry_next stream entries mark b a ∷ []))
+    counts = EachIndex-set (λ i. slice_index (one_more replied stream) i ≡ noted_count i (entries ++ entry_next stream entries mark b a ∷ []))
         replied stream (slice_index replied stream + 1)
-        (omega (arith, written, IsCounted-index, entries_of-next entries stream mark b a))
+        (omega (arith, written, IsCounted-index, noted_count-next entries stream mark b a))
         (λ i below ne.
         get_or-set_other replied stream i (slice_index replied stream + 1) 0 ne
         ∙ counted.counts i below
-        ∙ sym (entries_of-other entries stream i mark b a (λ e. ne (sym e))));
+        ∙ sym (noted_count-other entries stream i mark b a (λ e. ne (sym e))));
     within = within_more;
     whole = omega (arith, length_push entries (entry_next stream entries mark b a), sum_more, counted.whole);
   }

@@ -9,7 +9,7 @@ use Rattle.img_requests.specs.declared.present.RequestKind.{RequestKind}
 use Rattle.img_requests.specs.declared.present.RequestKind.TheVariants.{Read, Write, Zero, Flush}
 use Rattle.img_shared.specs.declared.phases.Phase.{Phase}
 use Rattle.img_shared.specs.declared.phases.Phase.TheVariants.{Idle, Waiting, Active, Retired}
-use Rattle.img_shared.specs.Phases.{Linked, Writing, IsWaiting, held_by, waits_by}
+use Rattle.img_shared.specs.Phases.{Linked, Writing, IsWaiting, held_by, hold_awaited}
 
 pub has_held : (kind : RequestKind) → Has (held_by kind)
 has_held Read = tt
@@ -17,7 +17,7 @@ has_held Write = tt
 has_held Zero = tt
 has_held Flush = tt
 
-waits_lacks : (kind : RequestKind) → Has (waits_by kind) → ⊥
+waits_lacks : (kind : RequestKind) → Has (hold_awaited kind) → ⊥
 waits_lacks Read h = h
 waits_lacks Write h = h
 waits_lacks Zero h = h
@@ -35,7 +35,7 @@ same_granted old new e = inl e
 pub woken_granted : (woken : Option ℕ) (j : ℕ) (old new : Hold) → new ≡ after_wake woken j old → OnlyGranted old new
 woken_granted woken j old new e = subst (OnlyGranted old) (sym e) (only_granted woken j old)
 
-granted_waits : (kind : RequestKind) → granted (waits_by kind) ≡ held_by kind
+granted_waits : (kind : RequestKind) → granted (hold_awaited kind) ≡ held_by kind
 granted_waits Read = refl
 granted_waits Write = refl
 granted_waits Zero = refl
@@ -55,7 +55,7 @@ held_kept : (kind : RequestKind) (old new : Hold) → old ≡ held_by kind → O
 held_kept kind old new held (inl e) = e ∙ held
 held_kept kind old new held (inr e) = e ∙ ap granted held ∙ granted_held kind
 
-waits_kept : (kind : RequestKind) (old new : Hold) → old ≡ waits_by kind → OnlyGranted old new → (new ≡ waits_by kind) ⊎ (new ≡ held_by kind)
+waits_kept : (kind : RequestKind) (old new : Hold) → old ≡ hold_awaited kind → OnlyGranted old new → (new ≡ hold_awaited kind) ⊎ (new ≡ held_by kind)
 waits_kept kind old new waits (inl e) = inl (e ∙ waits)
 waits_kept kind old new waits (inr e) = inr (e ∙ ap granted waits ∙ granted_waits kind)
 

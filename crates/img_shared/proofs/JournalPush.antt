@@ -8,7 +8,7 @@ use Rattle.std.specs.declared.snapshot.Snapshot.{Snapshot}
 use Rattle.aio_model.specs.Serving.SerialHistory.{CountsFrom}
 use Rattle.img_requests.specs.declared.journal.Mark.{Mark}
 use Rattle.img_shared.specs.declared.journal.Entry.{Entry}
-use Rattle.img_shared.specs.Journals.{entries_of, entry_next, noted, Noted, Chain, of_stream, indices_noted}
+use Rattle.img_shared.specs.Journals.{noted_count, entry_next, noted_entry, Noted, Chain, of_stream, indices_noted}
 
 pub chain_push : (first last : Option (List ℕ)) (journal : List Noted) (entry : Noted) → Chain first journal last → entry.before ≡ last
     → Chain first (journal ++ entry ∷ []) entry.after
@@ -51,34 +51,34 @@ known_push [] entry n known last = (last, tt)
 known_push (one ∷ journal) entry n known last = (known.0, known_push journal entry n known.1 last)
 
 module _ {D : Type 0} (bytes : D → Option (List ℕ)) where
-  entries_of-cons : (k : ℕ) (one : Entry D) (journal : List (Entry D)) → entries_of k (one ∷ journal) ≡ cond (one.stream == k) 1 0 + entries_of k journal
-  entries_of-cons k one journal = sum_by-cons (λ (entry : Entry D). cond (entry.stream == k) 1 0) one journal
+  noted_count-cons : (k : ℕ) (one : Entry D) (journal : List (Entry D)) → noted_count k (one ∷ journal) ≡ cond (one.stream == k) 1 0 + noted_count k journal
+  noted_count-cons k one journal = sum_by-cons (λ (entry : Entry D). cond (entry.stream == k) 1 0) one journal
 
-  pub length_of_stream : (k : ℕ) (journal : List (Entry D)) → length (of_stream k (map (noted bytes) journal)) ≡ entries_of k journal
+  pub length_of_stream : (k : ℕ) (journal : List (Entry D)) → length (of_stream k (map (noted_entry bytes) journal)) ≡ noted_count k journal
   length_of_stream k [] = refl
   length_of_stream k (one ∷ journal) =
       let ih = length_of_stream k journal in
-      let rest = of_stream k (map (noted bytes) journal) in
+      let rest = of_stream k (map (noted_entry bytes) journal) in
       elim (cases_Bool (one.stream == k)) [
         | inl h ↦
             let here : cond {A = ℕ} (one.stream == k) 1 0 ≡ 1 = cond-true (one.stream == k) 1 0 h in
-            ap (λ (l : List Noted). length l) (cond-true (one.stream == k) (noted bytes one ∷ rest) rest h) ∙ omega (arith, ih, entries_of-cons k one journal, here)
+            ap (λ (l : List Noted). length l) (cond-true (one.stream == k) (noted_entry bytes one ∷ rest) rest h) ∙ omega (arith, ih, noted_count-cons k one journal, here)
         | inr h ↦
             let here : cond {A = ℕ} (one.stream == k) 1 0 ≡ 0 = cond-false (one.stream == k) 1 0 h in
-            ap (λ (l : List Noted). length l) (cond-false (one.stream == k) (noted bytes one ∷ rest) rest h) ∙ omega (arith, ih, entries_of-cons k one journal, here)
+            ap (λ (l : List Noted). length l) (cond-false (one.stream == k) (noted_entry bytes one ∷ rest) rest h) ∙ omega (arith, ih, noted_count-cons k one journal, here)
       ]
 
   pub ordered_push : (journal : List (Entry D)) (s : ℕ) (mark : Mark) (b a : Snapshot (Snapshot D))
-      → ((k : ℕ) → CountsFrom 0 (indices_noted k (map (noted bytes) journal)))
-      → (k : ℕ) → CountsFrom 0 (indices_noted k (map (noted bytes) (journal ++ entry_next s journal mark b a ∷ [])))
+      → ((k : ℕ) → CountsFrom 0 (indices_noted k (map (noted_entry bytes) journal)))
+      → (k : ℕ) → CountsFrom 0 (indices_noted k (map (noted_entry bytes) (journal ++ entry_next s journal mark b a ∷ [])))
   ordered_push journal s mark b a ordered k =
       let entry = entry_next s journal mark b a in
-      let next = noted bytes entry in
-      let before = map (noted bytes) journal in
-      let parts : map (noted bytes) (journal ++ entry ∷ []) ≡ before ++ next ∷ [] = map-append (noted bytes) journal (entry ∷ []) in
+      let next = noted_entry bytes entry in
+      let before = map (noted_entry bytes) journal in
+      let parts : map (noted_entry bytes) (journal ++ entry ∷ []) ≡ before ++ next ∷ [] = map-append (noted_entry bytes) journal (entry ∷ []) in
       subst (λ (l : List Noted). CountsFrom 0 (indices_noted k l)) (sym parts) (elim (cases_eq s k) [
         | inl e ↦ subst (CountsFrom 0) (sym (indices_same k before next e))
             (counts_push 0 (indices_noted k before) next.index (ordered k)
-            (ap (λ (m : ℕ). entries_of m journal) e ∙ omega (arith, length_of_stream k journal, length-map (of_stream k before) (λ (one : Noted). one.index))))
+            (ap (λ (m : ℕ). noted_count m journal) e ∙ omega (arith, length_of_stream k journal, length-map (of_stream k before) (λ (one : Noted). one.index))))
         | inr ne ↦ subst (CountsFrom 0) (sym (indices_else k before next ne)) (ordered k)
       ])

@@ -4,7 +4,7 @@ use Rattle.aio_model.proofs.Granted.{writer_alone}
 use Rattle.aio_model.specs.Holds.Table.{unlocked}
 use Rattle.aio_words.specs.declared.called.DeviceCall.{DeviceCall}
 use Rattle.img_requests.specs.declared.present.Present.{Present}
-use Rattle.img_requests.specs.Journal.{mark_at}
+use Rattle.img_requests.specs.Journal.{mark_ended_at}
 use Rattle.img_shared.specs.declared.journal.Entry.{Entry}
 use Rattle.img_shared.specs.declared.phases.Phase.TheVariants.{Idle, Active}
 use Rattle.img_shared.specs.Calls.{IsWholeRun, Leaves}
@@ -39,7 +39,7 @@ whole_of bytes extent faults size_faults calls image kept few placed = record {
 -- what leaving did
 pub leaves_so : {D : Type 0} → (s place : ℕ) (old : ImageState D) (present : Present) (entry : Entry D) → phase_at old.phases s ≡ Active present
     → place ≡ length old.journal
-    → entry ≡ entry_next s old.journal (mark_at present.stage present.kind present.length present.done) entry.before entry.after
+    → entry ≡ entry_next s old.journal (mark_ended_at present.stage present.kind present.length present.done) entry.before entry.after
     → entry.before.value.value ≡ old.left → entry.after.value.value ≡ old.device
     → Leaves s place old (record old { left = old.device; journal = old.journal ++ entry ∷ []; phases = set old.phases s Idle; access = (unlocked s old.access).state })
 leaves_so s place old present entry was at is before after = record {

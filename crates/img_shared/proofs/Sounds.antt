@@ -11,10 +11,10 @@ use Rattle.img_requests.specs.declared.present.Present.{Present}
 use Rattle.img_shared.specs.declared.phases.Phase.{Phase}
 use Rattle.img_shared.specs.declared.phases.Phase.TheVariants.{Idle, Waiting, Active, Retired}
 use Rattle.img_shared.specs.Images.{ImageState}
-use Rattle.img_shared.specs.Journals.{entries_of, entry_next, noted, Noted, Chain}
+use Rattle.img_shared.specs.Journals.{noted_count, entry_next, noted_entry, Noted, Chain}
 use Rattle.img_shared.specs.Phases.{Linked, Writing, phase_at, held_by}
 use Rattle.img_shared.specs.Soundness.{IsSound, IsInside, LiesInside, IsDue}
-use Rattle.img_shared.proofs.Counting.{entries_of-other}
+use Rattle.img_shared.proofs.Counting.{noted_count-other}
 use Rattle.img_shared.proofs.Granting.{linked_kept, linked_taken, same_granted, reads_or_writes, reads_not_writes}
 use Rattle.img_shared.proofs.JournalPush.{chain_push, known_push, ordered_push}
 
@@ -42,7 +42,7 @@ module _ {D : Type 0} (bytes : D → Option (List ℕ)) where
         → Linked x (hold_of access s)
         → ((j : ℕ) → j ≢ s → OnlyGranted (hold_of old.access j) (hold_of access j))
         → IsInside old.size s x
-        → IsDue x (entries_of s old.journal) (slice_index old.requests s)
+        → IsDue x (noted_count s old.journal) (slice_index old.requests s)
         → (((k : ℕ) → Writing (phase_at (set old.phases s x) k) → ⊥) → bytes device ≡ bytes old.left)
         → IsSound bytes (record old { device = device; phases = set old.phases s x; access = access })
     sound_phase x device access room linked only inside due clean = record {
@@ -53,7 +53,7 @@ module _ {D : Type 0} (bytes : D → Option (List ℕ)) where
       linked = each_phase old.phases s x (λ k phase. Linked phase (hold_of access k)) below linked
           (λ j ne. linked_kept (phase_at old.phases j) (hold_of old.access j) (hold_of access j) (sound.linked j) (only j ne));
       inside = each_phase old.phases s x (λ k phase. IsInside old.size k phase) below inside (λ j ne. sound.inside j);
-      due = each_phase old.phases s x (λ k phase. IsDue phase (entries_of k old.journal) (slice_index old.requests k)) below due (λ j ne. sound.due j);
+      due = each_phase old.phases s x (λ k phase. IsDue phase (noted_count k old.journal) (slice_index old.requests k)) below due (λ j ne. sound.due j);
       known = sound.known;
       chain = sound.chain;
       ordered = sound.ordered;
@@ -68,11 +68,11 @@ module _ {D : Type 0} (bytes : D → Option (List ℕ)) where
     ])
 
     chain_next : (mark : Mark) (b a : Snapshot (Snapshot D)) (left : D) → b.value.value ≡ old.left → a.value.value ≡ left
-        → Chain (bytes old.opening) (map (noted bytes) (old.journal ++ entry_next s old.journal mark b a ∷ [])) (bytes left)
+        → Chain (bytes old.opening) (map (noted_entry bytes) (old.journal ++ entry_next s old.journal mark b a ∷ [])) (bytes left)
     chain_next mark b a left before after =
-        subst (λ (l : List Noted). Chain (bytes old.opening) l (bytes left)) (sym (map-append (noted bytes) old.journal (entry_next s old.journal mark b a ∷ [])))
-        (subst (Chain (bytes old.opening) (map (noted bytes) old.journal ++ noted bytes (entry_next s old.journal mark b a) ∷ [])) (ap bytes after)
-        (chain_push (bytes old.opening) (bytes old.left) (map (noted bytes) old.journal) (noted bytes (entry_next s old.journal mark b a)) sound.chain (ap bytes before)))
+        subst (λ (l : List Noted). Chain (bytes old.opening) l (bytes left)) (sym (map-append (noted_entry bytes) old.journal (entry_next s old.journal mark b a ∷ [])))
+        (subst (Chain (bytes old.opening) (map (noted_entry bytes) old.journal ++ noted_entry bytes (entry_next s old.journal mark b a) ∷ [])) (ap bytes after)
+        (chain_push (bytes old.opening) (bytes old.left) (map (noted_entry bytes) old.journal) (noted_entry bytes (entry_next s old.journal mark b a)) sound.chain (ap bytes before)))
 
     -- an entry of a request that is refused
     pub sound_refused : (mark : Mark) (b a : Snapshot (Snapshot D)) → phase_at old.phases s ≡ Idle
@@ -86,9 +86,9 @@ module _ {D : Type 0} (bytes : D → Option (List ℕ)) where
       linked = sound.linked;
       inside = sound.inside;
       due = λ k. elim (cases_eq s k) [
-        | inl e ↦ subst (λ (m : ℕ). IsDue (phase_at old.phases m) (entries_of m (old.journal ++ entry_next s old.journal mark b a ∷ [])) (slice_index old.requests m)) e
-            (subst (λ (p : Phase). IsDue p (entries_of s (old.journal ++ entry_next s old.journal mark b a ∷ [])) (slice_index old.requests s)) (sym idle) tt)
-        | inr ne ↦ subst (λ (n : ℕ). IsDue (phase_at old.phases k) n (slice_index old.requests k)) (sym (entries_of-other old.journal s k mark b a ne)) (sound.due k)
+        | inl e ↦ subst (λ (m : ℕ). IsDue (phase_at old.phases m) (noted_count m (old.journal ++ entry_next s old.journal mark b a ∷ [])) (slice_index old.requests m)) e
+            (subst (λ (p : Phase). IsDue p (noted_count s (old.journal ++ entry_next s old.journal mark b a ∷ [])) (slice_index old.requests s)) (sym idle) tt)
+        | inr ne ↦ subst (λ (n : ℕ). IsDue (phase_at old.phases k) n (slice_index old.requests k)) (sym (noted_count-other old.journal s k mark b a ne)) (sound.due k)
       ];
       known = known_push old.journal (entry_next s old.journal mark b a) (length old.requests) sound.known known;
       chain = chain_next mark b a old.left before after;
@@ -111,8 +111,8 @@ module _ {D : Type 0} (bytes : D → Option (List ℕ)) where
       linked = each_phase old.phases s Idle (λ k phase. Linked phase (hold_of access k)) below free
           (λ j ne. linked_kept (phase_at old.phases j) (hold_of old.access j) (hold_of access j) (sound.linked j) (only j ne));
       inside = each_phase old.phases s Idle (λ k phase. IsInside old.size k phase) below tt (λ j ne. sound.inside j);
-      due = each_phase old.phases s Idle (λ k phase. IsDue phase (entries_of k (old.journal ++ entry_next s old.journal mark b a ∷ [])) (slice_index old.requests k)) below tt
-          (λ j ne. subst (λ (n : ℕ). IsDue (phase_at old.phases j) n (slice_index old.requests j)) (sym (entries_of-other old.journal s j mark b a (λ e. ne (sym e)))) (sound.due j));
+      due = each_phase old.phases s Idle (λ k phase. IsDue phase (noted_count k (old.journal ++ entry_next s old.journal mark b a ∷ [])) (slice_index old.requests k)) below tt
+          (λ j ne. subst (λ (n : ℕ). IsDue (phase_at old.phases j) n (slice_index old.requests j)) (sym (noted_count-other old.journal s j mark b a (λ e. ne (sym e)))) (sound.due j));
       known = known_push old.journal (entry_next s old.journal mark b a) (length old.requests) sound.known known;
       chain = chain_next mark b a old.device before after;
       ordered = ordered_push bytes old.journal s mark b a sound.ordered;
@@ -135,7 +135,7 @@ module _ {D : Type 0} (bytes : D → Option (List ℕ)) where
         → Linked x (hold_of access s)
         → ((j : ℕ) → j ≢ s → hold_of access j ≡ hold_of old.access j)
         → IsInside old.size s x
-        → IsDue x (entries_of s old.journal) (slice_index old.requests s)
+        → IsDue x (noted_count s old.journal) (slice_index old.requests s)
         → IsSound bytes (record old { phases = set old.phases s x; access = access })
     sound_entered x access idle room linked same inside due =
         sound_phase x old.device access room linked (λ j ne. same_granted (hold_of old.access j) (hold_of access j) (same j ne))
@@ -152,7 +152,7 @@ module _ {D : Type 0} (bytes : D → Option (List ℕ)) where
         (linked_taken present (hold_of old.access s) (hold_of access s) (subst (λ (p : Phase). Linked p (hold_of old.access s)) waits (sound.linked s)) has (only s))
         (λ j ne. only j)
         (subst (IsInside old.size s) waits (sound.inside s)).0
-        (subst (λ (p : Phase). IsDue p (entries_of s old.journal) (slice_index old.requests s)) waits (sound.due s))
+        (subst (λ (p : Phase). IsDue p (noted_count s old.journal) (slice_index old.requests s)) waits (sound.due s))
         (clean_phase (Active present) (λ writes. subst Writing waits writes))
 
     -- a piece is served
@@ -166,14 +166,14 @@ module _ {D : Type 0} (bytes : D → Option (List ℕ)) where
         (subst (λ (p : Phase). Linked p (hold_of old.access s)) active (sound.linked s) ∙ ap held_by (sym kind))
         (λ j ne. same_granted (hold_of old.access j) (hold_of old.access j) refl)
         within
-        (subst (λ (p : Phase). IsDue p (entries_of s old.journal) (slice_index old.requests s)) active (sound.due s))
+        (subst (λ (p : Phase). IsDue p (noted_count s old.journal) (slice_index old.requests s)) active (sound.due s))
         (λ none. elim (reads_or_writes present.kind) [
           | inl r ↦ reads r ∙ clean_phase (Active next) (λ writes. reads_not_writes (held_by present.kind) r (subst Writing active writes)) none
           | inr w ↦ absurd (none s (subst Writing (sym (phase_set old.phases s (Active next) below)) (ap held_by kind ∙ w)))
         ])
 
     -- a stream retires
-    pub sound_retired : phase_at old.phases s ≡ Idle → entries_of s old.journal ≡ slice_index old.requests s
+    pub sound_retired : phase_at old.phases s ≡ Idle → noted_count s old.journal ≡ slice_index old.requests s
         → IsSound bytes (record old { phases = set old.phases s Retired })
     sound_retired idle all =
         sound_phase Retired old.device old.access refl

@@ -17,14 +17,14 @@ use Rattle.img_requests.specs.declared.answers.Piece.{Piece}
 use Rattle.img_requests.specs.declared.journal.Mark.TheVariants.{Einval}
 use Rattle.img_requests.specs.declared.present.Present.{Present}
 use Rattle.img_requests.specs.declared.present.Stage.TheVariants as stage
-use Rattle.img_requests.specs.Journal.{mark_at}
+use Rattle.img_requests.specs.Journal.{mark_ended_at}
 use Rattle.img_requests.specs.Pieces.{Pieced, piece_length, done_after, stage_after}
 use Rattle.img_requests.specs.Presents.{begun_of, present_of, kind_of}
 use Rattle.img_shared.specs.declared.journal.Entry.{Entry}
 use Rattle.img_shared.specs.declared.phases.Phase.{Phase}
 use Rattle.img_shared.specs.declared.phases.Phase.TheVariants.{Idle, Waiting, Active}
 use Rattle.img_shared.specs.Images.{ImageState}
-use Rattle.img_shared.specs.Journals.{entries_of, entry_next, noted, Chain, indices_noted, eios_in}
+use Rattle.img_shared.specs.Journals.{noted_count, entry_next, noted_entry, Chain, indices_noted, eios_in}
 use Rattle.img_shared.specs.Phases.{hold_asked, phase_at, Linked, Writing, IsWaiting, has_failed}
 use Rattle.img_shared.specs.Soundness.{IsDue}
 
@@ -71,7 +71,7 @@ pub record Leaves {D : Type 0} (stream : ℕ) (place : ℕ) (old new : ImageStat
   pub was : phase_at old.phases stream ≡ Active present
   pub entry : Entry D
   pub place_is : place ≡ length old.journal
-  pub entry_is : entry ≡ entry_next stream old.journal (mark_at present.stage present.kind present.length present.done) entry.before entry.after
+  pub entry_is : entry ≡ entry_next stream old.journal (mark_ended_at present.stage present.kind present.length present.done) entry.before entry.after
   pub before : entry.before.value.value ≡ old.left
   pub after : entry.after.value.value ≡ old.device
   pub image : new
@@ -98,11 +98,11 @@ pub record IsWholeRun {D : Type 0} (bytes : D → Option (List ℕ)) (extent fau
   pub linked : (k : ℕ) → Linked (phase_at image.phases k) (hold_of image.access k)
   pub apart : WriterIsAlone (hold_of image.access)
   -- all requests of a stream that has retired stand in the journal
-  pub due : (k : ℕ) → IsDue (phase_at image.phases k) (entries_of k image.journal) (slice_index image.requests k)
+  pub due : (k : ℕ) → IsDue (phase_at image.phases k) (noted_count k image.journal) (slice_index image.requests k)
   pub known : AllByRecursion (λ (entry : Entry D). entry.stream < length image.requests) image.journal
   -- the journal leads from the opening bytes to those that it leaves, each stream in its order
-  pub chain : Chain (bytes image.opening) (map (noted bytes) image.journal) (bytes image.left)
-  pub ordered : (k : ℕ) → CountsFrom 0 (indices_noted k (map (noted bytes) image.journal))
+  pub chain : Chain (bytes image.opening) (map (noted_entry bytes) image.journal) (bytes image.left)
+  pub ordered : (k : ℕ) → CountsFrom 0 (indices_noted k (map (noted_entry bytes) image.journal))
   -- where nobody writes, the device has the bytes that the journal leaves
   pub clean : ((k : ℕ) → Writing (phase_at image.phases k) → ⊥) → bytes image.device ≡ bytes image.left
   -- The device has as many bytes as at first, and its count of faults has risen for each request that failed. None of

@@ -7,20 +7,20 @@ use Rattle.img_shared.specs.declared.journal.Entry.{Entry}
 
 module _ {D : Type 0} where
   -- how many entries are of the stream
-  abbrev pub entries_of : ℕ → List (Entry D) → ℕ
-  entries_of stream journal = count_by (λ (entry : Entry D). entry.stream == stream) journal
+  abbrev pub noted_count : ℕ → List (Entry D) → ℕ
+  noted_count stream journal = count_by (λ (entry : Entry D). entry.stream == stream) journal
 
   -- the stream's next entry
   abbrev pub entry_next : ℕ → List (Entry D) → Mark → Snapshot (Snapshot D) → Snapshot (Snapshot D) → Entry D
   entry_next stream journal mark before after =
-      record { stream = stream; index = entries_of stream journal; mark = mark; before = before; after = after }
+      record { stream = stream; index = noted_count stream journal; mark = mark; before = before; after = after }
 
   -- The journal is counted: by `replied`, how many requests of each stream have their entries.
   pub record IsCounted (requests replied : List ℕ) (capacity : ℕ) (entries : List (Entry D)) : Type 0 where
     pub few : sum requests ≤ 4096
     pub room : sum requests ≤ capacity
     pub streams : length replied ≡ length requests
-    pub counts : EachIndex replied (λ stream. slice_index replied stream ≡ entries_of stream entries)
+    pub counts : EachIndex replied (λ stream. slice_index replied stream ≡ noted_count stream entries)
     -- no stream has more entries than requests
     pub within : EachIndex replied (λ stream. slice_index replied stream ≤ slice_index requests stream)
     -- each entry is of one of the streams
@@ -40,8 +40,8 @@ pub record Noted : Type 0 where
   pub before : Option (List ℕ)
   pub after : Option (List ℕ)
 
-abbrev pub noted : {D : Type 0} → (D → Option (List ℕ)) → Entry D → Noted
-noted bytes entry =
+abbrev pub noted_entry : {D : Type 0} → (D → Option (List ℕ)) → Entry D → Noted
+noted_entry bytes entry =
     record {
       stream = entry.stream;
       index = entry.index;

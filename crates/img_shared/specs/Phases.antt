@@ -20,11 +20,11 @@ held_by Write = Writes
 held_by Zero = Writes
 
 -- what its stream has until then
-abbrev pub waits_by : RequestKind → Hold
-waits_by Read = WaitsRead
-waits_by Flush = WaitsRead
-waits_by Write = WaitsWrite
-waits_by Zero = WaitsWrite
+abbrev pub hold_awaited : RequestKind → Hold
+hold_awaited Read = WaitsRead
+hold_awaited Flush = WaitsRead
+hold_awaited Write = WaitsWrite
+hold_awaited Zero = WaitsWrite
 
 -- what asking for that hold answers, and leaves
 abbrev pub hold_asked : RequestKind → ℕ → ReadersWriter → HoldAsked
@@ -40,7 +40,7 @@ phase_at phases stream = get_or phases stream Idle
 -- A phase and its stream's hold go together. Who waits may have been granted its hold.
 abbrev pub Linked : Phase → Hold → Type 0
 Linked Idle hold = hold ≡ Free
-Linked (Waiting present) hold = (hold ≡ waits_by present.kind) ⊎ (hold ≡ held_by present.kind)
+Linked (Waiting present) hold = (hold ≡ hold_awaited present.kind) ⊎ (hold ≡ held_by present.kind)
 Linked (Active present) hold = hold ≡ held_by present.kind
 Linked Retired hold = hold ≡ Free
 
@@ -79,16 +79,16 @@ CanLeave (Waiting present) = ⊥
 CanLeave (Active present) = IsEnded present.stage
 CanLeave Retired = ⊥
 
-abbrev pub is_failed : Stage → Bool
-is_failed stage.Begun = false
-is_failed stage.Whole = false
-is_failed stage.Failed = true
+abbrev pub is_failed_stage : Stage → Bool
+is_failed_stage stage.Begun = false
+is_failed_stage stage.Whole = false
+is_failed_stage stage.Failed = true
 
 -- the device failed at its request
 abbrev pub has_failed : Phase → Bool
 has_failed Idle = false
 has_failed (Waiting present) = false
-has_failed (Active present) = is_failed present.stage
+has_failed (Active present) = is_failed_stage present.stage
 has_failed Retired = false
 
 abbrev pub has_retired : Phase → Bool

@@ -13,7 +13,7 @@ use Rattle.img_shared.specs.declared.journal.Entry.{Entry}
 use Rattle.img_shared.specs.declared.phases.Phase.{Phase}
 use Rattle.img_shared.specs.declared.phases.Phase.TheVariants.{Idle, Waiting, Active, Retired}
 use Rattle.img_shared.specs.Images.{ImageState}
-use Rattle.img_shared.specs.Journals.{entries_of, noted, Chain, indices_noted, eios_in}
+use Rattle.img_shared.specs.Journals.{noted_count, noted_entry, Chain, indices_noted, eios_in}
 use Rattle.img_shared.specs.Phases.{phase_at, Linked, Writing, has_failed}
 
 -- a present request of this stream lies inside the image
@@ -45,11 +45,11 @@ pub record IsSound {D : Type 0} (bytes : D → Option (List ℕ)) (image : Image
   -- each phase has its hold
   pub linked : (k : ℕ) → Linked (phase_at image.phases k) (hold_of image.access k)
   pub inside : (k : ℕ) → IsInside image.size k (phase_at image.phases k)
-  pub due : (k : ℕ) → IsDue (phase_at image.phases k) (entries_of k image.journal) (slice_index image.requests k)
+  pub due : (k : ℕ) → IsDue (phase_at image.phases k) (noted_count k image.journal) (slice_index image.requests k)
   -- the journal leads from the opening bytes to those that it leaves, each stream in its order
   pub known : AllByRecursion (λ (entry : Entry D). entry.stream < length image.requests) image.journal
-  pub chain : Chain (bytes image.opening) (map (noted bytes) image.journal) (bytes image.left)
-  pub ordered : (k : ℕ) → CountsFrom 0 (indices_noted k (map (noted bytes) image.journal))
+  pub chain : Chain (bytes image.opening) (map (noted_entry bytes) image.journal) (bytes image.left)
+  pub ordered : (k : ℕ) → CountsFrom 0 (indices_noted k (map (noted_entry bytes) image.journal))
   -- where nobody writes, the device has the bytes that the journal leaves
   pub clean : ((k : ℕ) → Writing (phase_at image.phases k) → ⊥) → bytes image.device ≡ bytes image.left
 

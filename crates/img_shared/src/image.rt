@@ -7,7 +7,7 @@ ghost use Rattle.aio_model.specs.Holds.Readers.{Readers, hold_of};
 ghost use Rattle.aio_model.specs.Holds.Table.{wake_one, unlocked};
 ghost use Rattle.aio_model.specs.Serving.{length_of, end_of};
 ghost use Rattle.img_shared.specs.declared.phases.Phase.TheVariants.{Idle, Retired};
-ghost use Rattle.img_shared.specs.Phases.{held_by, waits_by, hold_asked, still_going, has_retired};
+ghost use Rattle.img_shared.specs.Phases.{held_by, hold_awaited, hold_asked, still_going, has_retired};
 
 use crate::journal::{Entry, Ledger};
 use crate::phases::Phase;
@@ -51,7 +51,7 @@ impl<D: Device> Image<D> {
     ghost use Rattle.img_requests.specs.PieceCalls.{MakesDeviceCall, is_failed};
     ghost use Rattle.img_requests.specs.Pieces.{HasRoom, IsSilent, OnFailed, piece_length};
     ghost use Rattle.img_shared.specs.Calls.{Enters, IsServing, Serves, Leaves, IsGranted, IsWholeRun};
-    ghost use Rattle.img_shared.specs.Journals.{entries_of};
+    ghost use Rattle.img_shared.specs.Journals.{noted_count};
     ghost use Rattle.img_shared.specs.Notes.{SameNotes, note};
     ghost use Rattle.img_shared.specs.Phases.{phase_at, Linked, done_in, CanLeave, IsWaiting, taken_up};
 
@@ -100,7 +100,7 @@ impl<D: Device> Image<D> {
     pub fn enter(&mut self, stream: u32, request: &Request) -> Enter
         requires known { stream < length self.old.requests }
         requires free { phase_at self.old.phases stream ≡ Idle }
-        requires due { entries_of stream self.old.journal < slice_index self.old.requests stream }
+        requires due { noted_count stream self.old.journal < slice_index self.old.requests stream }
         requires small { length_of request.now < 2 ^ 32 }
         ensures entered { Enters self.old stream request.now result self.new }
 
@@ -211,7 +211,7 @@ impl<D: Device> Image<D> {
     pub fn retire(&mut self, stream: u32) -> u32
         requires known { stream < length self.old.requests }
         requires free { phase_at self.old.phases stream ≡ Idle }
-        requires all { entries_of stream self.old.journal ≡ slice_index self.old.requests stream }
+        requires all { noted_count stream self.old.journal ≡ slice_index self.old.requests stream }
         ensures going { result ≡ still_going self.new.phases }
         ensures retired { self.new ≡ record self.old { phases = set self.old.phases stream Retired } }
         ensures others { SameNotes D.bytes stream self.old self.new }
@@ -308,7 +308,7 @@ fn ask(access: &mut RwState, stream: u32, kind: RequestKind) -> RwAnswer
     requires free { hold_of access.old stream ≡ Free }
     ensures answer { result ≡ (hold_asked kind stream access.old).answer }
     ensures left { access.new ≡ (hold_asked kind stream access.old).state }
-    ensures own { hold_of access.new stream ≡ answered result (held_by kind) (waits_by kind) }
+    ensures own { hold_of access.new stream ≡ answered result (held_by kind) (hold_awaited kind) }
     ensures others { (other : ℕ) → other ≢ stream → hold_of access.new other ≡ hold_of access.old other }
     ensures room { access.new.room ≡ access.old.room }
 {

@@ -48,7 +48,7 @@ impl<D> Model for Ledger<D> {
 }
 
 impl<D> Ledger<D> {
-    ghost use Rattle.img_shared.specs.Journals.{entries_of, entry_next};
+    ghost use Rattle.img_shared.specs.Journals.{noted_count, entry_next};
 
     /// A journal without entries, for so many requests of each stream.
     pub(crate) fn build(alloc: Global, requests: &[u32]) -> Result<Ledger<D>, AllocError>
@@ -72,7 +72,7 @@ impl<D> Ledger<D> {
         after: Snapshot<Snapshot<D>>,
     ) -> u32
         requires known { stream < length self.old.requests }
-        requires due { entries_of stream self.old.entries < slice_index self.old.requests stream }
+        requires due { noted_count stream self.old.entries < slice_index self.old.requests stream }
         ensures place { result ≡ length self.old.entries }
         ensures entries { self.new
             ≡ record self.old { entries = self.old.entries ++ entry_next stream self.old.entries mark before after ∷ [] } }

@@ -24,7 +24,7 @@ use Rattle.img_streams.specs.declared.gate.Passed.{Passed}
 use Rattle.img_streams.specs.declared.progress.At.{At}
 use Rattle.img_streams.specs.declared.progress.At.TheVariants as at
 use Rattle.img_streams.specs.declared.stream.Stream.{Stream}
-use Rattle.img_streams.specs.Deeds.{Entered, woken_by, at_after, itself, IsDeedAt, DoesDeed, listed, asks}
+use Rattle.img_streams.specs.Deeds.{Entered, woken_by, at_after, itself, IsDeedAt, DoesDeed, listed, wants_wakes}
 use Rattle.img_streams.specs.Lines.{line_from, StandsAt, Asks}
 use Rattle.img_streams.specs.Own.{own_note, IsOwnPass, WaitsOn, Calls}
 use Rattle.img_streams.specs.Steps.{IsEntered}
@@ -41,15 +41,15 @@ line_of lines got id at request same stands read =
     ∙ read (record { stream = id; what = Ask request }) in
     subst (λ (w : What). StandsAt lines id at w) there stands.1
 
-none_woken : (named : Option CoId) → asks (listed named ++ [] ++ []) false ≡ asks (listed named) false
-none_woken named = ap (λ (l : List CoId). asks l false) (append-nil (listed named ++ []) ∙ append-nil (listed named))
+none_woken : (named : Option CoId) → wants_wakes (listed named ++ [] ++ []) false ≡ wants_wakes (listed named) false
+none_woken named = ap (λ (l : List CoId). wants_wakes l false) (append-nil (listed named ++ []) ∙ append-nil (listed named))
 
 module _ {P D : Type 0} (bytes : D → Option (List ℕ)) (old : Stream P (ImageState D) (Note D)) (of : CoMutex P (ImageState D) (Note D) × Script) where
   -- it waits for the lock
   pub waits_resumes : (new : Stream P (ImageState D) (Note D)) (named : Option CoId) (wants : Wants)
       → Asks of.1.lines old.id (line_from old.id of.1.lines old.line) ⊎ (line_from old.id of.1.lines old.line ≡ length of.1.lines)
       → WaitsOn bytes of.0 old.co old.queued named old.pass new.pass
-      → wants ≡ asks (listed named ++ [] ++ []) false
+      → wants ≡ wants_wakes (listed named ++ [] ++ []) false
       → new.id ≡ old.id → new.co ≡ old.co → new.queued ≡ true
       → Resumes bytes old of wants step.Yield new
   waits_resumes new named wants line waits is same_id same_co queued = (
@@ -99,7 +99,7 @@ module _ {P D : Type 0} (bytes : D → Option (List ℕ)) (old : Stream P (Image
       pub entered_resumes : (answer : Enter) (named : Option CoId) (wants : Wants)
           → Calls bytes of.0 (λ found left. DoesDeed bytes old.co request old.buffer.items old.buffer.items (Entered answer) found left) old.co named old.pass pass
           → MovesOn (Entered answer) (record old { pass = pass; queued = false }) other
-          → wants ≡ asks (listed named ++ listed (woken_by (Entered answer)) ++ listed (itself old.co (at_after (Entered answer)))) false
+          → wants ≡ wants_wakes (listed named ++ listed (woken_by (Entered answer)) ++ listed (itself old.co (at_after (Entered answer)))) false
           → Resumes bytes old of wants step.Yield other
       entered_resumes Begun named wants calls moves wakes =
           subst (λ (co : Stream P (ImageState D) (Note D)). Resumes bytes old of wants step.Yield co) (sym moves)

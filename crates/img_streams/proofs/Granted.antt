@@ -19,7 +19,7 @@ use Rattle.img_shared.proofs.Sounds.{phase_set}
 use Rattle.img_join.proofs.Accounts.{account_granted}
 use Rattle.img_streams.specs.declared.answers.Grant.{Grant}
 use Rattle.img_streams.specs.declared.answers.Grant.TheVariants.{NotYet, Granted}
-use Rattle.img_streams.specs.ImageCalls.{come_to, coroutine_of, with_hold, IsWaitingFor, GetsHold, TakesUp, OnGranted}
+use Rattle.img_streams.specs.ImageCalls.{come_to, coroutine_of_stream, with_hold, IsWaitingFor, GetsHold, TakesUp, OnGranted}
 use Rattle.img_streams.specs.Steps.{IsHeld, IsTakenUp}
 use Rattle.img_streams.proofs.Accounted.{served, keeps_served, along}
 use Rattle.img_streams.proofs.Owns.{Keeps}
@@ -66,7 +66,7 @@ module _ {D : Type 0} (bytes : D → Option (List ℕ)) (co : CoId) (g : ImageSt
     pub gets_hold : (next : Option ℕ) (woken : Option CoId) (first : Piece) (before after : List ℕ)
         → Has (hold_of come.access co.co)
         → next ≡ (wake_one come.access).woken
-        → woken ≡ option_map (coroutine_of held) next
+        → woken ≡ option_map (coroutine_of_stream held) next
         → Serves bytes co.co request (done_in (phase_at held.phases co.co)) first held x before after
         → GetsHold bytes co request woken first g x before after
     gets_hold next woken first before after holds named woken_is serves =
@@ -75,9 +75,9 @@ module _ {D : Type 0} (bytes : D → Option (List ℕ)) (co : CoId) (g : ImageSt
         let from_start : next ≡ (wake_one g.access).woken = named ∙ ap (λ (i : ImageState D). (wake_one i.access).woken) comes in
         record {
           holds = subst (λ (i : ImageState D). Has (hold_of i.access co.co)) comes holds;
-          woken_is = woken_is ∙ ap (λ (i : ImageState D). option_map (coroutine_of i) next) held_is
-              ∙ ap (λ (i : ImageState D). option_map (coroutine_of i) next) (sym by.image)
-              ∙ ap (λ (o : Option ℕ). option_map (coroutine_of x) o) from_start;
+          woken_is = woken_is ∙ ap (λ (i : ImageState D). option_map (coroutine_of_stream i) next) held_is
+              ∙ ap (λ (i : ImageState D). option_map (coroutine_of_stream i) next) (sym by.image)
+              ∙ ap (λ (o : Option ℕ). option_map (coroutine_of_stream x) o) from_start;
           serves = subst (λ (d : ℕ). Serves bytes co.co request d first (with_hold co g) x before after) (none_done waits) by;
         }
 

@@ -14,7 +14,7 @@ use Rattle.img_join.specs.Accounts.{Account}
 use Rattle.img_streams.specs.declared.progress.At.{At}
 use Rattle.img_streams.specs.declared.progress.At.TheVariants as at
 use Rattle.img_streams.specs.declared.stream.Stream.{Stream}
-use Rattle.img_streams.specs.Deeds.{Left, IsDeedAt, DoesDeed, listed, asks}
+use Rattle.img_streams.specs.Deeds.{Left, IsDeedAt, DoesDeed, listed, wants_wakes}
 use Rattle.img_streams.specs.Lines.{Asks}
 use Rattle.img_streams.specs.Own.{own_note, IsOwnPass, Calls}
 use Rattle.img_streams.specs.Streams.{IsStreamOf, StandsSo, Resumes, CanGetReply, GetsReply}
@@ -53,7 +53,7 @@ module _ {P D : Type 0} (bytes : D → Option (List ℕ)) (old : Stream P (Image
 
     pub left_resumes : (woken named : Option CoId) (wants : Wants)
         → Calls bytes of.0 (λ found left. DoesDeed bytes old.co stands.1.0 old.buffer.items other.buffer.items (Left woken) found left) old.co named old.pass pass
-        → wants ≡ asks (listed named ++ listed woken ++ listed (Some old.co)) false
+        → wants ≡ wants_wakes (listed named ++ listed woken ++ listed (Some old.co)) false
         → Resumes bytes old of wants step.Yield other
     left_resumes woken named wants calls wakes =
         made_call bytes old of is stands.1.0 stands.1.1 other (Left woken)

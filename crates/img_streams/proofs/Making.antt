@@ -10,7 +10,7 @@ use Rattle.co_mutex.specs.declared.lock.CoMutex.{CoMutex}
 use Rattle.img_shared.specs.Images.{ImageState}
 use Rattle.img_shared.specs.Notes.{Note}
 use Rattle.img_streams.specs.declared.stream.Stream.{Stream}
-use Rattle.img_streams.specs.Deeds.{Deed, woken_by, at_after, lines_past, itself, IsDeedAt, DoesDeed, listed, asks}
+use Rattle.img_streams.specs.Deeds.{Deed, woken_by, at_after, lines_past, itself, IsDeedAt, DoesDeed, listed, wants_wakes}
 use Rattle.img_streams.specs.Lines.{StandsAt}
 use Rattle.img_streams.specs.Own.{Calls}
 use Rattle.img_streams.specs.Streams.{IsStreamOf, Resumes}
@@ -23,7 +23,7 @@ module _ {P D : Type 0} (bytes : D → Option (List ℕ)) (old : Stream P (Image
       → Calls bytes of.0 (DoesDeed bytes old.co request old.buffer.items other.buffer.items deed) old.co named old.pass other.pass
       → other.id ≡ old.id → other.co ≡ old.co
       → other.queued ≡ false → other.at ≡ at_after deed → other.line ≡ old.line + lines_past deed
-      → wants ≡ asks (listed named ++ listed (woken_by deed) ++ listed (itself old.co (at_after deed))) false
+      → wants ≡ wants_wakes (listed named ++ listed (woken_by deed) ++ listed (itself old.co (at_after deed))) false
       → Resumes bytes old of wants step.Yield other
   made_call suits named wants calls same_id same_co queued next lines wakes = (
     same_id,

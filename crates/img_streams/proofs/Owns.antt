@@ -4,10 +4,10 @@ use Rattle.aio_model.specs.Lock.History.{value_of}
 use Rattle.co_state.specs.declared.cx.CoId.{CoId}
 use Rattle.co_mutex.specs.declared.lock.CoMutex.{CoMutex}
 use Rattle.co_mutex.specs.declared.lock.Pass.{Pass}
-use Rattle.co_mutex.specs.Calls.{word_of, Unlocks}
+use Rattle.co_mutex.specs.Calls.{co_id_word, Unlocks}
 use Rattle.co_mutex.specs.Passes.{IsPassOf, built_of, known}
 use Rattle.img_shared.specs.Images.{ImageState}
-use Rattle.img_shared.specs.Journals.{entries_of}
+use Rattle.img_shared.specs.Journals.{noted_count}
 use Rattle.img_shared.specs.Notes.{Note, note}
 use Rattle.img_join.proofs.Accounts.{length_from}
 use Rattle.img_streams.specs.Own.{own_note, IsOwnPass, WaitsOn, Calls}
@@ -23,17 +23,17 @@ pub record Keeps {D : Type 0} (g x : ImageState D) : Type 0 where
 module _ {P D : Type 0} (bytes : D → Option (List ℕ)) (lock : CoMutex P (ImageState D) (Note D)) (a b : Pass P (ImageState D) (Note D)) (s : ℕ) (queued : Bool)
     (of : IsOwnPass bytes lock a s queued) where
   -- it waits for the lock
-  pub waits_on : (co : CoId) (named : Option CoId) → co.co ≡ s → IsPassOf lock b → GoesOnWaiting queued (word_of co) named (known a) (known b)
+  pub waits_on : (co : CoId) (named : Option CoId) → co.co ≡ s → IsPassOf lock b → GoesOnWaiting queued (co_id_word co) named (known a) (known b)
       → WaitsOn bytes lock co queued named a b
   waits_on co named is pass goes =
-      let knows : Knows (built_of lock) (known a) (known b) = waiting_knows (built_of lock) queued (word_of co) named (known a) (known b) goes in
+      let knows : Knows (built_of lock) (known a) (known b) = waiting_knows (built_of lock) queued (co_id_word co) named (known a) (known b) goes in
       let same : own_note bytes lock b ≡ own_note bytes lock a =
       ap (λ (i : ImageState D). note bytes i (known b).number) knows.value
       ∙ ap (λ (n : ℕ). note bytes (value_of (built_of lock) (known a).mine) n) knows.number in
       record {
         of = record {
           of = pass;
-          place = waiting_place (built_of lock) queued (word_of co) named (known a) (known b) goes;
+          place = waiting_place (built_of lock) queued (co_id_word co) named (known a) (known b) goes;
           number = knows.number ∙ of.number ∙ sym is;
           opened = ap (λ (n : Note D). n.opening) same ∙ of.opened;
           streams = ap (λ (n : Note D). n.streams) same ∙ of.streams;
@@ -58,7 +58,7 @@ module _ {P D : Type 0} (bytes : D → Option (List ℕ)) (lock : CoMutex P (Ima
     pub row_found : s < length g.phases
     row_found = omega (arith, of.row_there, ap (λ (n : Note D). n.rows) own_found)
 
-    pub entries_found : entries_of s g.journal ≡ length (own_note bytes lock a).entries
+    pub entries_found : noted_count s g.journal ≡ length (own_note bytes lock a).entries
     entries_found = sym (length_from 0 s g.journal) ∙ ap (λ (n : Note D). length n.entries) own_found
 
     pub requests_found : slice_index g.requests s ≡ (own_note bytes lock a).requests

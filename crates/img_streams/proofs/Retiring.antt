@@ -13,7 +13,7 @@ use Rattle.img_shared.specs.Notes.{Note}
 use Rattle.img_streams.specs.declared.progress.At.{At}
 use Rattle.img_streams.specs.declared.progress.At.TheVariants as at
 use Rattle.img_streams.specs.declared.stream.Stream.{Stream}
-use Rattle.img_streams.specs.Deeds.{listed, asks}
+use Rattle.img_streams.specs.Deeds.{listed, wants_wakes}
 use Rattle.img_streams.specs.Lines.{line_from}
 use Rattle.img_streams.specs.Own.{own_note, IsOwnPass, Calls}
 use Rattle.img_streams.specs.Streams.{IsStreamOf, StandsSo, Resumes}
@@ -49,7 +49,7 @@ module _ {P D : Type 0} (bytes : D → Option (List ℕ)) (old : Stream P (Image
 
     pub retired_resumes : (going : ℕ) (named : Option CoId) (wants : Wants)
         → Calls bytes of.0 (λ found left. Retires old.co going found left) old.co named old.pass pass
-        → wants ≡ asks (listed named) (going == 0)
+        → wants ≡ wants_wakes (listed named) (going == 0)
         → Resumes bytes old of wants step.Done (record old { pass = pass; queued = false; at = at.Gone })
     retired_resumes going named wants calls wakes = inr (
       refl,

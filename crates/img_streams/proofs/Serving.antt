@@ -17,7 +17,7 @@ use Rattle.img_shared.specs.Notes.{Note, Placement}
 use Rattle.img_streams.specs.declared.progress.At.{At}
 use Rattle.img_streams.specs.declared.progress.At.TheVariants as at
 use Rattle.img_streams.specs.declared.stream.Stream.{Stream}
-use Rattle.img_streams.specs.Deeds.{Deed, Served, woken_by, at_after, at_after_piece, itself, IsDeedAt, DoesDeed, listed, asks}
+use Rattle.img_streams.specs.Deeds.{Deed, Served, woken_by, at_after, at_after_piece, itself, IsDeedAt, DoesDeed, listed, wants_wakes}
 use Rattle.img_streams.specs.Lines.{StandsAt, Asks}
 use Rattle.img_streams.specs.Own.{own_note, IsOwnPass, Calls}
 use Rattle.img_streams.specs.Streams.{IsStreamOf, StandsSo, Resumes, MovesOn}
@@ -111,7 +111,7 @@ module _ {P D : Type 0} (bytes : D → Option (List ℕ)) (old : Stream P (Image
       pub served_resumes : (answer : Piece) (named : Option CoId) (wants : Wants)
           → Calls bytes of.0 (λ found left. DoesDeed bytes old.co request old.buffer.items mid.buffer.items (Served answer) found left) old.co named old.pass pass
           → MovesOn (Served answer) (record old { pass = pass; queued = false; buffer = mid.buffer }) other
-          → wants ≡ asks (listed named ++ listed (woken_by (Served answer)) ++ listed (itself old.co (at_after (Served answer)))) false
+          → wants ≡ wants_wakes (listed named ++ listed (woken_by (Served answer)) ++ listed (itself old.co (at_after (Served answer)))) false
           → Resumes bytes old of wants step.Yield other
       served_resumes answer named wants calls moves wakes =
           subst (λ (co : Stream P (ImageState D) (Note D)). Resumes bytes old of wants step.Yield co) (sym moves)

@@ -9,7 +9,7 @@ use Rattle.co_mutex.specs.Closing.{In, AreAll, Gathers}
 use Rattle.co_mutex.specs.Passes.{built_of, passes_of, known}
 use Rattle.co_mutex.proofs.Histories.{note_kept, made_more}
 use Rattle.img_shared.specs.Images.{ImageState}
-use Rattle.img_shared.specs.Journals.{entries_of}
+use Rattle.img_shared.specs.Journals.{noted_count}
 use Rattle.img_shared.specs.Notes.{Note, Placement, note}
 use Rattle.img_join.specs.Accounts.{Account, AllAnswered}
 use Rattle.img_join.specs.Ended.{HasRetired}
@@ -23,7 +23,7 @@ use Rattle.img_streams.specs.declared.progress.At.{At}
 use Rattle.img_streams.specs.declared.progress.At.TheVariants as at
 use Rattle.img_streams.specs.declared.stream.Stream.{Stream}
 use Rattle.img_streams.specs.Streams.{HasGone, IsStreamOf, StandsSo}
-use Rattle.img_streams.specs.Turns.{place_of}
+use Rattle.img_streams.specs.Turns.{pass_place_of}
 
 answered_long : {D : Type 0} → (bytes : D → Option (List ℕ)) (all : List Asked) (id size : ℕ) (entries : List (Placement D)) (buffers : List (List ℕ))
     → AllAnswered bytes all id size entries buffers → length entries ≡ length buffers
@@ -63,7 +63,7 @@ module _ {P D : Type 0} (bytes : D → Option (List ℕ)) (lock : CoMutex P (Ima
                 (subst (λ (n : Note D). Account bytes (asked lines) (slice_index ids k) k size (requests_of (slice_index ids k) lines) n (row_at rows k) o.2.buffer) (sym same) o.2.account);
           }
 
-      one_buffered : entries_of k image.journal ≡ length (row_at rows k)
+      one_buffered : noted_count k image.journal ≡ length (row_at rows k)
       one_buffered =
           let o = retired.each k below in
           sym (length_from 0 k image.journal) ∙ ap (λ (n : Note D). length n.entries) same
@@ -94,7 +94,7 @@ module _ {P D : Type 0} (bytes : D → Option (List ℕ)) (co : Stream P (ImageS
       let both = retired_by co.at gone is.stands in
       record {
         of = is.pass.of;
-        rests = is.pass.place ∙ ap place_of both.1;
+        rests = is.pass.place ∙ ap pass_place_of both.1;
         is = record {
           number = is.pass.number;
           opened = is.pass.opened;

@@ -22,7 +22,7 @@ use Rattle.img_streams.specs.declared.answers.Grant.TheVariants.{NotYet, Granted
 use Rattle.img_streams.specs.declared.progress.At.{At}
 use Rattle.img_streams.specs.declared.progress.At.TheVariants as at
 use Rattle.img_streams.specs.declared.stream.Stream.{Stream}
-use Rattle.img_streams.specs.Deeds.{TookUp, woken_by, at_after, itself, IsDeedAt, DoesDeed, listed, asks}
+use Rattle.img_streams.specs.Deeds.{TookUp, woken_by, at_after, itself, IsDeedAt, DoesDeed, listed, wants_wakes}
 use Rattle.img_streams.specs.ImageCalls.{IsWaitingFor}
 use Rattle.img_streams.specs.Lines.{StandsAt, Asks}
 use Rattle.img_streams.specs.Own.{own_note, IsOwnPass, Calls}
@@ -90,7 +90,7 @@ module _ {P D : Type 0} (bytes : D → Option (List ℕ)) (old : Stream P (Image
       pub taken_resumes : (answer : Grant) (named : Option CoId) (wants : Wants)
           → Calls bytes of.0 (λ found left. DoesDeed bytes old.co request old.buffer.items mid.buffer.items (TookUp answer) found left) old.co named old.pass pass
           → MovesOn (TookUp answer) (record old { pass = pass; queued = false; buffer = mid.buffer }) other
-          → wants ≡ asks (listed named ++ listed (woken_by (TookUp answer)) ++ listed (itself old.co (at_after (TookUp answer)))) false
+          → wants ≡ wants_wakes (listed named ++ listed (woken_by (TookUp answer)) ++ listed (itself old.co (at_after (TookUp answer)))) false
           → Resumes bytes old of wants step.Yield other
       taken_resumes answer named wants calls moves wakes =
           subst (λ (co : Stream P (ImageState D) (Note D)). Resumes bytes old of wants step.Yield co) (sym moves)

@@ -84,5 +84,5 @@ listed None = []
 listed (Some co) = co ∷ []
 
 -- it asks to wake these, in order, and perhaps that the home quits
-abbrev pub asks : List CoId → Bool → Wants
-asks wakes quits = record { wakes = wakes; made = length wakes; quits = quits }
+abbrev pub wants_wakes : List CoId → Bool → Wants
+wants_wakes wakes quits = record { wakes = wakes; made = length wakes; quits = quits }

@@ -31,8 +31,8 @@ module _ {D : Type 0} where
   come_to co image = record image { homes = set image.homes co.co co.home }
 
   -- the coroutine of a stream, by the loop that it came to last
-  abbrev pub coroutine_of : ImageState D → ℕ → CoId
-  coroutine_of image stream = record { co = stream; home = slice_index image.homes stream }
+  abbrev pub coroutine_of_stream : ImageState D → ℕ → CoId
+  coroutine_of_stream image stream = record { co = stream; home = slice_index image.homes stream }
 
   -- the stream's loop is noted, and it takes up its hold
   abbrev pub with_hold : CoId → ImageState D → ImageState D
@@ -42,7 +42,7 @@ module _ {D : Type 0} where
   -- The stream has its hold and takes it up. Then it is served the first piece of its request. Who is woken is named.
   pub record GetsHold (bytes : D → Option (List ℕ)) (co : CoId) (request : Request) (woken : Option CoId) (first : Piece) (old new : ImageState D) (before after : List ℕ) : Type 0 where
     pub holds : Has (hold_of old.access co.co)
-    pub woken_is : woken ≡ option_map (coroutine_of new) (wake_one old.access).woken
+    pub woken_is : woken ≡ option_map (coroutine_of_stream new) (wake_one old.access).woken
     pub serves : Serves bytes co.co request 0 first (with_hold co old) new before after
 
   -- the stream takes up its hold, or waits on
@@ -55,7 +55,7 @@ module _ {D : Type 0} where
   pub record LeavesSo (co : CoId) (woken : Option CoId) (old new : ImageState D) : Type 0 where
     pub place : ℕ
     pub leaves : Leaves co.co place (come_to co old) new
-    pub woken_is : woken ≡ option_map (coroutine_of new) (unlocked co.co old.access).woken
+    pub woken_is : woken ≡ option_map (coroutine_of_stream new) (unlocked co.co old.access).woken
 
   -- the stream retires, and so many haven't
   abbrev pub Retires : CoId → ℕ → ImageState D → ImageState D → Type 0

@@ -4,13 +4,13 @@ use Rattle.aio_model.specs.Lock.History.{value_of}
 use Rattle.co_state.specs.declared.cx.CoId.{CoId}
 use Rattle.co_mutex.specs.declared.lock.CoMutex.{CoMutex}
 use Rattle.co_mutex.specs.declared.lock.Pass.{Pass}
-use Rattle.co_mutex.specs.Calls.{word_of}
+use Rattle.co_mutex.specs.Calls.{co_id_word}
 use Rattle.co_mutex.specs.Passes.{IsPassOf, built_of, known}
 use Rattle.img_shared.specs.Images.{ImageState}
 use Rattle.img_shared.specs.Notes.{Note, note}
 use Rattle.img_streams.specs.declared.answers.Visit.{Visit}
 use Rattle.img_streams.specs.declared.answers.Visit.TheVariants.{Waits, Did}
-use Rattle.img_streams.specs.Turns.{place_of, GoesOnWaiting, HoldsOnce}
+use Rattle.img_streams.specs.Turns.{pass_place_of, GoesOnWaiting, HoldsOnce}
 
 module _ {P D : Type 0} (bytes : D → Option (List ℕ)) (lock : CoMutex P (ImageState D) (Note D)) where
   -- the note of the pass's stream, as the pass left it
@@ -20,7 +20,7 @@ module _ {P D : Type 0} (bytes : D → Option (List ℕ)) (lock : CoMutex P (Ima
   -- the pass of the stream, between two turns: it is queued, or at rest
   pub record IsOwnPass (pass : Pass P (ImageState D) (Note D)) (stream : ℕ) (queued : Bool) : Type 0 where
     pub of : IsPassOf lock pass
-    pub place : (known pass).place ≡ place_of queued
+    pub place : (known pass).place ≡ pass_place_of queued
     pub number : (known pass).number ≡ stream
     pub opened : (own_note pass).opening ≡ (built_of lock).opening
     pub streams : (own_note pass).streams ≡ length (built_of lock).requests
@@ -30,7 +30,7 @@ module _ {P D : Type 0} (bytes : D → Option (List ℕ)) (lock : CoMutex P (Ima
   -- the pass goes on waiting for the lock, for this coroutine
   pub record WaitsOn (co : CoId) (queued : Bool) (named : Option CoId) (before after : Pass P (ImageState D) (Note D)) : Type 0 where
     pub of : IsOwnPass after co.co true
-    pub goes : GoesOnWaiting queued (word_of co) named (known before) (known after)
+    pub goes : GoesOnWaiting queued (co_id_word co) named (known before) (known after)
     pub same : own_note after ≡ own_note before
 
   -- the pass held the lock once, and made one such call on the image

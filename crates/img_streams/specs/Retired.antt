@@ -9,7 +9,7 @@ use Rattle.co_mutex.specs.Passes.{IsPassOf, built_of, known}
 use Rattle.co_mutex.specs.Places.{AtRest}
 use Rattle.img_shared.specs.declared.phases.Phase.TheVariants.{Retired}
 use Rattle.img_shared.specs.Images.{ImageState}
-use Rattle.img_shared.specs.Journals.{entries_of}
+use Rattle.img_shared.specs.Journals.{noted_count}
 use Rattle.img_shared.specs.Notes.{Note}
 use Rattle.img_join.specs.Accounts.{Account}
 use Rattle.img_join.specs.Ended.{HasRetired}
@@ -53,4 +53,4 @@ pub record ShowsRetired {D : Type 0} (bytes : D → Option (List ℕ)) (lines : 
   pub sized : 0 < length ids → image.size ≡ size
   pub streams : 0 < length ids → length image.requests ≡ length ids
   pub each : (k : ℕ) → k < length ids → HasRetired bytes lines ids image k (row_at rows k)
-  pub buffered : (k : ℕ) → k < length ids → entries_of k image.journal ≡ length (row_at rows k)
+  pub buffered : (k : ℕ) → k < length ids → noted_count k image.journal ≡ length (row_at rows k)

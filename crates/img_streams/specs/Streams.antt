@@ -11,7 +11,7 @@ use Rattle.co_state.specs.declared.cx.CoId.{CoId}
 use Rattle.co_state.specs.declared.co.CoStep.{CoStep}
 use Rattle.co_state.specs.declared.co.CoStep.TheVariants as step
 use Rattle.co_mutex.specs.declared.lock.CoMutex.{CoMutex}
-use Rattle.co_mutex.specs.Calls.{word_of}
+use Rattle.co_mutex.specs.Calls.{co_id_word}
 use Rattle.co_mutex.specs.Passes.{known}
 use Rattle.img_requests.specs.declared.present.Present.{Present}
 use Rattle.img_requests.specs.declared.present.Stage.TheVariants as stage
@@ -23,7 +23,7 @@ use Rattle.img_join.specs.Accounts.{Account}
 use Rattle.img_streams.specs.declared.progress.At.{At}
 use Rattle.img_streams.specs.declared.progress.At.TheVariants as at
 use Rattle.img_streams.specs.declared.stream.Stream.{Stream}
-use Rattle.img_streams.specs.Deeds.{Deed, woken_by, at_after, lines_past, itself, IsDeedAt, DoesDeed, listed, asks}
+use Rattle.img_streams.specs.Deeds.{Deed, woken_by, at_after, lines_past, itself, IsDeedAt, DoesDeed, listed, wants_wakes}
 use Rattle.img_streams.specs.ImageCalls.{Retires}
 use Rattle.img_streams.specs.Lines.{line_from, places_of, StandsAt, Asks, AreShort, HaveRoom}
 use Rattle.img_streams.specs.Own.{own_note, IsOwnPass, Calls}
@@ -121,10 +121,10 @@ module _ {P D : Type 0} (bytes : D → Option (List ℕ)) where
     -- It waits for the lock, for a request or to retire. It wakes whom its call on the lock named.
     pub record WaitsForLock (wants : Wants) (new : Stream P (ImageState D) (Note D)) : Type 0 where
       pub named : Option CoId
-      pub goes : GoesOnWaiting old.queued (word_of old.co) named (known old.pass) (known new.pass)
+      pub goes : GoesOnWaiting old.queued (co_id_word old.co) named (known old.pass) (known new.pass)
       pub line : Asks of.1.lines old.id at_hand ⊎ (at_hand ≡ length of.1.lines)
       pub queued : new.queued ≡ true
-      pub wakes : wants ≡ asks (listed named) false
+      pub wakes : wants ≡ wants_wakes (listed named) false
 
     -- It took the lock once and did this one deed on the image for the request at hand. It wakes whom its unlock named,
     -- whom the image named, and itself where it doesn't wait for its hold.
@@ -138,7 +138,7 @@ module _ {P D : Type 0} (bytes : D → Option (List ℕ)) where
       pub queued : new.queued ≡ false
       pub at_is : new.at ≡ at_after deed
       pub line_is : new.line ≡ at_hand + lines_past deed
-      pub wakes : wants ≡ asks (listed named ++ listed (woken_by deed) ++ listed (itself old.co (at_after deed))) false
+      pub wakes : wants ≡ wants_wakes (listed named ++ listed (woken_by deed) ++ listed (itself old.co (at_after deed))) false
 
     -- It retired: no line is left. It wakes whom its unlock named, and the last of all streams has its home quit.
     pub record Retiring (wants : Wants) (new : Stream P (ImageState D) (Note D)) : Type 0 where
@@ -149,7 +149,7 @@ module _ {P D : Type 0} (bytes : D → Option (List ℕ)) where
       pub queued : new.queued ≡ false
       pub at_is : new.at ≡ at.Gone
       pub line_is : new.line ≡ at_hand
-      pub wakes : wants ≡ asks (listed named) (going == 0)
+      pub wakes : wants ≡ wants_wakes (listed named) (going == 0)
 
     -- one resume
     abbrev pub Resumes : Wants → CoStep → Stream P (ImageState D) (Note D) → Type 0

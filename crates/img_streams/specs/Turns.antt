@@ -11,9 +11,9 @@ use Rattle.co_mutex.specs.Plays.{done}
 use Rattle.co_mutex.specs.Calls.{HoldsNow, Unlocks, Queues}
 
 -- where a pass is between two turns
-abbrev pub place_of : Bool → PassPlace
-place_of false = AtRest
-place_of true = Queued
+abbrev pub pass_place_of : Bool → PassPlace
+pass_place_of false = AtRest
+pass_place_of true = Queued
 
 module _ {T : Type 0} where
   -- none of these entries gives the lock up

@@ -1,8 +1,8 @@
 //! How a coroutine takes its lock in one resume, or goes on waiting for it.
 ghost use Rattle.std.specs.Prelude.{◌≡◌};
 ghost use Rattle.co_mutex.specs.Passes.{IsPassOf, built_of, known};
-ghost use Rattle.co_mutex.specs.Calls.{word_of};
-ghost use Rattle.img_streams.specs.Turns.{place_of, Reaches};
+ghost use Rattle.co_mutex.specs.Calls.{co_id_word};
+ghost use Rattle.img_streams.specs.Turns.{pass_place_of, Reaches};
 
 use co_mutex::{CoMutex, Lock, LockRule, Pass};
 use co_state::CoId;
@@ -17,9 +17,9 @@ pub(crate) fn reach<P: LockRule, R: Wait>(
     co: CoId,
 ) -> Lock<P>
     requires pass { IsPassOf lock.now pass.old }
-    requires place { (known pass.old).place ≡ place_of queued }
+    requires place { (known pass.old).place ≡ pass_place_of queued }
     ensures pass { IsPassOf lock.now pass.new }
-    ensures reaches { Reaches P.note (built_of lock.now) queued (word_of co) (known pass.old) result (known pass.new) }
+    ensures reaches { Reaches P.note (built_of lock.now) queued (co_id_word co) (known pass.old) result (known pass.new) }
 {
     if queued {
         lock.resumed(pass)

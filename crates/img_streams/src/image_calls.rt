@@ -5,10 +5,10 @@ ghost use Rattle.img_requests.specs.ImageState.{OnBegun};
 ghost use Rattle.img_requests.specs.Pieces.{HasRoom};
 ghost use Rattle.img_shared.specs.declared.phases.Phase.TheVariants.{Idle};
 ghost use Rattle.img_shared.specs.Calls.{Enters, IsServing, Serves};
-ghost use Rattle.img_shared.specs.Journals.{entries_of};
+ghost use Rattle.img_shared.specs.Journals.{noted_count};
 ghost use Rattle.img_shared.specs.Notes.{SameNotes};
 ghost use Rattle.img_shared.specs.Phases.{phase_at, done_in, CanLeave};
-ghost use Rattle.img_streams.specs.ImageCalls.{come_to, coroutine_of, IsWaitingFor, TakesUp, LeavesSo, Retires, OnGranted};
+ghost use Rattle.img_streams.specs.ImageCalls.{come_to, coroutine_of_stream, IsWaitingFor, TakesUp, LeavesSo, Retires, OnGranted};
 
 use crate::answers::Grant;
 use crate::boxed::BoxedImage;
@@ -20,7 +20,7 @@ use img_shared::{Enter, Image, Piece};
 /// The coroutine of a stream that is to be woken.
 fn named_in<D: Device>(image: &Image<D>, woken: Option<u32>) -> Option<CoId>
     requires known { IfSome woken (λ next. next < length image.now.requests) }
-    ensures { result ≡ option_map (coroutine_of image.now) woken }
+    ensures { result ≡ option_map (coroutine_of_stream image.now) woken }
 {
     match woken {
         None => None,
@@ -35,7 +35,7 @@ fn named_in<D: Device>(image: &Image<D>, woken: Option<u32>) -> Option<CoId>
 pub(crate) fn enter<D: Device>(image: &mut BoxedImage<D>, co: CoId, request: &Request) -> Enter
     requires known { co.co < length image.old.requests }
     requires free { phase_at image.old.phases co.co ≡ Idle }
-    requires due { entries_of co.co image.old.journal < slice_index image.old.requests co.co }
+    requires due { noted_count co.co image.old.journal < slice_index image.old.requests co.co }
     requires small { length_of request.now < 2 ^ 32 }
     ensures entered { Enters (come_to co image.old) co.co request.now result image.new }
     ensures clean { OnBegun result (D.bytes image.old.device ≡ D.bytes image.old.left) }
@@ -105,7 +105,7 @@ pub(crate) fn leave<D: Device>(image: &mut BoxedImage<D>, co: CoId) -> Option<Co
 pub(crate) fn retire<D: Device>(image: &mut BoxedImage<D>, co: CoId) -> u32
     requires known { co.co < length image.old.requests }
     requires free { phase_at image.old.phases co.co ≡ Idle }
-    requires all { entries_of co.co image.old.journal ≡ slice_index image.old.requests co.co }
+    requires all { noted_count co.co image.old.journal ≡ slice_index image.old.requests co.co }
     ensures retired { Retires co result image.old image.new }
     ensures others { SameNotes D.bytes co.co image.old image.new }
 {

@@ -1,7 +1,7 @@
 ghost use Rattle.std.specs.Prelude.{◌≡◌, ◌<◌};
 ghost use Rattle.aio_model.specs.Loop.InFlight.{AtRest, Linked, ToLoad, flight_of};
 ghost use Rattle.aio_core.specs.Calls.{IsSeatOf};
-ghost use Rattle.order_tests.specs.Phases.{phase_at};
+ghost use Rattle.order_tests.specs.Phases.{phase_after};
 
 use crate::debt::Debt;
 use aio_core::{Aimed, LoopTable, Seat};
@@ -13,7 +13,7 @@ pub struct Side {
     debt: Debt,
     bh: u32,
     ghost handle: { bh < 2 },
-    ghost phase: { seat.known.phase ≡ phase_at debt seat.known.phase },
+    ghost phase: { seat.known.phase ≡ phase_after debt seat.known.phase },
 }
 
 fn announce(table: &LoopTable<u64>, seat: &mut Seat<u64>, bh: u32) -> Debt
@@ -21,7 +21,7 @@ fn announce(table: &LoopTable<u64>, seat: &mut Seat<u64>, bh: u32) -> Debt
     requires rest { seat.old.known.phase ≡ AtRest }
     requires handle { bh < table.now.sizes.handles }
     ensures seat { IsSeatOf table.now seat.new }
-    ensures phase { seat.new.known.phase ≡ phase_at result seat.new.known.phase }
+    ensures phase { seat.new.known.phase ≡ phase_after result seat.new.known.phase }
 {
     let (_, owed) = table.announce(seat, bh, Kind::Sched);
     match owed {
@@ -34,7 +34,7 @@ fn link(table: &LoopTable<u64>, seat: &mut Seat<u64>, aimed: Aimed) -> Debt
     requires seat { IsSeatOf table.now seat.old }
     requires phase { seat.old.known.phase ≡ Linked aimed.0 aimed.1 }
     ensures seat { IsSeatOf table.now seat.new }
-    ensures phase { seat.new.known.phase ≡ phase_at result seat.new.known.phase }
+    ensures phase { seat.new.known.phase ≡ phase_after result seat.new.known.phase }
 {
     match table.link(seat, aimed) {
         Ok(()) => Debt::StoreNotified,
@@ -46,7 +46,7 @@ fn load_notify_me(table: &LoopTable<u64>, seat: &mut Seat<u64>) -> Debt
     requires seat { IsSeatOf table.now seat.old }
     requires phase { seat.old.known.phase ≡ ToLoad (flight_of seat.old.known.phase) }
     ensures seat { IsSeatOf table.now seat.new }
-    ensures phase { seat.new.known.phase ≡ phase_at result seat.new.known.phase }
+    ensures phase { seat.new.known.phase ≡ phase_after result seat.new.known.phase }
 {
     if table.load_notify_me(seat) {
         Debt::SetNotifier
@@ -59,9 +59,9 @@ fn load_notify_me(table: &LoopTable<u64>, seat: &mut Seat<u64>) -> Debt
 fn step(table: &LoopTable<u64>, seat: &mut Seat<u64>, debt: Debt, bh: u32) -> Debt
     requires seat { IsSeatOf table.now seat.old }
     requires handle { bh < table.now.sizes.handles }
-    requires phase { seat.old.known.phase ≡ phase_at debt seat.old.known.phase }
+    requires phase { seat.old.known.phase ≡ phase_after debt seat.old.known.phase }
     ensures seat { IsSeatOf table.now seat.new }
-    ensures phase { seat.new.known.phase ≡ phase_at result seat.new.known.phase }
+    ensures phase { seat.new.known.phase ≡ phase_after result seat.new.known.phase }
 {
     match debt {
         Debt::Announce => announce(table, seat, bh),

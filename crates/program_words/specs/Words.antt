@@ -3,7 +3,7 @@
 use Rattle.std.specs.Prelude.{ℕ, ◌≤◌, ◌&&◌, ◌||◌, Bool, nat_eq, nat_le, nat_lt, List, [], ◌∷◌, length, drop, codes, count_by, Option, Some, None, if◌then◌else◌}
 use Rattle.std.specs.List.{list_all, starts_with}
 use Rattle.std.specs.Char.{is_ascii_digit}
-use Rattle.aio_script.specs.Text.{is, value_of}
+use Rattle.aio_script.specs.Text.{is, decimal_value}
 use Rattle.program_words.specs.declared.modes.Mode.{Mode}
 use Rattle.program_words.specs.declared.modes.Mode.TheVariants.{Image, Bells, Generated}
 
@@ -34,12 +34,12 @@ is_option word =
     || (begins_with image_key word && nat_lt (length image_key) (length word))))
 
 -- at most one of the words begins with the key
-abbrev pub is_once : List ℕ → List (List ℕ) → Bool
-is_once key words = nat_le (count_by (begins_with key) words) 1
+abbrev pub is_given_once : List ℕ → List (List ℕ) → Bool
+is_given_once key words = nat_le (count_by (begins_with key) words) 1
 
 abbrev pub is_each_once : List (List ℕ) → Bool
 is_each_once words =
-    is_once mode_key words && (is_once gen_key words && (is_once from_key words && is_once image_key words))
+    is_given_once mode_key words && (is_given_once gen_key words && (is_given_once from_key words && is_given_once image_key words))
 
 -- each word is a key and a value, and no key stands twice
 abbrev pub are_options : List (List ℕ) → Bool
@@ -58,8 +58,8 @@ IsModeWithin (Generated n from) = IsNumber 1 4096 n × IsNumber 0 65535 from
 -- the number that so many decimal digits at most stand for, where it lies within these bounds
 abbrev pub number_within : ℕ → ℕ → ℕ → List ℕ → Option ℕ
 number_within digits least most text =
-    if nat_le 1 (length text) && (nat_le (length text) digits && (list_all is_ascii_digit text && (nat_le least (value_of text) && nat_le (value_of text) most)))
-    then Some (value_of text) else None
+    if nat_le 1 (length text) && (nat_le (length text) digits && (list_all is_ascii_digit text && (nat_le least (decimal_value text) && nat_le (decimal_value text) most)))
+    then Some (decimal_value text) else None
 
 abbrev pub number_or_none : Option ℕ → Option (Option ℕ)
 number_or_none None = None

@@ -2,7 +2,7 @@
 ghost use Rattle.std.specs.Prelude.{◌≡◌, ◌≤◌, map, string_bytes, length, if◌then◌else◌, IfSome, Some, None};
 ghost use Rattle.std.specs.Char.{is_ascii_digit};
 ghost use Rattle.std.specs.List.{list_all};
-ghost use Rattle.aio_script.specs.Text.{value_of};
+ghost use Rattle.aio_script.specs.Text.{decimal_value};
 ghost use Rattle.program_words.specs.Words.{IsNumber, from_key, gen_key, number_said, number_within, value_said};
 
 use crate::options::{FROM, GEN, value_said};
@@ -50,7 +50,7 @@ fn number_within(text: &[u8], digits: usize, least: u32, most: u32) -> Option<u3
 // What at most nine digits stand for.
 fn read_digits(text: &[u8]) -> Option<u64>
     requires { length text.now ≤ 9 }
-    ensures { result ≡ (if list_all is_ascii_digit text.now then Some (value_of text.now) else None) }
+    ensures { result ≡ (if list_all is_ascii_digit text.now then Some (decimal_value text.now) else None) }
 {
     let mut value: u64 = 0;
     for digit in text {

@@ -1,7 +1,7 @@
 //! Words, each a key and a value behind it.
 ghost use Rattle.std.specs.Prelude.{◌≡◌, map, string_bytes, drop, length, false, true, MatchOption, Some, None};
 ghost use Rattle.std.specs.List.{list_all};
-ghost use Rattle.program_words.specs.Words.{are_options, begins_with, image_key, is_each_once, is_once, is_option, value_said};
+ghost use Rattle.program_words.specs.Words.{are_options, begins_with, image_key, is_each_once, is_given_once, is_option, value_said};
 
 pub(crate) const MODE: &str = "--mode=";
 
@@ -64,7 +64,10 @@ fn are_known(words: &[String]) -> bool
 fn is_each_once(words: &[String]) -> bool
     ensures { result ≡ is_each_once (map string_bytes words.now) }
 {
-    is_once(words, MODE) && is_once(words, GEN) && is_once(words, FROM) && is_once(words, IMAGE)
+    is_given_once(words, MODE)
+        && is_given_once(words, GEN)
+        && is_given_once(words, FROM)
+        && is_given_once(words, IMAGE)
 }
 
 fn is_option(word: &str) -> bool
@@ -83,8 +86,8 @@ fn begins_with(word: &str, key: &str) -> bool
 }
 
 /// Whether at most one word begins with the key.
-fn is_once(words: &[String], key: &str) -> bool
-    ensures { result ≡ is_once key.now (map string_bytes words.now) }
+fn is_given_once(words: &[String], key: &str) -> bool
+    ensures { result ≡ is_given_once key.now (map string_bytes words.now) }
 {
     words
         .iter()

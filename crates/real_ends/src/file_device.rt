@@ -1,7 +1,7 @@
 ghost use Rattle.std.specs.Prelude.{◌≡◌, ◌+◌, ◌≤◌, [], ◌∷◌, None, length, is_err, is_some, not, true, false, IfOk, IsOkAnd, OnErr, OnOk};
 ghost use Rattle.aio_words.specs.Called.{device_call};
-ghost use Rattle.aio_words.specs.Calls.{one_more};
 ghost use Rattle.aio_words.specs.Faults.{HasRisen};
+ghost use Rattle.aio_model.specs.Counts.{one_more};
 
 use aio_words::{Device, DeviceAsk, DeviceCall, Failed, NoMemory, Trail};
 use std::fs::{File, OpenFile, OpenOptions};

@@ -9,9 +9,9 @@ use Rattle.script_generator.specs.declared.sums.Sums.{Sums}
 
 -- how many bytes a reply tells as written, as found by a read, and as made zero
 
-abbrev pub written_by : Reply → ℕ
-written_by (Put n) = n
-written_by reply = 0
+abbrev pub written_bytes : Reply → ℕ
+written_bytes (Put n) = n
+written_bytes reply = 0
 
 abbrev pub got_by : Reply → ℕ
 got_by (Got bytes) = length bytes
@@ -24,7 +24,7 @@ zeroed_by reply = 0
 -- the sums over all replies
 
 abbrev pub written_in : List Placed → ℕ
-written_in served = sum (map (λ placed. written_by placed.reply) served)
+written_in served = sum (map (λ placed. written_bytes placed.reply) served)
 
 abbrev pub got_in : List Placed → ℕ
 got_in served = sum (map (λ placed. got_by placed.reply) served)

@@ -1,7 +1,7 @@
 //! What a run of the generated script comes to.
 ghost use Rattle.std.specs.Prelude.{◌≡◌, ◌<◌, ◌^◌, length};
 ghost use Rattle.aio_model.specs.Serving.SerialHistory.{errors_of};
-ghost use Rattle.script_generator.specs.Sums.{got_by, got_in, held, sums_of, written_by, written_in, zeroed_by, zeroed_in};
+ghost use Rattle.script_generator.specs.Sums.{got_by, got_in, held, sums_of, written_bytes, written_in, zeroed_by, zeroed_in};
 
 use aio_model::{Placed, Reply};
 
@@ -50,13 +50,13 @@ fn written_in(served: &[Placed]) -> u64
 {
     let mut total: u64 = 0;
     for placed in served {
-        total = total.saturating_add(written_by(&placed.reply));
+        total = total.saturating_add(written_bytes(&placed.reply));
     }
     total
 }
 
-fn written_by(reply: &Reply) -> u64
-    ensures { result ≡ written_by reply.now }
+fn written_bytes(reply: &Reply) -> u64
+    ensures { result ≡ written_bytes reply.now }
 {
     match reply {
         Reply::Put(n) => u64::from(*n),

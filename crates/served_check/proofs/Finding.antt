@@ -11,7 +11,7 @@ use Rattle.aio_model.specs.declared.scripts.image_scripts.What.TheVariants.{Ask}
 use Rattle.aio_model.specs.Serving.Asked.{asked, is_ask, request_named, requests_of}
 use Rattle.served_check.specs.declared.cursors.Cursor.{Cursor}
 use Rattle.served_check.specs.declared.cursors.Cursors.{Cursors}
-use Rattle.served_check.specs.Cursors.{cursor_at, done_at, one_more, is_of, IsNextAt, CursorStands, AreAt, AreLinked, IsAsked}
+use Rattle.served_check.specs.Cursors.{cursor_at, done_at, one_more_of, is_of, IsNextAt, CursorStands, AreAt, AreLinked, IsAsked}
 use Rattle.served_check.proofs.Named.{ask, absent_past, named_at, one_above}
 
 module _ (lines : List Step) (cursors : Cursors) (are_at : AreAt lines cursors) (placed : Placed) (cursor : Cursor)
@@ -76,7 +76,7 @@ AreAt-set lines old new stream cursor same is_set behind at = record {
 -- one more of a stream was served
 pub counts_set : (old new : Cursors) (stream index : ℕ) (cursor : Cursor) → index ≡ done_at old stream → cursor.done ≡ index + 1
     → ((other : ℕ) → cursor_at new other ≡ cond (stream == other) cursor (cursor_at old other))
-    → (other : ℕ) → done_at new other ≡ one_more stream (done_at old) other
+    → (other : ℕ) → done_at new other ≡ one_more_of stream (done_at old) other
 counts_set old new stream index cursor due done is_set other = elim (cases_Bool (stream == other)) [
   | inl h ↦
       let here : done_at new other ≡ cursor.done = ap (λ (c : Cursor). c.done) (is_set other ∙ cond-true (stream == other) cursor (cursor_at old other) h) in

@@ -6,7 +6,7 @@ use Rattle.aio_model.specs.declared.serving.replies.Placed.{Placed}
 use Rattle.aio_model.specs.Serving.Asked.{Asked}
 use Rattle.aio_model.specs.Serving.{bytes_after}
 use Rattle.aio_model.specs.Serving.SerialHistory.{CountsFrom, FitAlong, indices_of}
-use Rattle.served_check.specs.Cursors.{one_more}
+use Rattle.served_check.specs.Cursors.{one_more_of}
 use Rattle.served_check.specs.Judging.{RepliesGoOn, IsNext, Advances}
 
 module _ (stream : ℕ) (placed : Placed) (served : List Placed) where
@@ -18,7 +18,7 @@ module _ (stream : ℕ) (placed : Placed) (served : List Placed) where
 
   -- the indices behind the first reply
   pub counts_on : (done : ℕ → ℕ) → CountsFrom (done stream) (indices_of stream (placed ∷ served))
-      → CountsFrom (one_more placed.stream done stream) (indices_of stream served)
+      → CountsFrom (one_more_of placed.stream done stream) (indices_of stream served)
   counts_on done counts = elim (cases_Bool (placed.stream == stream)) [
     | inl h ↦ subst (λ n. CountsFrom n (indices_of stream served)) (sym (cond-true _ _ _ h)) (subst (CountsFrom (done stream)) (own_first h) counts).1
     | inr h ↦ subst (λ n. CountsFrom n (indices_of stream served)) (sym (cond-false _ _ _ h)) (subst (CountsFrom (done stream)) (other_first h) counts)
@@ -26,7 +26,7 @@ module _ (stream : ℕ) (placed : Placed) (served : List Placed) where
 
   -- and with it
   pub counts_back : (done : ℕ → ℕ) → placed.index ≡ done placed.stream
-      → CountsFrom (one_more placed.stream done stream) (indices_of stream served)
+      → CountsFrom (one_more_of placed.stream done stream) (indices_of stream served)
       → CountsFrom (done stream) (indices_of stream (placed ∷ served))
   counts_back done due counts = elim (cases_Bool (placed.stream == stream)) [
     | inl h ↦

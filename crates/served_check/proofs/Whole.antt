@@ -8,7 +8,7 @@ use Rattle.aio_model.specs.declared.serving.replies.Placed.{Placed}
 use Rattle.aio_model.specs.Serving.Asked.{Asked, request_named}
 use Rattle.aio_model.specs.Serving.{bytes_after}
 use Rattle.aio_model.specs.Serving.SerialHistory.{asked_name, placed_name, CountsFrom, FitAlong, indices_of, IsSerialHistory}
-use Rattle.served_check.specs.Cursors.{none_done, one_more}
+use Rattle.served_check.specs.Cursors.{none_done, one_more_of}
 use Rattle.served_check.specs.Judging.{RepliesGoOn}
 use Rattle.served_check.proofs.RepliesGoOn.{counts_on, counts_first}
 
@@ -108,7 +108,7 @@ away_past : (stream index : ℕ) (done : ℕ → ℕ) (served : List Placed) →
 away_past stream index done [] below counts = tt
 away_past stream index done (placed ∷ served) below counts =
     let here : placed.index ≡ done placed.stream = counts_first placed served (done placed.stream) (counts placed.stream) in
-    let more : done stream ≤ one_more placed.stream done stream = elim (cases_Bool (placed.stream == stream)) [
+    let more : done stream ≤ one_more_of placed.stream done stream = elim (cases_Bool (placed.stream == stream)) [
       | inl h ↦ subst (λ n. done stream ≤ n) (sym (cond-true _ _ _ h)) (omega arith)
       | inr h ↦ subst (λ n. done stream ≤ n) (sym (cond-false _ _ _ h)) (omega arith)
     ] in (
@@ -116,16 +116,16 @@ away_past stream index done (placed ∷ served) below counts =
           let s : stream ≡ placed.stream = ap (λ (n : ℕ × ℕ). n.0) e in
           let i : index ≡ placed.index = ap (λ (n : ℕ × ℕ). n.1) e in
           omega (arith, below, here, i, ap done s),
-      away_past stream index (one_more placed.stream done) served (omega (arith, below, more)) (λ s. counts_on s placed served done (counts s)),
+      away_past stream index (one_more_of placed.stream done) served (omega (arith, below, more)) (λ s. counts_on s placed served done (counts s)),
     )
 
 apart_along : (done : ℕ → ℕ) (served : List Placed) → ((s : ℕ) → CountsFrom (done s) (indices_of s served)) → AreApart served
 apart_along done [] counts = tt
 apart_along done (placed ∷ served) counts =
     let here : placed.index ≡ done placed.stream = counts_first placed served (done placed.stream) (counts placed.stream) in
-    let next : one_more placed.stream done placed.stream ≡ done placed.stream + 1 = cond-true _ _ _ (eq-eqb placed.stream placed.stream refl) in
-    let rest : (s : ℕ) → CountsFrom (one_more placed.stream done s) (indices_of s served) = λ s. counts_on s placed served done (counts s) in
-    (away_past placed.stream placed.index (one_more placed.stream done) served (omega (arith, here, next)) rest, apart_along (one_more placed.stream done) served rest)
+    let next : one_more_of placed.stream done placed.stream ≡ done placed.stream + 1 = cond-true _ _ _ (eq-eqb placed.stream placed.stream refl) in
+    let rest : (s : ℕ) → CountsFrom (one_more_of placed.stream done s) (indices_of s served) = λ s. counts_on s placed served done (counts s) in
+    (away_past placed.stream placed.index (one_more_of placed.stream done) served (omega (arith, here, next)) rest, apart_along (one_more_of placed.stream done) served rest)
 
 module _ (size : ℕ) (asked : List Asked) (bytes : List ℕ) (served : List Placed) where
   pub RepliesGoOn-whole : length served ≡ length asked → RepliesGoOn size asked none_done bytes served → IsSerialHistory size asked (Some bytes) served

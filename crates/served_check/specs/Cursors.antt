@@ -21,8 +21,8 @@ abbrev pub none_done : ℕ → ℕ
 none_done stream = 0
 
 -- with one more of this stream
-abbrev pub one_more : ℕ → (ℕ → ℕ) → ℕ → ℕ
-one_more stream done other = if stream == other then done other + 1 else done other
+abbrev pub one_more_of : ℕ → (ℕ → ℕ) → ℕ → ℕ
+one_more_of stream done other = if stream == other then done other + 1 else done other
 
 -- a line asks a request of this stream
 abbrev pub is_of : ℕ → Option Step → Bool

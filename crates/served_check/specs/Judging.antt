@@ -5,7 +5,7 @@ use Rattle.aio_model.specs.declared.serving.replies.Placed.{Placed}
 use Rattle.aio_model.specs.Serving.Asked.{Asked, request_named}
 use Rattle.aio_model.specs.Serving.{Fits, bytes_after}
 use Rattle.aio_model.specs.Serving.SerialHistory.{CountsFrom, FitAlong, indices_of}
-use Rattle.served_check.specs.Cursors.{one_more}
+use Rattle.served_check.specs.Cursors.{one_more_of}
 
 -- The replies go on from here: each stream's indices count from the number of its requests that were served, and each
 -- reply fits on what the ones before it leave.
@@ -23,5 +23,5 @@ pub record IsNext (size : ℕ) (asked : List Asked) (done : ℕ → ℕ) (bytes 
 -- a reply came next, and these are the numbers and the bytes behind it
 pub record Advances (size : ℕ) (asked : List Asked) (placed : Placed) (done done' : ℕ → ℕ) (bytes bytes' : List ℕ) : Type 0 where
   pub next : IsNext size asked done bytes placed
-  pub counts : (stream : ℕ) → done' stream ≡ one_more placed.stream done stream
+  pub counts : (stream : ℕ) → done' stream ≡ one_more_of placed.stream done stream
   pub after : bytes' ≡ bytes_after next.request placed.reply bytes

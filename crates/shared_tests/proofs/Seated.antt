@@ -4,7 +4,7 @@ use Rattle.std.proofs.lemmas.List.{length-replicate, take_more}
 use Rattle.img_shared.specs.declared.phases.Phase.{Phase}
 use Rattle.img_shared.specs.declared.phases.Phase.TheVariants.{Idle}
 use Rattle.img_shared.specs.Images.{ImageState}
-use Rattle.img_shared.specs.Journals.{entries_of}
+use Rattle.img_shared.specs.Journals.{noted_count}
 use Rattle.img_shared.specs.Notes.{Note, note, SameNotes}
 use Rattle.img_shared.specs.Phases.{phase_at}
 use Rattle.img_join.proofs.Accounts.{length_from}
@@ -19,7 +19,7 @@ module _ {D : Type 0} (bytes : D → Option (List ℕ)) (s : ℕ) (old new : Ima
   sits_kept : (k left : ℕ) (turn : Turn) (request : Request) → k ≢ s → Sits k left turn request old → Sits k left turn request new
   sits_kept k left turn request ne sits =
       let e : note bytes new k ≡ note bytes old k = same k ne in
-      let entries : entries_of k new.journal ≡ entries_of k old.journal =
+      let entries : noted_count k new.journal ≡ noted_count k old.journal =
       sym (length_from 0 k new.journal) ∙ ap (λ (n : Note D). length n.entries) e ∙ length_from 0 k old.journal in
       record {
         known = omega (arith, sits.known, ap (λ (n : Note D). n.streams) e);
@@ -152,7 +152,7 @@ all_new_so image front (l ∷ lefts) (p ∷ players) is none idle (stream, many,
         record {
           known = omega (arith, stream, below);
           rows = omega (arith, stream, below, ap (λ (ps : List Phase). length ps) idle, length-replicate (length image.requests) Idle);
-          due = omega (arith, ap (λ j. entries_of p.stream j) none, many, due, ap (slice_index image.requests) stream);
+          due = omega (arith, ap (λ j. noted_count p.stream j) none, many, due, ap (slice_index image.requests) stream);
           turned = subst (λ (t : Turn). TurnedTo t p.stream p.request p.left (phase_at image.phases p.stream)) (sym turn)
               (ap (λ (ps : List Phase). phase_at ps p.stream) idle ∙ idle_all (length image.requests) p.stream);
         },

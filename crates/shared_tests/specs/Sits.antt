@@ -6,7 +6,7 @@ use Rattle.img_shared.specs.declared.phases.Phase.{Phase}
 use Rattle.img_shared.specs.declared.phases.Phase.TheVariants.{Idle, Waiting}
 use Rattle.img_shared.specs.Calls.{IsServing}
 use Rattle.img_shared.specs.Images.{ImageState}
-use Rattle.img_shared.specs.Journals.{entries_of}
+use Rattle.img_shared.specs.Journals.{noted_count}
 use Rattle.img_shared.specs.Phases.{phase_at, done_in, CanLeave}
 use Rattle.shared_tests.specs.declared.turn.Turn.{Turn}
 use Rattle.shared_tests.specs.declared.turn.Turn.TheVariants.{Rest, Wait, Serve, Leave, Gone}
@@ -21,5 +21,5 @@ TurnedTo Gone stream request left phase = Unit {0}
 pub record Sits {D : Type 0} (stream left : ℕ) (turn : Turn) (request : Request) (image : ImageState D) : Type 0 where
   pub known : stream < length image.requests
   pub rows : stream < length image.phases
-  pub due : entries_of stream image.journal + left ≡ slice_index image.requests stream
+  pub due : noted_count stream image.journal + left ≡ slice_index image.requests stream
   pub turned : TurnedTo turn stream request left (phase_at image.phases stream)

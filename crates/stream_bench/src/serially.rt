@@ -2,7 +2,7 @@
 //! that of one request at a time, and takes all requests as those of its first stream.
 ghost use Rattle.std.specs.Prelude.{◌≡◌, ◌+◌, ◌<◌, ◌≤◌, ◌^◌, IsTrue, [], ◌∷◌, List, ℕ, length, None, IfOk};
 ghost use Rattle.aio_model.specs.Serving.{length_of};
-ghost use Rattle.img_requests.specs.Journal.{entries_of};
+ghost use Rattle.img_requests.specs.Journal.{entry_count};
 ghost use Rattle.img_requests.specs.Pieces.{HasRoom};
 ghost use Rattle.img_requests.specs.Progress.{IsServedThrough, UnderWay};
 
@@ -39,12 +39,12 @@ fn serve_request<D: Device>(
 ) -> Placed
     requires free { image.old.present ≡ None }
     requires requests { image.old.requests ≡ 4096 ∷ [] }
-    requires due { entries_of 0 image.old.journal < 4096 }
+    requires due { entry_count 0 image.old.journal < 4096 }
     requires small { length_of request.now < 2 ^ 32 }
     requires room { HasRoom request.now buffer.items }
     ensures free { image.new.present ≡ None }
     ensures requests { image.new.requests ≡ 4096 ∷ [] }
-    ensures counted { entries_of 0 image.new.journal ≡ entries_of 0 image.old.journal + 1 }
+    ensures counted { entry_count 0 image.new.journal ≡ entry_count 0 image.old.journal + 1 }
 {
     let place = match image.enter(0, request) {
         Enter::Begun => {
@@ -94,7 +94,7 @@ fn serve_lines<D: Device>(
     requires few { length lines.now ≤ 4096 }
     requires free { image.old.present ≡ None }
     requires requests { image.old.requests ≡ 4096 ∷ [] }
-    requires new { entries_of 0 image.old.journal ≡ 0 }
+    requires new { entry_count 0 image.old.journal ≡ 0 }
 {
     for line in lines {
         if let What::Ask(request) = &line.what {

@@ -15,7 +15,7 @@ use Rattle.aio_script.specs.Bounds.{AsksLittle, IsAtHome, IsBounded, IsWithin}
 use Rattle.aio_script.specs.Grammar.{has_stream}
 use Rattle.img_join.specs.Ended.{HaveOwnIds, AreOurs}
 use Rattle.img_streams.specs.Lines.{AreShort, IsShort}
-use Rattle.stream_ends.specs.Images.{counts_for, ids_of}
+use Rattle.stream_ends.specs.Images.{counts_for, ids_of_lines}
 
 -- how many of the lines are requests
 abbrev pub asks_of : List Step → ℕ
@@ -66,7 +66,7 @@ first_or_later : (a b : Bool) → (a || b) ≡ true → (a ≡ true) ⊎ (b ≡ 
 first_or_later true b known = inl refl
 first_or_later false b known = inr known
 
-stream_known : (s : ℕ) (streams : List Stream) → has_stream s streams ≡ true → (k : ℕ) × (k < length (ids_of streams)) × (slice_index (ids_of streams) k ≡ s)
+stream_known : (s : ℕ) (streams : List Stream) → has_stream s streams ≡ true → (k : ℕ) × (k < length (ids_of_lines streams)) × (slice_index (ids_of_lines streams) k ≡ s)
 stream_known s [] known = cc known
 stream_known s (first ∷ streams) known =
     elim (first_or_later (first.id == s) (has_stream s streams) known) [
@@ -74,7 +74,7 @@ stream_known s (first ∷ streams) known =
       | inr h ↦ let later = stream_known s streams h in (suc later.0, omega (arith, later.1), later.2)
     ]
 
-pub are_ours : (loops : ℕ) (streams : List Stream) (lines : List Step) → AllByRecursion (IsWithin loops streams) lines → AreOurs (ids_of streams) lines
+pub are_ours : (loops : ℕ) (streams : List Stream) (lines : List Step) → AllByRecursion (IsWithin loops streams) lines → AreOurs (ids_of_lines streams) lines
 are_ours loops streams [] each = tt
 are_ours loops streams (step ∷ lines) each = (stream_known step.stream streams each.0.known, are_ours loops streams lines each.1)
 
@@ -142,12 +142,12 @@ requests_together ids (step ∷ lines) distinct =
       sum_by-cons (λ (s : Step). one_if (is_ask s.what)) step lines,
     )
 
-pub counts_together : (script : Script) → IsBounded script → sum (counts_for script.lines (ids_of script.streams)) ≤ asks_of script.lines
+pub counts_together : (script : Script) → IsBounded script → sum (counts_for script.lines (ids_of_lines script.streams)) ≤ asks_of script.lines
 counts_together script bounded =
-    omega (arith, sum-map (λ id. requests_of id script.lines) (ids_of script.streams), requests_together (ids_of script.streams) script.lines bounded.apart)
+    omega (arith, sum-map (λ id. requests_of id script.lines) (ids_of_lines script.streams), requests_together (ids_of_lines script.streams) script.lines bounded.apart)
 
 -- nor than all lines
-pub counts_fit : (script : Script) → IsBounded script → sum (counts_for script.lines (ids_of script.streams)) ≤ length script.lines
+pub counts_fit : (script : Script) → IsBounded script → sum (counts_for script.lines (ids_of_lines script.streams)) ≤ length script.lines
 counts_fit script bounded = omega (arith, counts_together script bounded, count_by-le-length (λ (s : Step). is_ask s.what) script.lines)
 
 -- a stream has no more requests than there are
@@ -158,10 +158,10 @@ own_asks id lines = sum_by-le-sum_by (λ (s : Step). one_if (s.stream == id && i
 -- ---- ids
 
 -- each is below 64
-low_ids : (loops : ℕ) (streams : List Stream) → AllByRecursion (IsAtHome loops) streams → All (λ id. id < 64) (ids_of streams)
+low_ids : (loops : ℕ) (streams : List Stream) → AllByRecursion (IsAtHome loops) streams → All (λ id. id < 64) (ids_of_lines streams)
 low_ids loops [] home k d inside = absurd (omega arith)
 low_ids loops (stream ∷ streams) home zero d inside = omega (arith, home.0.id)
 low_ids loops (stream ∷ streams) home (suc k) d inside = low_ids loops streams home.1 k d (omega arith)
 
-pub ids_low : (script : Script) (ids : List ℕ) → IsBounded script → ids ≡ ids_of script.streams → All (λ id. id < 64) ids
+pub ids_low : (script : Script) (ids : List ℕ) → IsBounded script → ids ≡ ids_of_lines script.streams → All (λ id. id < 64) ids
 ids_low script ids bounded is = subst (All (λ id. id < 64)) (sym is) (low_ids script.loops script.streams bounded.at_home)

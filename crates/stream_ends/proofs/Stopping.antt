@@ -23,14 +23,14 @@ use Rattle.img_join.specs.Placing.{placed_from, row_at, rest_of}
 use Rattle.img_shared.specs.declared.journal.Entry.{Entry}
 use Rattle.img_shared.specs.declared.phases.Phase.TheVariants.{Retired}
 use Rattle.img_shared.specs.Images.{ImageState}
-use Rattle.img_shared.specs.Journals.{entries_of}
+use Rattle.img_shared.specs.Journals.{noted_count}
 use Rattle.img_shared.specs.Notes.{Note}
 use Rattle.img_shared.specs.Phases.{phase_at}
 use Rattle.img_streams.specs.declared.stream.Stream.{Stream}
 use Rattle.img_streams.specs.Retired.{ArePartsOf, AreUnused, HaveRetired, IsRetired, ShowsRetired}
 use Rattle.img_streams.specs.Streams.{source}
 use Rattle.img_streams.proofs.Settling.{parts_of_retired}
-use Rattle.stream_ends.specs.Images.{IsLockFor, counts_for, device_behind, ids_of}
+use Rattle.stream_ends.specs.Images.{IsLockFor, counts_for, device_behind, ids_of_lines}
 use Rattle.stream_ends.specs.Starts.{AllAt}
 use Rattle.stream_ends.specs.Stops.{HaveStopped, IsScriptServed, bytes_filled}
 use Rattle.stream_ends.proofs.Places.{at_below, at_mapped, below_at, from_mapped, in_either, in_left, in_right, index_mapped, read_mapped, same_sum}
@@ -41,16 +41,16 @@ use Rattle.stream_ends.proofs.Starting.{length_counts, length_ids}
 pub record IsClosed {P D : Type 0} (bytes : D → Option (List ℕ)) (script : Script) (lock : CoMutex P (ImageState D) (Note D)) (rows : List (List (List ℕ))) (image : ImageState D) : Type 0 where
   pub opening : image.opening ≡ device_behind lock
   pub sized : image.size ≡ script.image
-  pub streams : length image.requests ≡ length (ids_of script.streams)
-  pub each : (k : ℕ) → k < length (ids_of script.streams) → HasRetired bytes script.lines (ids_of script.streams) image k (row_at rows k)
-  pub buffered : (k : ℕ) → k < length (ids_of script.streams) → entries_of k image.journal ≡ length (row_at rows k)
-  pub together : sum image.requests ≡ sum (counts_for script.lines (ids_of script.streams))
+  pub streams : length image.requests ≡ length (ids_of_lines script.streams)
+  pub each : (k : ℕ) → k < length (ids_of_lines script.streams) → HasRetired bytes script.lines (ids_of_lines script.streams) image k (row_at rows k)
+  pub buffered : (k : ℕ) → k < length (ids_of_lines script.streams) → noted_count k image.journal ≡ length (row_at rows k)
+  pub together : sum image.requests ≡ sum (counts_for script.lines (ids_of_lines script.streams))
 
 module _ {P D : Type 0} (bytes : D → Option (List ℕ)) (script : Script) (lock : CoMutex P (ImageState D) (Note D)) (is : IsLockFor script lock)
     (cos : List (Stream P (ImageState D) (Note D))) (stopped : HaveStopped bytes script lock cos)
     (spare : List (Pass P (ImageState D) (Note D))) (few : length spare + length script.streams ≡ max 1 (length script.streams)) (new : AllAt (IsNew lock) spare) where
   abbrev ids : List ℕ
-  ids = ids_of script.streams
+  ids = ids_of_lines script.streams
 
   abbrev pass_of : Stream P (ImageState D) (Note D) → Pass P (ImageState D) (Note D)
   pass_of co = co.pass
@@ -192,16 +192,16 @@ past_kept script (Some told) served inside history =
 
 -- what the end tells, once ids and rows are known to be the script's and the streams'
 module _ {P D : Type 0} (bytes : D → Option (List ℕ)) (script : Script) (lock : CoMutex P (ImageState D) (Note D)) (rows : List (List (List ℕ))) (image : ImageState D) (bounded : IsBounded script)
-    (closed : IsClosed bytes script lock rows image) (ids_now : List ℕ) (ids_are : ids_now ≡ ids_of script.streams) (rows_now : List (List (List ℕ))) (rows_are : rows_now ≡ rows) where
+    (closed : IsClosed bytes script lock rows image) (ids_now : List ℕ) (ids_are : ids_now ≡ ids_of_lines script.streams) (rows_now : List (List (List ℕ))) (rows_are : rows_now ≡ rows) where
   pub whole_so : (faults : D → ℕ) (served : List Placed)
       → ((lines : List Step) → HaveOwnIds ids_now → AreOurs ids_now lines → ((k : ℕ) → k < length ids_now → HasRetired bytes lines ids_now image k (row_at rows_now k)) → IsServedWhole bytes faults lines image served)
       → IsServedWhole bytes faults script.lines image served
   whole_so faults served whole =
       whole script.lines
-      (subst HaveOwnIds (sym ids_are) (are_apart (ids_of script.streams) bounded.apart))
+      (subst HaveOwnIds (sym ids_are) (are_apart (ids_of_lines script.streams) bounded.apart))
       (subst (λ (l : List ℕ). AreOurs l script.lines) (sym ids_are) (are_ours script.loops script.streams script.lines bounded.each))
       (subst (λ (l : List ℕ). (k : ℕ) → k < length l → HasRetired bytes script.lines l image k (row_at rows_now k)) (sym ids_are)
-      (subst (λ (r : List (List (List ℕ))). (k : ℕ) → k < length (ids_of script.streams) → HasRetired bytes script.lines (ids_of script.streams) image k (row_at r k)) (sym rows_are) closed.each))
+      (subst (λ (r : List (List (List ℕ))). (k : ℕ) → k < length (ids_of_lines script.streams) → HasRetired bytes script.lines (ids_of_lines script.streams) image k (row_at r k)) (sym rows_are) closed.each))
 
   pub all_retired : (k : ℕ) → k < length ids_now → phase_at image.phases k ≡ Retired
   all_retired k below = (closed.each k (subst (λ (l : List ℕ). k < length l) ids_are below)).retired

@@ -12,8 +12,8 @@ use Rattle.img_shared.specs.Images.{ImageState}
 use Rattle.img_shared.specs.Notes.{Note}
 
 -- the streams' ids and homes, in the order of the stream lines
-abbrev pub ids_of : List StreamLine → List ℕ
-ids_of streams = map (λ stream. stream.id) streams
+abbrev pub ids_of_lines : List StreamLine → List ℕ
+ids_of_lines streams = map (λ stream. stream.id) streams
 
 abbrev pub homes_of : List StreamLine → List ℕ
 homes_of streams = map (λ stream. stream.home) streams
@@ -40,7 +40,7 @@ module _ {D : Type 0} where
 
   -- the image of a script over a device
   abbrev pub image_over : Script → D → ImageState D
-  image_over script device = new_image device script.image (counts_for script.lines (ids_of script.streams))
+  image_over script device = new_image device script.image (counts_for script.lines (ids_of_lines script.streams))
 
 module _ {P D : Type 0} where
   -- the device that was put behind the lock

@@ -16,7 +16,7 @@ use Rattle.img_streams.specs.Streams.{IsStreamOf, source}
 use Rattle.stream_ends.specs.declared.beginning.Begun.{Begun}
 use Rattle.stream_ends.specs.declared.room.EndRoom.{EndRoom}
 use Rattle.stream_ends.specs.declared.room.Rooms.{Rooms}
-use Rattle.stream_ends.specs.Images.{IsLockFor, counts_for, device_behind, ids_of, homes_of}
+use Rattle.stream_ends.specs.Images.{IsLockFor, counts_for, device_behind, ids_of_lines, homes_of}
 
 -- each item has what its place asks for
 abbrev pub AllAt : {A : Type 0} → (ℕ → A → Type 0) → List A → Type 0
@@ -25,7 +25,7 @@ AllAt {A} F xs = (k : ℕ) (x : A) → get_elem? xs k ≡ some x → F k x
 -- The memory for the end of serving: the ids of the script's streams, and room for a pass and a row of buffers of each
 -- stream and for all replies. Where the script has no stream, the lock's one pass is kept here.
 pub record IsEndRoom {P T N : Type 0} (script : Script) (lock : CoMutex P T N) (room : EndRoom P T N) : Type 0 where
-  pub ids : room.ids.items ≡ ids_of script.streams
+  pub ids : room.ids.items ≡ ids_of_lines script.streams
   pub spare : length room.passes.items + length script.streams ≡ max 1 (length script.streams)
   pub new : AllAt (IsNew lock) room.passes.items
   pub passes : max 1 (length script.streams) ≤ vec_capacity room.passes
@@ -36,7 +36,7 @@ pub record IsEndRoom {P T N : Type 0} (script : Script) (lock : CoMutex P T N) (
 
 -- the same memory before the lock is built
 pub record IsEmptyRoom {P T N : Type 0} (script : Script) (room : EndRoom P T N) : Type 0 where
-  pub ids : room.ids.items ≡ ids_of script.streams
+  pub ids : room.ids.items ≡ ids_of_lines script.streams
   pub no_passes : room.passes.items ≡ []
   pub passes : max 1 (length script.streams) ≤ vec_capacity room.passes
   pub no_rows : room.rows.items ≡ []
@@ -51,8 +51,8 @@ pub record HaveRooms (script : Script) (ids : List ℕ) (rooms : List Room) : Ty
 
 -- what is taken before the lock is built
 pub record AreRoomsFor {P T N : Type 0} (script : Script) (rooms : Rooms P T N) : Type 0 where
-  pub counts : rooms.counts.items ≡ counts_for script.lines (ids_of script.streams)
-  pub rooms_are : HaveRooms script (ids_of script.streams) rooms.rooms.items
+  pub counts : rooms.counts.items ≡ counts_for script.lines (ids_of_lines script.streams)
+  pub rooms_are : HaveRooms script (ids_of_lines script.streams) rooms.rooms.items
   pub none : rooms.streams.items ≡ []
   pub room : length script.streams ≤ vec_capacity rooms.streams
   pub ends : IsEmptyRoom script rooms.ends
@@ -66,7 +66,7 @@ module _ {P D : Type 0} (bytes : D → Option (List ℕ)) (script : Script) wher
   -- the coroutine of the script's stream line of this number, which has made no call
   pub record HasStarted (lock : CoMutex P (ImageState D) (Note D)) (number : ℕ) (co : Stream P (ImageState D) (Note D)) : Type 0 where
     pub of : IsStreamOf bytes co (source lock script)
-    pub id : co.id ≡ slice_index (ids_of script.streams) number
+    pub id : co.id ≡ slice_index (ids_of_lines script.streams) number
     pub co_is : co.co ≡ record { co = number; home = slice_index (homes_of script.streams) number }
     pub pass : IsNew lock number co.pass
     pub first : (co.at ≡ at.Between) × (co.line ≡ 0) × (co.index ≡ 0)

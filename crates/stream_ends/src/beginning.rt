@@ -3,7 +3,7 @@ ghost use Rattle.std.specs.Prelude.{◌≡◌, ◌≤◌, ◌<◌, ◌∷◌, []
 ghost use Rattle.aio_script.specs.Bounds.{IsBounded};
 ghost use Rattle.co_mutex.specs.Passes.{IsNew};
 ghost use Rattle.img_streams.specs.Rooms.{IsRoomFor};
-ghost use Rattle.stream_ends.specs.Images.{IsLockFor, device_behind, ids_of};
+ghost use Rattle.stream_ends.specs.Images.{IsLockFor, device_behind, ids_of_lines};
 ghost use Rattle.stream_ends.specs.Starts.{AreNewPasses, HasBegun, HasStarted, AreRoomsFor};
 
 use crate::room::{EndRoom, Rooms};
@@ -48,7 +48,7 @@ fn started<D: Device>(
     requires lock { IsLockFor script.now lock.now }
     requires known { number < length script.now.streams }
     requires new { IsNew lock.now number pass }
-    requires room { IsRoomFor script.now.lines (slice_index (ids_of script.now.streams) number) room }
+    requires room { IsRoomFor script.now.lines (slice_index (ids_of_lines script.now.streams) number) room }
     ensures { HasStarted D.bytes script.now lock.now number result }
 {
     let _ = lock;

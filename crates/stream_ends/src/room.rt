@@ -2,7 +2,7 @@
 ghost use Rattle.std.specs.Prelude.{◌≡◌, ◌≤◌, ◌<◌, ◌^◌, [], IfOk, length, vec_capacity};
 ghost use Rattle.std.specs.List.{All};
 ghost use Rattle.aio_script.specs.Bounds.{IsBounded};
-ghost use Rattle.stream_ends.specs.Images.{counts_for, ids_of};
+ghost use Rattle.stream_ends.specs.Images.{counts_for, ids_of_lines};
 ghost use Rattle.stream_ends.specs.Starts.{HaveRooms, IsEmptyRoom, AreRoomsFor};
 
 use aio_model::{NoMemory, Placed, Script};
@@ -69,7 +69,7 @@ impl<P: LockRule> Drop for Rooms<P> {
 
 /// The ids of the streams, in the order of their lines.
 fn ids_in(alloc: Global, script: &Script) -> Result<Vec<u32>, AllocError>
-    ensures { IfOk result (λ ids. ids.items ≡ ids_of script.now.streams) }
+    ensures { IfOk result (λ ids. ids.items ≡ ids_of_lines script.now.streams) }
 {
     script
         .streams
@@ -110,7 +110,7 @@ fn end_room<P: LockRule>(
     script: &Script,
     ids: Vec<u32>,
 ) -> Result<EndRoom<P>, AllocError>
-    requires { ids.items ≡ ids_of script.now.streams }
+    requires { ids.items ≡ ids_of_lines script.now.streams }
     ensures { IfOk result (λ ends. IsEmptyRoom script.now ends) }
 {
     let many = ids.len();

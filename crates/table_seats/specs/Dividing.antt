@@ -46,5 +46,5 @@ abbrev pub spent_part : {E : Type 0} → Part E
 spent_part = record { first = 0; count = 0; seen = []; mine = []; told = None }
 
 -- how many numbers go to the new seat
-abbrev pub half_of : ℕ → ℕ
-half_of count = count / 2
+abbrev pub half_as_many : ℕ → ℕ
+half_as_many count = count / 2

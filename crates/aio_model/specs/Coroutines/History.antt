@@ -31,12 +31,12 @@ pushed Free = Free
 pushed (Scheduled seat given) = Pushed seat given
 pushed (Pushed seat given) = Pushed seat given
 
-abbrev pub place_of : ℕ → History → CoPlace
-place_of c [] = Free
-place_of c (Schedule d cause given seat ∷ older) =
-    if c == d then Scheduled seat given else place_of c older
-place_of c (Push d seat ∷ older) = if c == d then pushed (place_of c older) else place_of c older
-place_of c (Enter d ∷ older) = if c == d then Free else place_of c older
+abbrev pub co_place_of : ℕ → History → CoPlace
+co_place_of c [] = Free
+co_place_of c (Schedule d cause given seat ∷ older) =
+    if c == d then Scheduled seat given else co_place_of c older
+co_place_of c (Push d seat ∷ older) = if c == d then pushed (co_place_of c older) else co_place_of c older
+co_place_of c (Enter d ∷ older) = if c == d then Free else co_place_of c older
 
 -- pushed and not entered, in order of pushing
 abbrev pub queue_of : History → List ℕ
@@ -49,8 +49,8 @@ queue_of (Enter c ∷ older) = drop 1 (queue_of older)
 -- isn't the home's, is pushed once and by
 -- the seat that scheduled it, and is entered where it is the first of those that were pushed and not entered.
 abbrev pub MayFollow : ℕ → Entry → History → Type 0
-MayFollow n (Schedule c cause given seat) before = (c < n) × (place_of c before ≡ Free) × (seat < 64)
-MayFollow n (Push c seat) before = (given : Bool) × (place_of c before ≡ Scheduled seat given)
+MayFollow n (Schedule c cause given seat) before = (c < n) × (co_place_of c before ≡ Free) × (seat < 64)
+MayFollow n (Push c seat) before = (given : Bool) × (co_place_of c before ≡ Scheduled seat given)
 MayFollow n (Enter c) before = head_of (queue_of before) ≡ Some c
 
 abbrev pub IsLegal : ℕ → History → Type 0

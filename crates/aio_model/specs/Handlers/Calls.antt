@@ -44,18 +44,18 @@ is_walking (call ∷ calls) = is_walking calls
 
 -- The handlers that the walk has yet to give: those of its events that were live at its begin, in order of adding,
 -- but for those that were given or removed since.
-abbrev pub waiting : List HandlerCall → List Handler
-waiting [] = []
-waiting (WalkBegin found ∷ calls) = filter (λ handler. has_event found handler.event) (live calls)
-waiting (WalkEnd ∷ calls) = []
-waiting (Give id ∷ calls) = others id (waiting calls)
-waiting (Remove id ∷ calls) = others id (waiting calls)
-waiting (Add id event tag ∷ calls) = waiting calls
+abbrev pub handlers_to_come : List HandlerCall → List Handler
+handlers_to_come [] = []
+handlers_to_come (WalkBegin found ∷ calls) = filter (λ handler. has_event found handler.event) (live calls)
+handlers_to_come (WalkEnd ∷ calls) = []
+handlers_to_come (Give id ∷ calls) = others id (handlers_to_come calls)
+handlers_to_come (Remove id ∷ calls) = others id (handlers_to_come calls)
+handlers_to_come (Add id event tag ∷ calls) = handlers_to_come calls
 
 -- how many live handlers were removed since the walk was begun
-abbrev pub marked : List HandlerCall → ℕ
-marked [] = 0
-marked (WalkBegin found ∷ calls) = 0
-marked (WalkEnd ∷ calls) = 0
-marked (Remove id ∷ calls) = if is_walking calls && is_some (named id (live calls)) then marked calls + 1 else marked calls
-marked (call ∷ calls) = marked calls
+abbrev pub removed_in_walk : List HandlerCall → ℕ
+removed_in_walk [] = 0
+removed_in_walk (WalkBegin found ∷ calls) = 0
+removed_in_walk (WalkEnd ∷ calls) = 0
+removed_in_walk (Remove id ∷ calls) = if is_walking calls && is_some (named id (live calls)) then removed_in_walk calls + 1 else removed_in_walk calls
+removed_in_walk (call ∷ calls) = removed_in_walk calls

@@ -37,26 +37,26 @@ enqueue_made i asked was =
     if was.pending then Enqueue i asked home was ∷ [] else Put i home ∷ (Enqueue i asked home was ∷ [])
 
 -- what an action adds to the history where it found these flags, newest first
-abbrev pub made_by : ActKind → Flags → History
-made_by (Schedule i) was = enqueue_made i ToCall was
-made_by (Idle i) was = enqueue_made i ToCallIdle was
-made_by (Delete i) was = enqueue_made i ToDelete was
-made_by (CancelOf i) was = Cancel i home was ∷ []
-made_by Nest was = []
+abbrev pub made_by_act : ActKind → Flags → History
+made_by_act (Schedule i) was = enqueue_made i ToCall was
+made_by_act (Idle i) was = enqueue_made i ToCallIdle was
+made_by_act (Delete i) was = enqueue_made i ToDelete was
+made_by_act (CancelOf i) was = Cancel i home was ∷ []
+made_by_act Nest was = []
 
 -- these actions, done in order, add these entries, newest first; the flags that they found are for the history to tell
 abbrev pub Add : List ActKind → History → Type 0
 Add [] made = made ≡ []
 Add (act ∷ acts) made =
-    (was : Flags) × (later : History) × (made ≡ later ++ made_by act was) × Add acts later
+    (was : Flags) × (later : History) × (made ≡ later ++ made_by_act act was) × Add acts later
 
 -- A runner's state is what each callback that waits for a nested poll has still to do, the last that nested in front.
 abbrev pub Waiting : Type 0
 Waiting = List (List ActKind)
 
-abbrev pub answer_of : Option (List ActKind) → Answer
-answer_of None = Ended
-answer_of (Some later) = Nests
+abbrev pub answer_of_acts : Option (List ActKind) → Answer
+answer_of_acts None = Ended
+answer_of_acts (Some later) = Nests
 
 -- who nests waits for its nested poll, unless no nest was left: it is then cut, and does no more
 abbrev pub waiting_after : Option (List ActKind) → ℕ → Waiting → Waiting
@@ -71,5 +71,5 @@ pub record DoesActs (acts_at : ℕ → List ActKind) (before : Waiting) (entered
   pub below : Waiting
   pub finds : MatchBool entered.lent.first ((todo ≡ acts_called acts_at entered.lent.bh entered.lent.job) × (below ≡ before)) (before ≡ todo ∷ below)
   pub adds : Add (before_nest todo) entered.made
-  pub answers : entered.answer ≡ answer_of (behind_nest todo)
+  pub answers : entered.answer ≡ answer_of_acts (behind_nest todo)
   pub leaves : after ≡ waiting_after (behind_nest todo) entered.lent.nests_left below

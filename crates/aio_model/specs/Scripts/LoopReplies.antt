@@ -1,5 +1,5 @@
 -- The commands of a loop script, done in order on one log, and what each of them answers.
-use Rattle.std.specs.Prelude.{◌≡◌, ◌⊎◌, ℕ, ◌-◌, ◌^◌, min, true, false, Option, None, Some, List, [], ◌∷◌, ◌++◌, length, map, take}
+use Rattle.std.specs.Prelude.{◌≡◌, ◌⊎◌, ℕ, ◌-◌, ◌^◌, true, false, Option, None, Some, List, [], ◌∷◌, ◌++◌, length, map, take}
 use Rattle.aio_model.specs.declared.scripts.loop_scripts.Command.{Command}
 use Rattle.aio_model.specs.declared.scripts.loop_scripts.Command.TheVariants.{Schedule, Idle, Delete, Cancel, Once, Poll, Commit, Set, Clear}
 use Rattle.aio_model.specs.declared.scripts.loop_scripts.LoopScript.{LoopScript}
@@ -14,6 +14,7 @@ use Rattle.aio_model.specs.Loop.Seats.{home, entries_of}
 use Rattle.aio_model.specs.Loop.Frame.{Lent, PollPlace, start_of, Frame, DoesEntries, called_of, cut_nests_of}
 use Rattle.aio_model.specs.Loop.Log.{Made, Log, history_of, flags_before, enqueued_log, canceled_log, begun_log, set_log, is_set_in, cleared_log, commit_of, committed_log}
 use Rattle.aio_model.specs.Scripts.LoopActs.{DoesActs, acts_of}
+use Rattle.aio_model.specs.Counts.{counted}
 
 abbrev pub sizes_of : LoopScript → Sizes
 sizes_of script = record { handles = script.handles; lots = script.lots; events = script.events }
@@ -22,10 +23,6 @@ sizes_of script = record { handles = script.handles; lots = script.lots; events 
 abbrev pub made_log : History → Log → Log
 made_log [] log = log
 made_log (e ∷ older) log = Made e ∷ made_log older log
-
--- a count stays at the greatest u64
-abbrev pub counted : ℕ → ℕ
-counted n = min n (2 ^ 64 - 1)
 
 -- how many of the called ones a poll's reply names
 abbrev pub named_most : ℕ

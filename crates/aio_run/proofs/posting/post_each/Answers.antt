@@ -1,5 +1,5 @@
 use Rattle.std.proofs.Common.{◌≡◌, ◌<◌, ◌+◌, ◌∙◌, suc, length, max, sym, ap, subst, arith, slice_index_or}
-use Rattle.co_schedule.specs.Standing.{was_scheduled}
+use Rattle.co_schedule.specs.Standing.{was_scheduled_by}
 use Rattle.img_streams.specs.Streams.{IsStreamAt}
 use Rattle.stream_ends.specs.Images.{homes_of}
 use Rattle.aio_run.proofs.Begun.{begun_more, never_yet, home_at, first_left, others_left}
@@ -41,7 +41,7 @@ post_one-requires-clause-fresh g c s =
     let low = c.loop-number-test.true in
     let is = home_at c.as_slice-lines.result.now c.args.script.now.streams k (record { id = 0; home = 0 }) c.as_slice-lines.ensures low in
     let there = subst (λ n. n < length c.args.shared.now) is (c.requires.homes k (omega (arith, low, ap length c.as_slice-lines.ensures))) in
-    ap (was_scheduled k) (c.loop-number.invariant.3 _ s there) ∙ never_yet k (homes_of c.args.script.now.streams) _ k (omega arith)
+    ap (was_scheduled_by k) (c.loop-number.invariant.3 _ s there) ∙ never_yet k (homes_of c.args.script.now.streams) _ k (omega arith)
 
 pub loop-number-preserved : goal.loop-number-preserved
 loop-number-preserved g c =

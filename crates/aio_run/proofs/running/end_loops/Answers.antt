@@ -1,7 +1,7 @@
 use Rattle.std.proofs.Common.{length, ap, subst, arith}
 use Rattle.std.specs.List.{AllByRecursion}
 use Rattle.aio_run.specs.Berths.{BerthsAreOf}
-use Rattle.aio_run.specs.Ends.{end_of}
+use Rattle.aio_run.specs.Ends.{end_of_run}
 use Rattle.aio_run.proofs.Lists.{length_pushed, mapped_more}
 use Rattle.aio_run.proofs.running.end_loops.Goals as goal
 
@@ -16,5 +16,5 @@ loop-run-preserved g c =
       berths = c.end_one.ensures.berths;
       room = omega (arith, was.room, fewer, longer, pushed, c.push_reserved.ensures.capacity);
       runs = runs.1;
-      kept = mapped_more end_of c.loop-run.ends.items _ _ c.args.runs.items c.end_one.result _ _ c.in-Some.ensures.items c.end_one.ensures.ends c.push_reserved.ensures.items was.kept;
+      kept = mapped_more end_of_run c.loop-run.ends.items _ _ c.args.runs.items c.end_one.result _ _ c.in-Some.ensures.items c.end_one.ensures.ends c.push_reserved.ensures.items was.kept;
     }

@@ -7,7 +7,7 @@ use Rattle.loop_rows.specs.Rows.{IsRow, HasNumbers}
 use Rattle.loop_threads.specs.Reserving.{IsReserved}
 use Rattle.stream_ends.specs.Images.{homes_of}
 use Rattle.aio_run.specs.declared.running.RunEnd.{RunEnd}
-use Rattle.aio_run.specs.Ends.{IsOver, end_of}
+use Rattle.aio_run.specs.Ends.{IsOver, end_of_run}
 use Rattle.aio_run.specs.Posting.{HaveBegun, AllHaveOwn, HaveSet}
 use Rattle.aio_run.specs.Readiness.{AreQuiet, HaveEntered, coroutines_of}
 use Rattle.aio_run.specs.Serving.{HasServed}
@@ -64,9 +64,9 @@ returns-clause-ends g c =
     let script = c.args.env.now.script.now in
     let runs = c.carry_streams-runs.result.items in
     let kept = c.gather.ensures.kept in (
-      ap length kept ∙ length-map runs end_of ∙ c.carry_streams-runs.ensures.long ∙ c.requires.posted.long,
+      ap length kept ∙ length-map runs end_of_run ∙ c.carry_streams-runs.ensures.long ∙ c.requires.posted.long,
       subst (AllByRecursion (λ end. IsOver (coroutines_of script) end.calls.known end.coroutines)) (sym kept)
-          (all_mapped end_of (λ (end : RunEnd _ _). IsOver (coroutines_of script) end.calls.known end.coroutines) runs c.carry_streams-runs.ensures.over),
+          (all_mapped end_of_run (λ (end : RunEnd _ _). IsOver (coroutines_of script) end.calls.known end.coroutines) runs c.carry_streams-runs.ensures.over),
     )
 
 pub returns-clause-served : goal.returns-clause-served
@@ -75,7 +75,7 @@ returns-clause-served g c k end low =
     let runs = c.carry_streams-runs.result.items in
     let here : k < length runs = omega (arith, low, c.carry_streams-runs.ensures.long, c.requires.posted.long) in
     subst (λ (l : List (RunEnd _ _)). HasServed script k (slice_index_or l k end).coroutines.history) (sym c.gather.ensures.kept)
-    (at_mapped end_of (λ (e : RunEnd _ _). HasServed script k e.coroutines.history) runs k here (λ r. c.carry_streams-runs.ensures.served k r here) end)
+    (at_mapped end_of_run (λ (e : RunEnd _ _). HasServed script k e.coroutines.history) runs k here (λ r. c.carry_streams-runs.ensures.served k r here) end)
 
 pub returns-clause-turned : goal.returns-clause-turned
 returns-clause-turned g c k end low =
@@ -83,7 +83,7 @@ returns-clause-turned g c k end low =
     let runs = c.carry_streams-runs.result.items in
     let here : k < length runs = omega (arith, low, c.carry_streams-runs.ensures.long, c.requires.posted.long) in
     subst (λ (l : List (RunEnd _ _)). HasTurned script k (slice_index_or l k end).calls.known.seen) (sym c.gather.ensures.kept)
-    (at_mapped end_of (λ (e : RunEnd _ _). HasTurned script k e.calls.known.seen) runs k here (λ r. c.carry_streams-runs.ensures.turned k r here) end)
+    (at_mapped end_of_run (λ (e : RunEnd _ _). HasTurned script k e.calls.known.seen) runs k here (λ r. c.carry_streams-runs.ensures.turned k r here) end)
 
 pub carry_streams-runs-requires-clause-loops : goal.carry_streams-runs-requires-clause-loops
 carry_streams-runs-requires-clause-loops g c κs within = sym c.requires.posted.long

@@ -1,6 +1,6 @@
 use Rattle.std.proofs.Common.{◌≡◌, ◌<◌, ◌++◌, ◌∙◌, sym, ap, subst, arith, true, false, length, drop, take}
 use Rattle.aio_chain.specs.LinkList.{contains, put_before}
-use Rattle.aio_chain.specs.Nodes.{next_in, prev_in, items_in}
+use Rattle.aio_chain.specs.Nodes.{next_of_node, prev_in, items_in}
 use Rattle.aio_chain.proofs.Circles.{Keeps}
 use Rattle.aio_chain.proofs.Calls.{prev_low, inserted}
 use Rattle.aio_chain.proofs.links.Links.insert_before.Goals as goal
@@ -10,7 +10,7 @@ insert-requires-clause-before_in c =
     let nodes = c.self.inside.nodes.items in
     let end = c.self.inside.end in
     let here : contains c.args.at (items_in nodes end) ≡ true = ap (λ list. contains c.args.at list.items) c.self.view_is ∙ c.requires.present in
-    let low = prev_low (next_in nodes) (prev_in nodes) end (items_in nodes end) c.self.invariant.circle c.args.at here in
+    let low = prev_low (next_of_node nodes) (prev_in nodes) end (items_in nodes end) c.self.invariant.circle c.args.at here in
     subst (λ ns. prev_in ns c.args.at < length ns) (sym c.deref_mut.ensures.value) (omega (arith, low, c.self.invariant.sized))
 
 -- the nodes keep the new list

@@ -1,6 +1,6 @@
 use Rattle.std.proofs.Common.{◌≡◌, ◌<◌, ◌++◌, ◌∷◌, [], ◌∙◌, sym, ap, subst, arith, false, length, drop, take}
 use Rattle.aio_chain.specs.LinkList.{contains}
-use Rattle.aio_chain.specs.Nodes.{next_in, prev_in, items_in}
+use Rattle.aio_chain.specs.Nodes.{next_of_node, prev_in, items_in}
 use Rattle.aio_chain.proofs.Circles.{Keeps}
 use Rattle.aio_chain.proofs.Calls.{last_low, pushed}
 use Rattle.aio_chain.proofs.links.Links.push_back.Goals as goal
@@ -9,7 +9,7 @@ pub insert-requires-clause-before_in : goal.insert-requires-clause-before_in
 insert-requires-clause-before_in c =
     let nodes = c.self.inside.nodes.items in
     let end = c.self.inside.end in
-    let low = last_low (next_in nodes) (prev_in nodes) end (items_in nodes end) c.self.invariant.circle in
+    let low = last_low (next_of_node nodes) (prev_in nodes) end (items_in nodes end) c.self.invariant.circle in
     subst (λ ns. prev_in ns end < length ns) (sym c.deref_mut.ensures.value) (omega (arith, low, c.self.invariant.sized))
 
 -- the nodes keep the new list

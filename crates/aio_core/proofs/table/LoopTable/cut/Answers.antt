@@ -1,5 +1,5 @@
 use Rattle.std.proofs.Common.{◌<◌, ◌-◌, sym, ap, ◌∙◌, subst, arith}
-use Rattle.table_seats.specs.Dividing.{half_of}
+use Rattle.table_seats.specs.Dividing.{half_as_many}
 use Rattle.table_seats.proofs.Splitting.{half_below, back_first, back_count, front_count}
 use Rattle.aio_core.proofs.Splitting.{split_allowed}
 use Rattle.aio_core.proofs.Opened.{same_table, head_within}
@@ -13,7 +13,7 @@ split_seat-inner-requires g c =
     let half = half_below s.me.0.count (omega arith) in (
       same_table s.table_id t.table_id s.me.0 t.key c.args.seat.now c.args.self.now c.seat.view_is c.self.view_is c.requires.seat,
       head_within t.table_id.words t.key c.self.invariant.1,
-      split_allowed _ t.key s.id (s.me.0.count - half_of s.me.0.count) s.me.0 (omega arith) (omega arith),
+      split_allowed _ t.key s.id (s.me.0.count - half_as_many s.me.0.count) s.me.0 (omega arith) (omega arith),
     )
 
 pub of-requires-clause-numbers : goal.of-requires-clause-numbers

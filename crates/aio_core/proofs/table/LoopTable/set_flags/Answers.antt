@@ -1,7 +1,7 @@
 use Rattle.std.proofs.Common.{◌<◌, sym, ap, ◌∙◌, subst, arith}
 use Rattle.aio_core.specs.Calls.{SeatState}
 use Rattle.aio_core.specs.Known.{Known}
-use Rattle.aio_core.specs.Standing.{asked_by}
+use Rattle.aio_core.specs.Standing.{asks_of_kind}
 use Rattle.aio_core.proofs.Enqueuing.{enqueue_allowed}
 use Rattle.aio_core.proofs.Opened.{same_table, seat_still, held_still, held_numbers, flags_within}
 use Rattle.aio_core.proofs.Told.{asked_is_of_handle}
@@ -15,7 +15,7 @@ fetch_or-requires g c =
     let handle : bh < t.key.handles = subst (λ z. bh < z.sizes.handles) (sym c.self.view_is) c.requires.handle in (
       same_table s.table_id t.table_id s.me.0 t.key c.args.seat.now c.args.self.now c.seat.view_is c.self.view_is c.requires.seat,
       flags_within t.table_id.words c.flags_word.result bh t.key c.self.invariant.1 c.flags_word.ensures (omega arith),
-      rw (c.flags_word.ensures, c.requires.mask) (enqueue_allowed _ t.key t.table_id.slots s.id bh s.me (asked_by c.args.kind) (held_numbers s.me _ _ c.seat.invariant) (ap (λ (z : SeatState). z.known.phase) c.seat.view_is ∙ c.requires.rest) (asked_is_of_handle c.args.kind) handle),
+      rw (c.flags_word.ensures, c.requires.mask) (enqueue_allowed _ t.key t.table_id.slots s.id bh s.me (asks_of_kind c.args.kind) (held_numbers s.me _ _ c.seat.invariant) (ap (λ (z : SeatState). z.known.phase) c.seat.view_is ∙ c.requires.rest) (asked_is_of_handle c.args.kind) handle),
     )
 
 pub invariant_of-seat : goal.invariant_of-seat

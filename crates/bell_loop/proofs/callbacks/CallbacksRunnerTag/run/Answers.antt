@@ -1,6 +1,6 @@
 use Rattle.std.proofs.Common.{◌∙◌, map, option_map, sym, ap, subst}
 use Rattle.aio_model.specs.Loop.Frame.{Nests, lent_of}
-use Rattle.bell_loop.specs.Entering.{acts_at, CanRun, DoesEntry, noted}
+use Rattle.bell_loop.specs.Entering.{acts_at, CanRun, DoesEntry, notes_left}
 use Rattle.bell_loop.proofs.Entries.{DoesEntry-ended, DoesEntry-nested, behind_within}
 use Rattle.bell_loop.proofs.callbacks.CallbacksRunnerTag.run.Goals as goal
 
@@ -32,13 +32,13 @@ returns-in-Some-clause-runs g c =
     let all = c.act_until_nest.ensures.acts in
     let acts = acts_at (map (λ l. l.items) c.args.self.now.lists.now) in
     let lent = lent_of c.args.call.now.bh (option_map (λ t. t.tag) c.args.call.now.job) c.args.call.now.first c.args.call.now.nests_left in
-    let before = noted c.args.self.now.waiting c.args.self.now.ran c.args.self.now.more c.args.self.now.rang in
+    let before = notes_left c.args.self.now.waiting c.args.self.now.ran c.args.self.now.more c.args.self.now.rang in
     record {
       made = all.made;
       back = all.back;
       did = (
         ap (λ s. s.lists) c.wait_behind.ensures.rest ∙ ap (λ s. s.lists) c.begin-todo.ensures.rest,
-        subst (λ s. DoesEntry acts before (record { lent = lent; answer = Nests; made = all.made }) (noted s.waiting s.ran s.more s.rang)) (sym c.wait_behind.ensures.rest)
+        subst (λ s. DoesEntry acts before (record { lent = lent; answer = Nests; made = all.made }) (notes_left s.waiting s.ran s.more s.rang)) (sym c.wait_behind.ensures.rest)
             (DoesEntry-nested acts c.args.call.now.bh (option_map (λ t. t.tag) c.args.call.now.job) c.args.call.now.first c.args.call.now.nests_left c.begin-todo.result.now all.made _ _ _ _ _ _ _ _ c.begin-todo.ensures.names c.begin-todo.ensures.finds all.adds c.begin-todo.ensures.rang c.in-Some.later.now _ c.in-Some.ensures.later c.wait_behind.ensures.waiting),
       );
     }

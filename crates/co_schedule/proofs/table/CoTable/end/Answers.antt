@@ -1,8 +1,9 @@
 use Rattle.std.proofs.Common.{sym, ap, ◌∙◌}
 use Rattle.co_schedule.specs.Known.{Known}
-use Rattle.co_schedule.specs.States.{counted, states_given}
+use Rattle.co_schedule.specs.States.{states_given}
 use Rattle.co_schedule.proofs.StatesTaken.{all_taken}
 use Rattle.co_schedule.proofs.table.CoTable.end.Goals as goal
+use Rattle.aio_model.specs.Counts.{counted}
 
 pub of-requires : goal.of-requires
 of-requires g c =

@@ -1,8 +1,8 @@
 use Rattle.std.proofs.Common.{sym, ap, ◌∙◌}
 use Rattle.co_schedule.specs.Known.{numbers_of}
-use Rattle.co_schedule.specs.States.{counted}
 use Rattle.co_schedule.proofs.StatesTaken.{home_owns, taken_in_whole}
 use Rattle.co_schedule.proofs.table.CoTable.gather.Goals as goal
+use Rattle.aio_model.specs.Counts.{counted}
 
 pub returns-clause-states : goal.returns-clause-states
 returns-clause-states g c =

@@ -5,7 +5,6 @@ use Rattle.aio_model.specs.Holds.Table.{read_locked}
 use Rattle.aio_model.specs.declared.holds.Hold.TheVariants.{Reads, WaitsRead}
 use Rattle.aio_model.proofs.Settling.{read_locked_settles}
 use Rattle.aio_model.proofs.Holding.{read_locked-own, read_locked-others}
-use Rattle.co_waits.specs.Registers.{is_open}
 use Rattle.co_waits.proofs.Tables.{opens, closes}
 use Rattle.co_waits.proofs.rw_state.RwState.rdlock.Goals as goal
 

@@ -4,7 +4,7 @@ use Rattle.img_requests.specs.declared.journal.Mark.TheVariants.{Einval}
 use Rattle.img_requests.specs.declared.present.Present.{Present}
 use Rattle.img_shared.specs.declared.phases.Phase.TheVariants.{Active, Waiting}
 use Rattle.img_shared.specs.Journals.{entry_next}
-use Rattle.img_shared.specs.Phases.{Writing, has_failed, is_failed}
+use Rattle.img_shared.specs.Phases.{Writing, has_failed, is_failed_stage}
 use Rattle.img_shared.proofs.Charged.{charged_refused, charged_phase}
 use Rattle.img_shared.proofs.Granting.{has_held}
 use Rattle.img_shared.proofs.Others.{others_refused, clean_got}
@@ -53,7 +53,7 @@ invariant_of-self-in-Got g c =
           (rw (← c.self.view_is) at c.requires.due);
       charged = charged_phase g.D.Device.extent g.D.Device.faults g.D.Device.size_faults g.D.Device.calls _ c.self.invariant.charged c.args.stream
           (omega (arith, known, c.self.invariant.sound.streams)) (Active c.begin-present.result) c.ask.new.access (ap has_failed free)
-          (ap (λ (p : Present). is_failed p.stage) c.begin-present.ensures);
+          (ap (λ (p : Present). is_failed_stage p.stage) c.begin-present.ensures);
     }
 
 pub invariant_of-self-in-Queued : goal.invariant_of-self-in-Queued

@@ -2,7 +2,7 @@ use Rattle.std.proofs.Common.{◌<◌, ◌∙◌, sym, ap, subst, refl, length, 
 use Rattle.std.proofs.lemmas.List.{get_or_default}
 use Rattle.aio_model.specs.Holds.Readers.{hold_of}
 use Rattle.img_shared.specs.declared.phases.Phase.TheVariants.{Idle, Active}
-use Rattle.img_shared.specs.Phases.{Writing, has_failed, is_failed}
+use Rattle.img_shared.specs.Phases.{Writing, has_failed, is_failed_stage}
 use Rattle.img_shared.specs.Soundness.{IsInside}
 use Rattle.img_shared.proofs.Charged.{charged_phase}
 use Rattle.img_shared.proofs.Granting.{woken_granted}
@@ -23,7 +23,7 @@ invariant_of-self g c =
           (λ j. woken_granted c.woken.result j (hold_of c.self.inside.access j) (hold_of c.woken.new.self j) (c.woken.ensures.all j));
       charged = charged_phase g.D.Device.extent g.D.Device.faults g.D.Device.size_faults g.D.Device.calls _ c.self.invariant.charged c.args.stream below (Active c.in-Waiting.present) c.woken.new.self
           (ap has_failed waits)
-          (ap is_failed (subst (IsInside c.self.inside.size c.args.stream) waits (sound.inside c.args.stream)).1);
+          (ap is_failed_stage (subst (IsInside c.self.inside.size c.args.stream) waits (sound.inside c.args.stream)).1);
     }
 
 pub returns-clause-named : goal.returns-clause-named

@@ -1,5 +1,5 @@
 use Rattle.std.proofs.Common.{◌∙◌, ◌++◌, [], false, ap, inl, refl, true}
-use Rattle.img_streams.specs.Deeds.{listed, asks}
+use Rattle.img_streams.specs.Deeds.{listed, wants_wakes}
 use Rattle.img_streams.specs.Streams.{source}
 use Rattle.img_streams.proofs.StreamsGoOn.{due_now, small_now, can_now}
 use Rattle.img_streams.proofs.Entering.{line_of, asks_entering, waits_resumes, hand_asks, entered_is, entered_resumes}
@@ -62,4 +62,4 @@ returns-in-Did-clause-resumes g c =
     (asks_entering g.D.Device.bytes old of c.requires.of c.in-Entering.passed c.in-Entering.is) c.request_at-request.ensures in
     entered_resumes g.D.Device.bytes old of c.requires.of c.in-Entering.passed c.in-Entering.is request line c.go_on_entered-itself.new.self c.enter.new.pass
     c.in-Did.answer c.in-Did.named c.ask-in-Did.new.cx c.in-Did.ensures.turn c.go_on_entered-itself.ensures.moves
-    (c.ask-in-Did.ensures ∙ ap (λ (who : _). asks (listed c.in-Did.named ++ [] ++ listed who) false) c.go_on_entered-itself.ensures.itself)
+    (c.ask-in-Did.ensures ∙ ap (λ (who : _). wants_wakes (listed c.in-Did.named ++ [] ++ listed who) false) c.go_on_entered-itself.ensures.itself)

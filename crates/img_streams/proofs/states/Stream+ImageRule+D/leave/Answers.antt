@@ -1,5 +1,5 @@
 use Rattle.std.proofs.Common.{◌∙◌, ◌++◌, true, false, Some, ap, inl, refl}
-use Rattle.img_streams.specs.Deeds.{listed, asks}
+use Rattle.img_streams.specs.Deeds.{listed, wants_wakes}
 use Rattle.img_streams.specs.Streams.{source}
 use Rattle.img_streams.proofs.Entering.{waits_resumes, hand_asks}
 use Rattle.img_streams.proofs.Leaving.{asks_ended, can_leave_line, left_is, left_resumes}
@@ -30,4 +30,4 @@ returns-in-Did-clause-resumes g c =
     let old = c.args.self.now in
     let of = source c.args.env.now.lock.now c.args.env.now.script.now in
     left_resumes g.D.Device.bytes old of c.requires.of c.requires.at c.get_reply.new.self c.leave.new.pass c.get_reply.ensures.gets c.in-Did.woken c.in-Did.named c.ask-in-Did.new.cx c.in-Did.ensures.turn
-    (c.ask-in-Did.ensures ∙ ap (λ (who : _). asks (listed c.in-Did.named ++ listed c.in-Did.woken ++ listed (Some who)) false) (ap (λ (co : _). co.co) c.get_reply.ensures.gets.is))
+    (c.ask-in-Did.ensures ∙ ap (λ (who : _). wants_wakes (listed c.in-Did.named ++ listed c.in-Did.woken ++ listed (Some who)) false) (ap (λ (co : _). co.co) c.get_reply.ensures.gets.is))

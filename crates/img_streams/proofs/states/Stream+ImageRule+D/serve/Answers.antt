@@ -1,5 +1,5 @@
 use Rattle.std.proofs.Common.{◌≡◌, ◌∙◌, ◌++◌, [], length, true, false, ap, inl, refl, sym, subst, arith}
-use Rattle.img_streams.specs.Deeds.{Served, listed, asks}
+use Rattle.img_streams.specs.Deeds.{Served, listed, wants_wakes}
 use Rattle.img_streams.specs.Streams.{source}
 use Rattle.img_streams.proofs.Entering.{line_of, waits_resumes, hand_asks}
 use Rattle.std.specs.Vec.{with_items}
@@ -65,4 +65,4 @@ returns-in-Did-clause-resumes g c =
     (calls_at g.D.Device.bytes c.args.env.now.lock.now old.co request (Served c.in-Did.answer) c.in-Did.named old.pass c.serve.new.pass
     c.as_mut_slice.result.now old.buffer.items c.serve.new.buffer (with_items old.buffer c.serve.new.buffer).items c.as_mut_slice.ensures.value is c.in-Did.ensures.turn)
     c.go_on_after_piece-itself.ensures.moves
-    (c.ask-in-Did.ensures ∙ ap (λ (who : _). asks (listed c.in-Did.named ++ [] ++ listed who) false) c.go_on_after_piece-itself.ensures.itself)
+    (c.ask-in-Did.ensures ∙ ap (λ (who : _). wants_wakes (listed c.in-Did.named ++ [] ++ listed who) false) c.go_on_after_piece-itself.ensures.itself)

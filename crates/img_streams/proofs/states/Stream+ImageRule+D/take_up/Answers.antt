@@ -2,7 +2,7 @@ use Rattle.std.proofs.Common.{◌≡◌, ◌∙◌, ◌++◌, length, true, fals
 use Rattle.std.specs.Vec.{with_items}
 use Rattle.std.proofs.lemmas.List.{with_items_is}
 use Rattle.img_requests.specs.Pieces.{HasRoom}
-use Rattle.img_streams.specs.Deeds.{listed, asks, woken_by, TookUp}
+use Rattle.img_streams.specs.Deeds.{listed, wants_wakes, woken_by, TookUp}
 use Rattle.img_streams.specs.Own.{own_note}
 use Rattle.img_streams.specs.Streams.{source}
 use Rattle.img_streams.proofs.Entering.{line_of, waits_resumes, hand_asks}
@@ -66,5 +66,5 @@ returns-in-Did-clause-resumes g c =
     (calls_at g.D.Device.bytes c.args.env.now.lock.now old.co request (TookUp c.in-Did.answer) c.in-Did.named old.pass c.take_up.new.pass
     c.as_mut_slice.result.now old.buffer.items c.take_up.new.buffer (with_items old.buffer c.take_up.new.buffer).items c.as_mut_slice.ensures.value is c.in-Did.ensures.turn)
     c.go_on_taken_up-woken.ensures.moves
-    (c.ask-in-Did.ensures ∙ ap (λ (who : _). asks (listed c.in-Did.named ++ listed who ++ listed c.go_on_taken_up-woken.result.1) false) c.go_on_taken_up-woken.ensures.woken
-    ∙ ap (λ (who : _). asks (listed c.in-Did.named ++ listed (woken_by (TookUp c.in-Did.answer)) ++ listed who) false) c.go_on_taken_up-woken.ensures.itself)
+    (c.ask-in-Did.ensures ∙ ap (λ (who : _). wants_wakes (listed c.in-Did.named ++ listed who ++ listed c.go_on_taken_up-woken.result.1) false) c.go_on_taken_up-woken.ensures.woken
+    ∙ ap (λ (who : _). wants_wakes (listed c.in-Did.named ++ listed (woken_by (TookUp c.in-Did.answer)) ++ listed who) false) c.go_on_taken_up-woken.ensures.itself)
