@@ -30,7 +30,7 @@ pub const OUTERMOST: u32 = 7;
 
 /// How many nested polls a callback may ask for with so many depths below its own.
 #[inline(always)]
-fn nests_of(deeper: u32) -> u32
+fn nests_allowed(deeper: u32) -> u32
     ensures { result ≡ nests_above deeper }
 {
     if deeper == 0 { 0 } else { 4 }
@@ -85,17 +85,6 @@ fn gets_nest(turn: Turn, nests: u32) -> bool
 }
 
 impl Polled {
-    #[inline(always)]
-    pub(crate) fn nothing() -> Polled
-        ensures { result ≡ record { progress = false; ran = 0; cut_nests = 0 } }
-    {
-        Polled {
-            progress: false,
-            ran: 0,
-            cut_nests: 0,
-        }
-    }
-
     /// A dequeue of what had these flags. A call is progress, unless it is idle.
     #[inline(always)]
     fn note_dequeue(&mut self, was: Flags)
@@ -202,7 +191,7 @@ fn call<J: Job + Drop, R: Runner<J>>(
     if !is_due(next.flags) {
         return false;
     }
-    let call = Call::first_entry(next.bh, next.job, nests_of(deeper));
+    let call = Call::first_entry(next.bh, next.job, nests_allowed(deeper));
     enter(table, home, runner, call, polled, deeper)
 }
 
@@ -340,7 +329,7 @@ fn turn<J: Job + Drop, R: Runner<J>, W: Wait>(
             home,
             runner,
             bh,
-            nests_of(deeper),
+            nests_allowed(deeper),
             polled,
             deeper,
         );

@@ -1,4 +1,5 @@
 //! The answer of a poll.
+ghost use Rattle.std.specs.Prelude.{◌≡◌, false};
 
 /// What a poll tells. The counts stay at the greatest u64.
 #[derive(Clone, Copy, Debug, PartialEq, Eq)]
@@ -9,4 +10,18 @@ pub struct Polled {
     pub ran: u64,
     /// How often a callback asked for a nested poll and got none.
     pub cut_nests: u64,
+}
+
+impl Polled {
+    /// Of a poll that has called nothing yet.
+    #[inline(always)]
+    pub(crate) fn zero() -> Polled
+        ensures { result ≡ record { progress = false; ran = 0; cut_nests = 0 } }
+    {
+        Polled {
+            progress: false,
+            ran: 0,
+            cut_nests: 0,
+        }
+    }
 }

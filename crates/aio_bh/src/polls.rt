@@ -165,7 +165,7 @@ impl<J: Job + Drop> BottomHalves<J> for LoopTable<J> {
         home: &mut Home<J>,
         runner: &mut R,
     ) -> Polled {
-        let mut polled = Polled::nothing();
+        let mut polled = Polled::zero();
         pool.give_kept(rt, pass);
         frame(rt, self, pool, pass, home, runner, &mut polled, OUTERMOST);
         polled

@@ -10,8 +10,8 @@ use Rattle.aio_words.specs.Faults.{HasRisen, HasRisenBy}
 use Rattle.aio_words.proofs.ContentLemmas.{Takes_to_end}
 use Rattle.aio_words.proofs.FaultLemmas.{HasRisen-from_more}
 use Rattle.aio_script.specs.declared.refusals.ScriptRefusal.{ScriptRefusal}
-use Rattle.aio_script.specs.Grammar.{script_said}
-use Rattle.aio_script.specs.LoopGrammar.{loop_script_said}
+use Rattle.aio_script.specs.Image.Grammar.{script_said}
+use Rattle.aio_script.specs.Loop.Grammar.{loop_script_said}
 use Rattle.aio_cli.specs.declared.answer.Answer.{Answer}
 use Rattle.aio_cli.specs.declared.answer.Answer.TheVariants.{Done, Errors, Usage, BadScript, TooLong, TooLarge, ReadFault, WriteFault, NoMemory, DeviceFault}
 use Rattle.aio_cli.specs.Answers.{LoopScriptIsDone, IsOfLoop, IsScriptRefusal, IsWholeAnswer, OnBadScript, OnCut, OnDeviceFault, OnRun, OnTooLarge, OnTooLong, OnWritten}

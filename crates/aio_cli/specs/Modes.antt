@@ -10,8 +10,8 @@ use Rattle.aio_words.specs.Called.{device_call, failures_in, sizes_asked}
 use Rattle.aio_words.specs.Content.{with_piece, AppendsFront}
 use Rattle.aio_words.specs.Faults.{HasRisen, HasRisenBy}
 use Rattle.aio_script.specs.declared.refusals.ScriptRefusal.{ScriptRefusal}
-use Rattle.aio_script.specs.Grammar.{script_said}
-use Rattle.aio_script.specs.LoopGrammar.{loop_script_said}
+use Rattle.aio_script.specs.Image.Grammar.{script_said}
+use Rattle.aio_script.specs.Loop.Grammar.{loop_script_said}
 use Rattle.program_words.specs.declared.modes.Mode.{Mode}
 use Rattle.program_words.specs.declared.modes.Mode.TheVariants.{Image, Bells, Generated}
 use Rattle.aio_run.specs.declared.running.RunEnd.{RunEnd}

@@ -4,8 +4,8 @@ use Rattle.aio_model.specs.declared.scripts.image_scripts.Script.{Script}
 use Rattle.aio_model.specs.declared.scripts.loop_scripts.LoopScript.{LoopScript}
 use Rattle.aio_words.specs.Content.{TakesBytes}
 use Rattle.aio_script.specs.declared.refusals.ScriptRefusal.{ScriptRefusal}
-use Rattle.aio_script.specs.Grammar.{script_said}
-use Rattle.aio_script.specs.LoopGrammar.{loop_script_said}
+use Rattle.aio_script.specs.Image.Grammar.{script_said}
+use Rattle.aio_script.specs.Loop.Grammar.{loop_script_said}
 
 -- how many bytes a script may have
 abbrev pub longest_script : ℕ

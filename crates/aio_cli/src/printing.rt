@@ -2,7 +2,7 @@
 ghost use Rattle.std.specs.Prelude.{◌≡◌, ◌≤◌, ◌<◌, ◌^◌, [], false, length, IfOk};
 ghost use Rattle.aio_words.specs.Content.{with_piece, AppendsFront};
 ghost use Rattle.aio_words.specs.Faults.{HasRisen};
-ghost use Rattle.aio_script.specs.Bounds.{IsBounded};
+ghost use Rattle.aio_script.specs.Image.Bounds.{IsBounded};
 ghost use Rattle.aio_script.specs.Printing.{Prints};
 ghost use Rattle.reply_printing.specs.Standings.{AreInOrder};
 ghost use Rattle.aio_cli.specs.Answers.{IsOfPrinting, OnCut, OnWritten, TellsErrors};

@@ -2,7 +2,7 @@
 ghost use Rattle.std.specs.Prelude.{◌≡◌, ◌≤◌, false};
 ghost use Rattle.aio_words.specs.Content.{with_piece, AppendsFront};
 ghost use Rattle.aio_words.specs.Faults.{HasRisen};
-ghost use Rattle.aio_script.specs.LoopBounds.{IsLoopBounded};
+ghost use Rattle.aio_script.specs.Loop.Bounds.{IsLoopBounded};
 ghost use Rattle.aio_cli.specs.Answers.{OnCut, OnUnserved, OnWritten};
 ghost use Rattle.aio_cli.specs.Calls.{is_read_fault};
 ghost use Rattle.aio_cli.specs.Rings.{AtDone, EndsRings, IsOfBells, LoopTextIsWritten};

@@ -4,7 +4,7 @@ ghost use Rattle.aio_model.specs.Serving.SerialHistory.{IsSerialHistory, eios_of
 ghost use Rattle.aio_words.specs.Called.{device_call, failures_in, sizes_asked};
 ghost use Rattle.aio_words.specs.Content.{with_piece, AppendsFront};
 ghost use Rattle.aio_words.specs.Faults.{HasRisen, HasRisenBy};
-ghost use Rattle.aio_script.specs.Bounds.{IsBounded};
+ghost use Rattle.aio_script.specs.Image.Bounds.{IsBounded};
 ghost use Rattle.stream_ends.specs.Stops.{IsScriptServed};
 ghost use Rattle.aio_cli.specs.Answers.{IsOfRun, IsOfServing, OnCut, OnDeviceFault, OnRun, OnTooLarge, OnUnserved, OnWritten, TellsErrors};
 ghost use Rattle.aio_cli.specs.Calls.{is_read_fault};

@@ -7,7 +7,7 @@ use Rattle.aio_model.specs.declared.holds.Hold.TheVariants.{Free, Reads, Writes,
 use Rattle.aio_model.specs.declared.holds.RwAnswer.TheVariants.{Got}
 use Rattle.aio_model.specs.declared.holds.Wish.{Wish}
 use Rattle.aio_model.specs.declared.holds.Wish.TheVariants as wish
-use Rattle.aio_model.specs.Holds.Readers.{Holders, Readers, Writer, Ticket, ReadersWriter, is_reader, other_readers, waits_by, waiting, hold_in, hold_of}
+use Rattle.aio_model.specs.Holds.WhoHolds.{Holders, Readers, Writer, Ticket, ReadersWriter, is_reader, other_readers, waits_by, waiting, hold_in, hold_of}
 use Rattle.aio_model.specs.Holds.{Has, HasTicket, after_wake, answered, IsOrderly, IsSettled}
 use Rattle.aio_model.specs.Holds.Table.{Woke, Exchanged, queued_again, read_by, read_locked, written_by, write_locked, granted_to, wake_first, wake_one, without_holder, released, unlocked, with_reader, downgraded, stepped_back, upgraded_by, upgraded}
 use Rattle.aio_model.proofs.Granted.{waits-nonfree, waits_only, not_written, test_writes, reader_added-same, reader_added-other, reader_gone-same, reader_gone-other, ticket_added-same, ticket_added-other, granted_no_more, wakes}

@@ -8,7 +8,7 @@ use Rattle.aio_model.specs.declared.holds.Hold.{Hold}
 use Rattle.aio_model.specs.declared.holds.Hold.TheVariants.{Free, Reads, Writes}
 use Rattle.aio_model.specs.declared.holds.Wish.{Wish}
 use Rattle.aio_model.specs.declared.holds.Wish.TheVariants as wish
-use Rattle.aio_model.specs.Holds.Readers.{Holders, Readers, Writer, Ticket, ReadersWriter, is_reader, other_readers, waits_by, waiting, hold_in}
+use Rattle.aio_model.specs.Holds.WhoHolds.{Holders, Readers, Writer, Ticket, ReadersWriter, is_reader, other_readers, waits_by, waiting, hold_in}
 use Rattle.aio_model.specs.Holds.{Has, WaitOnce, IsOrderly, IsSettled}
 use Rattle.aio_model.specs.Holds.Table.{granted_to, wake_first, wake_one, without_holder}
 use Rattle.aio_model.proofs.Granted.{waits-nonfree, reader_added-other, reader_gone-same, reader_gone-other, ticket_added-other, not_reader}

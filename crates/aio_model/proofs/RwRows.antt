@@ -2,7 +2,7 @@
 use Rattle.std.proofs.Common.{◌≡◌, refl, [], ◌∷◌, Some, None}
 use Rattle.aio_model.specs.declared.holds.RwAnswer.TheVariants.{Queued}
 use Rattle.aio_model.specs.declared.holds.Wish.TheVariants as wish
-use Rattle.aio_model.specs.Holds.Readers.{Readers, Writer, ReadersWriter}
+use Rattle.aio_model.specs.Holds.WhoHolds.{Readers, Writer, ReadersWriter}
 use Rattle.aio_model.specs.Holds.Table.{Woke, Exchanged, read_locked, write_locked, unlocked, downgraded, upgraded, wake_one}
 
 abbrev begun : ReadersWriter

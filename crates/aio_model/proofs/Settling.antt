@@ -2,7 +2,7 @@
 use Rattle.std.proofs.Common.{◌≡◌, ℕ, ◌<◌, List, [], ◌∷◌, refl}
 use Rattle.aio_model.specs.declared.holds.Hold.TheVariants.{Free}
 use Rattle.aio_model.specs.declared.holds.Wish.TheVariants as wish
-use Rattle.aio_model.specs.Holds.Readers.{Holders, Readers, Writer, Ticket, ReadersWriter, waiting, hold_in, hold_of}
+use Rattle.aio_model.specs.Holds.WhoHolds.{Holders, Readers, Writer, Ticket, ReadersWriter, waiting, hold_in, hold_of}
 use Rattle.aio_model.specs.Holds.{IsOrderly, IsSettled}
 use Rattle.aio_model.specs.Holds.Table.{read_by, read_locked, written_by, write_locked}
 use Rattle.aio_model.proofs.Orderly.{free_no_reader, admits_reader, admits_writer, queues}

@@ -1,6 +1,6 @@
 -- What a call on readers and a writer does to everybody's hold.
 
-pub mod Readers
+pub mod WhoHolds
 pub mod Table
 use Rattle.std.specs.Prelude.{◌≡◌, ◌≢◌, ℕ, ◌<◌, ◌==◌, ◌⊎◌, if◌then◌else◌, List, [], ◌∷◌, Option, Some, None}
 use Rattle.std.specs.Prelude.{nat_eq}
@@ -9,7 +9,7 @@ use Rattle.aio_model.specs.declared.holds.Hold.{Hold}
 use Rattle.aio_model.specs.declared.holds.Hold.TheVariants.{Free, Reads, Writes, WaitsRead, WaitsWrite}
 use Rattle.aio_model.specs.declared.holds.RwAnswer.{RwAnswer}
 use Rattle.aio_model.specs.declared.holds.RwAnswer.TheVariants.{Got, Queued}
-use Rattle.aio_model.specs.Holds.Readers.{Holders, Readers, Writer, Ticket, ReadersWriter, waiting, hold_in, hold_of}
+use Rattle.aio_model.specs.Holds.WhoHolds.{Holders, Readers, Writer, Ticket, ReadersWriter, waiting, hold_in, hold_of}
 
 -- it reads or writes
 abbrev pub Has : Hold → Type 0

@@ -7,7 +7,7 @@ use Rattle.aio_model.specs.declared.coroutines.causes.Cause.TheVariants.{Begin, 
 use Rattle.aio_model.specs.declared.scripts.image_scripts.Script.{Script}
 use Rattle.aio_model.specs.declared.scripts.image_scripts.Stream.{Stream as StreamLine}
 use Rattle.aio_model.specs.Coroutines.History.{Schedule, Push, Enter, History}
-use Rattle.aio_script.specs.Bounds.{IsAtHome, IsBounded}
+use Rattle.aio_script.specs.Image.Bounds.{IsAtHome, IsBounded}
 use Rattle.co_schedule.specs.States.{count_of_moves as held, states_given}
 use Rattle.stream_ends.specs.Images.{homes_of}
 use Rattle.aio_run.specs.declared.running.RunEnd.{RunEnd}

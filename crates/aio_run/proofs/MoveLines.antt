@@ -6,7 +6,7 @@ use Rattle.std.proofs.lemmas.List.Elements.{All-from_recursion}
 use Rattle.aio_model.specs.declared.scripts.image_scripts.Script.{Script}
 use Rattle.aio_model.specs.declared.scripts.image_scripts.Step.{Step}
 use Rattle.aio_model.specs.declared.scripts.image_scripts.What.TheVariants as what
-use Rattle.aio_script.specs.Bounds.{IsBounded, IsWithin}
+use Rattle.aio_script.specs.Image.Bounds.{IsBounded, IsWithin}
 use Rattle.co_loop.specs.Crews.{destination}
 use Rattle.co_mutex.specs.declared.lock.CoMutex.{CoMutex}
 use Rattle.co_state.specs.Wants.{Wants}

@@ -2,7 +2,7 @@
 use Rattle.std.proofs.Common.{◌≡◌, ℕ, zero, suc, ◌<◌, List, [], ◌∷◌, length, slice_index, slice_index_or, refl, sym, ap, subst, arith}
 use Rattle.std.specs.List.{AllByRecursion}
 use Rattle.aio_model.specs.declared.scripts.image_scripts.Stream.{Stream as StreamLine}
-use Rattle.aio_script.specs.Bounds.{IsAtHome}
+use Rattle.aio_script.specs.Image.Bounds.{IsAtHome}
 use Rattle.co_loop.specs.Rows.{AreOfOrigin}
 use Rattle.table_seats.specs.Seats.{own_entries}
 use Rattle.aio_model.specs.Coroutines.History.{seat_of}

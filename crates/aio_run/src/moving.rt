@@ -1,6 +1,6 @@
 //! How often coroutines moved from loop to loop in a run.
 ghost use Rattle.std.specs.Prelude.{◌≡◌, length};
-ghost use Rattle.aio_script.specs.Bounds.{IsBounded};
+ghost use Rattle.aio_script.specs.Image.Bounds.{IsBounded};
 ghost use Rattle.co_schedule.specs.States.{count_of_moves as held};
 ghost use Rattle.aio_run.specs.Moves.{HaveServed, begun_in, count_of_moves, moved_in, states_in};
 

@@ -1,6 +1,6 @@
 //! All that the loops of a script take memory for.
 ghost use Rattle.std.specs.Prelude.{◌≡◌, ◌≤◌, IfOk, length, replicate, vec_len, vec_capacity, None, []};
-ghost use Rattle.aio_script.specs.Bounds.{IsBounded};
+ghost use Rattle.aio_script.specs.Image.Bounds.{IsBounded};
 ghost use Rattle.co_loop.specs.Working.{CanWork};
 ghost use Rattle.aio_run.specs.Readiness.{AreOpen, coroutines_of};
 

@@ -1,6 +1,6 @@
 //! What a run of a script begins with.
 ghost use Rattle.std.specs.Prelude.{◌≡◌, ◌≤◌, IfOk, IfErr, vec_len};
-ghost use Rattle.aio_script.specs.Bounds.{IsBounded};
+ghost use Rattle.aio_script.specs.Image.Bounds.{IsBounded};
 ghost use Rattle.co_loop.specs.Working.{CanWork};
 ghost use Rattle.img_streams.specs.Streams.{IsStreamAt, source};
 ghost use Rattle.stream_ends.specs.Starts.{HaveStarted};

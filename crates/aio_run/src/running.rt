@@ -2,7 +2,7 @@
 ghost use Rattle.std.specs.Prelude.{◌≡◌, ◌+◌, ◌<◌, ◌≤◌, ℕ, None, length, map, replicate, slice_index_or, vec_len, vec_capacity, []};
 ghost use Rattle.std.specs.List.{AllByRecursion};
 ghost use Rattle.aio_model.specs.Serving.SerialHistory.{eios_of};
-ghost use Rattle.aio_script.specs.Bounds.{IsBounded};
+ghost use Rattle.aio_script.specs.Image.Bounds.{IsBounded};
 ghost use Rattle.aio_words.specs.Called.{failures_in, sizes_asked};
 ghost use Rattle.aio_words.specs.Faults.{HasRisenBy};
 ghost use Rattle.co_loop.specs.Rows.{AreOfOrigin};

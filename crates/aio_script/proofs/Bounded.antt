@@ -10,15 +10,15 @@ use Rattle.aio_model.specs.declared.scripts.image_scripts.Step.{Step}
 use Rattle.aio_model.specs.declared.scripts.image_scripts.Script.{Script}
 use Rattle.aio_script.specs.declared.refusals.ScriptRefusal.{ScriptRefusal}
 use Rattle.aio_script.specs.declared.refusals.ScriptFail.{ScriptFail}
-use Rattle.aio_script.specs.declared.said.Said.{Said}
-use Rattle.aio_script.specs.declared.said.Said.TheVariants.{Declares, Does}
-use Rattle.aio_script.specs.Bounds.{AreApart, IsAtHome, IsBounded, IsWithin}
-use Rattle.aio_script.specs.Grammar.{◌>>=◌, all_said, begins_with_name, in_number_range, counts_of, declared, step_done, formed, has_stream, header_at, loops_below, present, said_at, script_below, script_lines, script_said, steps_in, streams_in, within, words_at}
+use Rattle.aio_script.specs.declared.image.said.Said.{Said}
+use Rattle.aio_script.specs.declared.image.said.Said.TheVariants.{Declares, Does}
+use Rattle.aio_script.specs.Image.Bounds.{AreApart, IsAtHome, IsBounded, IsWithin}
+use Rattle.aio_script.specs.Image.Grammar.{◌>>=◌, all_said, begins_with_name, in_number_range, counts_of, declared, step_done, formed, has_stream, header_at, loops_below, present, said_at, script_below, script_lines, script_said, steps_in, streams_in, within, words_at}
 use Rattle.aio_script.specs.Lines.{Numbered, significant}
-use Rattle.aio_script.specs.Forms.{header_form}
+use Rattle.aio_script.specs.Image.Forms.{header_form}
 use Rattle.aio_script.specs.Text.{number_of}
-use Rattle.aio_script.specs.Progress.{AreLow}
-use Rattle.aio_script.specs.Reading.{GivesScript}
+use Rattle.aio_script.specs.Image.Progress.{AreLow}
+use Rattle.aio_script.specs.Image.Reading.{GivesScript}
 use Rattle.aio_script.proofs.Limits.{Fits, said_at-fits}
 use Rattle.aio_script.proofs.LinesRead.{counts_of-line}
 

@@ -4,7 +4,7 @@ use Rattle.hex.specs.Hex.{decode_pairs}
 use Rattle.aio_model.specs.declared.serving.requests.Request.TheVariants.{Read, Write, Zero, Flush}
 use Rattle.aio_model.specs.declared.scripts.image_scripts.What.TheVariants.{Ask, Delay, Move}
 use Rattle.aio_script.specs.declared.refusals.ScriptRefusal.TheVariants.{BadLine, BadNumber, OutOfLimit, UnknownStream, NoHeader}
-use Rattle.aio_script.specs.Grammar.{script_said}
+use Rattle.aio_script.specs.Image.Grammar.{script_said}
 
 empty_text : script_said [] ≡ Err NoHeader
 empty_text = refl

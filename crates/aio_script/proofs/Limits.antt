@@ -8,15 +8,15 @@ use Rattle.aio_model.specs.declared.scripts.image_scripts.What.{What}
 use Rattle.aio_model.specs.declared.scripts.image_scripts.What.TheVariants.{Ask, Delay, Move}
 use Rattle.aio_model.specs.Serving.{length_of}
 use Rattle.aio_script.specs.declared.refusals.ScriptRefusal.{ScriptRefusal}
-use Rattle.aio_script.specs.declared.said.Said.{Said}
-use Rattle.aio_script.specs.declared.said.Said.TheVariants.{Declares, Does}
-use Rattle.aio_script.specs.declared.said.Counts.{Counts}
+use Rattle.aio_script.specs.declared.image.said.Said.{Said}
+use Rattle.aio_script.specs.declared.image.said.Said.TheVariants.{Declares, Does}
+use Rattle.aio_script.specs.declared.image.said.Counts.{Counts}
 use Rattle.aio_script.specs.Text.{number_of, data_of}
-use Rattle.aio_script.specs.Forms.{Form, declare, read, write, zeroing, flush, delay, move, form_of}
+use Rattle.aio_script.specs.Image.Forms.{Form, declare, read, write, zeroing, flush, delay, move, form_of}
 use Rattle.aio_script.specs.Lines.{Numbered}
-use Rattle.aio_script.specs.Bounds.{AsksLittle, IsAtHome, IsWithin}
-use Rattle.aio_script.specs.Grammar.{◌>>=◌, bytes_moved, in_number_range, formed, fresh, has_pause, has_room, has_stream, is_known_stream, said_at, said_of, step_of, within, words_at}
-use Rattle.aio_script.specs.Progress.{AreLow, counts_with}
+use Rattle.aio_script.specs.Image.Bounds.{AsksLittle, IsAtHome, IsWithin}
+use Rattle.aio_script.specs.Image.Grammar.{◌>>=◌, bytes_moved, in_number_range, formed, fresh, has_pause, has_room, has_stream, is_known_stream, said_at, said_of, step_of, within, words_at}
+use Rattle.aio_script.specs.Image.Progress.{AreLow, counts_with}
 
 -- a stream that is new and at home, or a step of a stream that is known
 abbrev pub IsOwn : ℕ → List Stream → Said → Type 0

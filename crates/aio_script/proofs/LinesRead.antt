@@ -10,13 +10,13 @@ use Rattle.aio_model.specs.Serving.Asked.{is_ask}
 use Rattle.aio_script.specs.declared.refusals.ScriptRefusal.{ScriptRefusal}
 use Rattle.aio_script.specs.declared.refusals.ScriptFail.{ScriptFail}
 use Rattle.aio_script.specs.declared.refusals.ScriptFail.TheVariants.{Refused, NoMemory}
-use Rattle.aio_script.specs.declared.said.Said.{Said}
-use Rattle.aio_script.specs.declared.said.Said.TheVariants.{Declares, Does}
-use Rattle.aio_script.specs.declared.said.Counts.{Counts}
+use Rattle.aio_script.specs.declared.image.said.Said.{Said}
+use Rattle.aio_script.specs.declared.image.said.Said.TheVariants.{Declares, Does}
+use Rattle.aio_script.specs.declared.image.said.Counts.{Counts}
 use Rattle.aio_script.specs.Lines.{Numbered}
-use Rattle.aio_script.specs.Grammar.{◌>>=◌, all_said, bytes_moved, counts_of, declared, step_done, said_at, script_below, steps_in, streams_in}
-use Rattle.aio_script.specs.Progress.{counts_after, counts_with, HasRead}
-use Rattle.aio_script.specs.Reading.{Gives, GivesScript}
+use Rattle.aio_script.specs.Image.Grammar.{◌>>=◌, all_said, bytes_moved, counts_of, declared, step_done, said_at, script_below, steps_in, streams_in}
+use Rattle.aio_script.specs.Image.Progress.{counts_after, counts_with, HasRead}
+use Rattle.aio_script.specs.Image.Reading.{Gives, GivesScript}
 
 module _ (loops : ℕ) (whole left behind : List Numbered) (numbered : Numbered) (streams : List Stream) (steps : List Step)
     (read : HasRead loops whole left streams steps) (cut : left ≡ numbered ∷ behind)

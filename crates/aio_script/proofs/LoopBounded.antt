@@ -9,18 +9,18 @@ use Rattle.aio_model.specs.declared.scripts.loop_scripts.Command.TheVariants as 
 use Rattle.aio_model.specs.declared.scripts.loop_scripts.LoopScript.{LoopScript}
 use Rattle.aio_script.specs.declared.refusals.ScriptRefusal.{ScriptRefusal}
 use Rattle.aio_script.specs.declared.refusals.ScriptFail.{ScriptFail}
-use Rattle.aio_script.specs.declared.loop_form.Verb.{Verb}
-use Rattle.aio_script.specs.declared.loop_form.Verb.TheVariants.{Schedule, Idle, Delete, Cancel}
-use Rattle.aio_script.specs.declared.loop_form.LoopHeader.{LoopHeader}
-use Rattle.aio_script.specs.declared.loop_form.LoopSaid.{LoopSaid}
-use Rattle.aio_script.specs.declared.loop_form.LoopSaid.TheVariants.{Adds, Asks}
+use Rattle.aio_script.specs.declared.loops.form.Verb.{Verb}
+use Rattle.aio_script.specs.declared.loops.form.Verb.TheVariants.{Schedule, Idle, Delete, Cancel}
+use Rattle.aio_script.specs.declared.loops.form.LoopHeader.{LoopHeader}
+use Rattle.aio_script.specs.declared.loops.form.LoopSaid.{LoopSaid}
+use Rattle.aio_script.specs.declared.loops.form.LoopSaid.TheVariants.{Adds, Asks}
 use Rattle.aio_script.specs.Text.{is, number_of}
 use Rattle.aio_script.specs.Lines.{Numbered, significant}
-use Rattle.aio_script.specs.Grammar.{◌>>=◌, in_number_range, formed, present, within, words_at}
-use Rattle.aio_script.specs.LoopForms.{SizeWords, size_words, LoopForm, on_call, on_nest, call, once, poll, commit, set, clear, loop_form_of}
-use Rattle.aio_script.specs.LoopGrammar.{act_of, acted, act_count_of, call_of, commanded, header_of, loop_header_at, loop_said_at, loop_said_of, loop_script_lines, loop_script_said, number_below, said_below, script_of, sizes_read, with_lines, with_said}
-use Rattle.aio_script.specs.LoopBounds.{CallsHandle, IsActWithin, IsCommandWithin, IsLoopBounded}
-use Rattle.aio_script.specs.LoopReading.{GivesLoopScript}
+use Rattle.aio_script.specs.Image.Grammar.{◌>>=◌, in_number_range, formed, present, within, words_at}
+use Rattle.aio_script.specs.Loop.Forms.{SizeWords, size_words, LoopForm, on_call, on_nest, call, once, poll, commit, set, clear, loop_form_of}
+use Rattle.aio_script.specs.Loop.Grammar.{act_of, acted, act_count_of, call_of, commanded, header_of, loop_header_at, loop_said_at, loop_said_of, loop_script_lines, loop_script_said, number_below, said_below, script_of, sizes_read, with_lines, with_said}
+use Rattle.aio_script.specs.Loop.Bounds.{CallsHandle, IsActWithin, IsCommandWithin, IsLoopBounded}
+use Rattle.aio_script.specs.Loop.Reading.{GivesLoopScript}
 use Rattle.aio_script.proofs.Bounded.{all_one_more, followed}
 use Rattle.aio_script.proofs.LinesRead.{count_by-one}
 

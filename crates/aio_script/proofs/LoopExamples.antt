@@ -3,7 +3,7 @@ use Rattle.std.proofs.Common.{◌≡◌, [], ◌∷◌, refl, codes, Ok, Err}
 use Rattle.aio_model.specs.declared.scripts.loop_scripts.ActKind.TheVariants as act
 use Rattle.aio_model.specs.declared.scripts.loop_scripts.Command.TheVariants as command
 use Rattle.aio_script.specs.declared.refusals.ScriptRefusal.TheVariants.{BadLine, BadNumber, OutOfLimit, NoHeader}
-use Rattle.aio_script.specs.LoopGrammar.{loop_script_said}
+use Rattle.aio_script.specs.Loop.Grammar.{loop_script_said}
 
 empty_text : loop_script_said [] ≡ Err NoHeader
 empty_text = refl

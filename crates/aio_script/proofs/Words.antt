@@ -2,7 +2,7 @@
 use Rattle.std.proofs.Common.{◌≡◌, ℕ, Bool, inl, inr, List, [], ◌∷◌}
 use Rattle.std.specs.List.{slice_split, onto_first}
 use Rattle.std.proofs.lemmas.Bool.{cases_Bool}
-use Rattle.aio_script.specs.Reading.{AreSeveral}
+use Rattle.aio_script.specs.Image.Reading.{AreSeveral}
 use Rattle.aio_script.specs.Text.{words_of}
 
 -- some word stands behind each space

@@ -1,14 +1,7 @@
-pub mod Bounds
-pub mod Forms
-pub mod Grammar
+pub mod Image
 pub mod Lines
-pub mod LoopBounds
-pub mod LoopForms
-pub mod LoopGrammar
-pub mod LoopReading
+pub mod Loop
 pub mod Printing
-pub mod Progress
-pub mod Reading
 pub mod Text
 pub use Rattle.aio_model.specs.Serving.Asked
 pub use Rattle.aio_model.specs.Scripts.LoopLines

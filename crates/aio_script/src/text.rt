@@ -3,7 +3,7 @@ ghost use Rattle.std.specs.Prelude.{◌≡◌, ◌+◌, ◌==◌, ◌&&◌, ◌<
 ghost use Rattle.std.specs.List.{list_all, slice_split};
 ghost use Rattle.std.specs.Char.{is_ascii_digit};
 ghost use Rattle.aio_script.specs.Lines.{are_words, is_word, significant_from, Numbered};
-ghost use Rattle.aio_script.specs.Reading.{AreSeveral};
+ghost use Rattle.aio_script.specs.Image.Reading.{AreSeveral};
 ghost use Rattle.aio_script.specs.Text.{is, is_skipped, number_of, decimal_value, words_of};
 
 /// The text up to the first such byte, and what stands behind that byte. Where there is none, the whole text.

@@ -99,7 +99,7 @@ impl KeyTree {
     }
 
     /// The place that has the least key; `None` where no place has one.
-    pub(crate) fn holder(&self) -> Option<usize>
+    pub(crate) fn place_of_least(&self) -> Option<usize>
         ensures none { IfNone result ((place : ℕ) → none ≤ key_at self.now place) }
         ensures some { IfSome result (λ place. IsHolder self.now place) }
     {
@@ -109,16 +109,16 @@ impl KeyTree {
         Some(self.lowest())
     }
 
-    /// The same, where that key is no greater than the last.
-    pub(crate) fn holder_up_to(&self, last: u128) -> Option<usize>
-        ensures none { IfNone result ((place : ℕ) → key_at self.now place < none → last < key_at self.now place) }
+    /// The place that has the least key, where that key is no greater than the limit; else `None`.
+    pub(crate) fn place_of_least_up_to(&self, limit: u128) -> Option<usize>
+        ensures none { IfNone result ((place : ℕ) → key_at self.now place < none → limit < key_at self.now place) }
         ensures some { IfSome result (λ place. IsHolder self.now place) }
-        ensures up_to { IfSome result (λ place. key_at self.now place ≤ last) }
+        ensures up_to { IfSome result (λ place. key_at self.now place ≤ limit) }
     {
-        if self.least() > last {
+        if self.least() > limit {
             return None;
         }
-        self.holder()
+        self.place_of_least()
     }
 
     pub(crate) fn keys(&self) -> &[u128]

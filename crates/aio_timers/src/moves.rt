@@ -9,7 +9,7 @@ pub(crate) fn move_keys(from: &mut KeyTree, to: &mut KeyTree, last: u128)
     requires { length to.old ≡ length from.old }
     ensures { Moves from.old to.old from.new to.new last }
 {
-    while let Some(place) = from.holder_up_to(last) {
+    while let Some(place) = from.place_of_least_up_to(last) {
         let key = from.key(place);
         from.set(place, NONE);
         to.set(place, key);

@@ -166,7 +166,7 @@ impl Timers {
         ensures stands { IfSome result (λ id. (calls : List TimerCall) → StandsFor self.old calls → StandsFor self.new (Give id.number ∷ calls)) }
         ensures unchanged { IfNone result (self.new ≡ self.old) }
     {
-        let place = self.due.holder()?;
+        let place = self.due.place_of_least()?;
         self.due.set(place, NONE);
         Some(TimerId {
             number: place as u32,

@@ -8,7 +8,7 @@ use Rattle.std.proofs.lemmas.Bool.{cases_eq, cases_lt, ne_eqb, eq-eqb, ltb-true,
 use Rattle.aio_model.specs.declared.scripts.loop_scripts.Act.{Act}
 use Rattle.aio_model.specs.declared.scripts.loop_scripts.ActKind.{ActKind}
 use Rattle.aio_model.specs.Scripts.LoopActs.{acts_of}
-use Rattle.aio_script.specs.LoopBounds.{IsActWithin}
+use Rattle.aio_script.specs.Loop.Bounds.{IsActWithin}
 use Rattle.bell_loop.specs.Actions.{AreWithin}
 use Rattle.bell_loop.specs.Entering.{CanRun, AreListsOf, acts_at}
 

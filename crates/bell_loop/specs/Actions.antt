@@ -12,7 +12,7 @@ use Rattle.aio_model.specs.Loop.InFlight.{AtRest}
 use Rattle.aio_core.specs.Known.{Known}
 use Rattle.aio_core.specs.Calls.{TableState, SeatState, IsSeatOf}
 use Rattle.aio_bh.specs.Running.{SeatComesBack}
-use Rattle.aio_script.specs.LoopBounds.{CallsHandle}
+use Rattle.aio_script.specs.Loop.Bounds.{CallsHandle}
 
 -- actions on handles, of which there are so many
 abbrev pub AreWithin : ℕ → List ActKind → Type 0

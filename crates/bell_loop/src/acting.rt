@@ -6,7 +6,7 @@ ghost use Rattle.aio_model.specs.Scripts.LoopActs.{before_nest, behind_nest};
 ghost use Rattle.aio_core.specs.Calls.{IsSeatOf};
 ghost use Rattle.bell_loop.specs.Actions as Plain;
 ghost use Rattle.bell_loop.specs.Actions.{some_asks, Acts, ActsAll, AreWithin, IsLent};
-ghost use Rattle.aio_script.specs.LoopBounds.{CallsHandle};
+ghost use Rattle.aio_script.specs.Loop.Bounds.{CallsHandle};
 
 use crate::Tag;
 use aio_bh::BottomHalves;

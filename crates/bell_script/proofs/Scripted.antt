@@ -15,7 +15,7 @@ use Rattle.aio_model.specs.Scripts.LoopLines.{reply_text}
 use Rattle.aio_model.specs.Scripts.LoopReplies.{DoesCommand, DoesAll, sizes_of}
 use Rattle.aio_script.specs.declared.print.WriteFault.{WriteFault}
 use Rattle.aio_script.proofs.Gathered.{PutsOnPage-nothing, PutsOnPage-same}
-use Rattle.aio_script.specs.LoopBounds.{IsActWithin, IsCommandWithin}
+use Rattle.aio_script.specs.Loop.Bounds.{IsActWithin, IsCommandWithin}
 use Rattle.bell_loop.specs.Entering.{acts_at, AreListsOf, CanRun}
 use Rattle.bell_loop.specs.Running.{IsAlone, IsScriptOf}
 use Rattle.bell_loop.specs.Machines.{MachineState, KeepsLog, Answers, IsNew}

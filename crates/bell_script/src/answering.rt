@@ -1,7 +1,7 @@
 //! The commands of a loop script, each with its reply.
 ghost use Rattle.std.specs.Prelude.{◌≡◌};
 ghost use Rattle.aio_model.specs.Scripts.LoopLines.{HasLine};
-ghost use Rattle.aio_script.specs.LoopBounds.{IsCommandWithin};
+ghost use Rattle.aio_script.specs.Loop.Bounds.{IsCommandWithin};
 ghost use Rattle.bell_loop.specs.Machines.{Answers, Ready, machine_state_of};
 
 use aio_model::{Command, Kind, LoopReply};

@@ -2,7 +2,7 @@
 ghost use Rattle.std.specs.Prelude.{◌++◌, ℕ, Option, List};
 ghost use Rattle.aio_model.specs.declared.scripts.loop_replies.LoopReply.{LoopReply};
 ghost use Rattle.aio_model.specs.Scripts.LoopLines.{HasLine, reply_text};
-ghost use Rattle.aio_script.specs.LoopBounds.{IsCommandWithin};
+ghost use Rattle.aio_script.specs.Loop.Bounds.{IsCommandWithin};
 ghost use Rattle.aio_script.specs.Printing.{PutsOnPage};
 ghost use Rattle.bell_loop.specs.Machines.{Ready, machine_state_of, ran_in, more_in};
 ghost use Rattle.bell_script.specs.Scripts.{Rung};

@@ -2,7 +2,7 @@
 ghost use Rattle.std.specs.Prelude.{◌≡◌, [], map, IfErr, IfOk};
 ghost use Rattle.std.specs.List.{AllByRecursion};
 ghost use Rattle.aio_model.specs.Scripts.LoopReplies.{sizes_of};
-ghost use Rattle.aio_script.specs.LoopBounds.{IsCommandWithin, IsLoopBounded};
+ghost use Rattle.aio_script.specs.Loop.Bounds.{IsCommandWithin, IsLoopBounded};
 ghost use Rattle.bell_loop.specs.Entering.{acts_at, AreListsOf};
 ghost use Rattle.bell_loop.specs.Machines.{IsNew, Ready, machine_state_of};
 ghost use Rattle.bell_loop.specs.Running.{IsScriptOf};

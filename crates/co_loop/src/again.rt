@@ -11,8 +11,8 @@ use co_state::Origin;
 use loop_rows::LoopShared;
 use std::sync::Wait;
 
-/// Takes one out that is kept.
-fn take_kept<C: Origin + Drop>(
+/// Takes what leaves out of its place, where it is kept.
+fn take_leaving<C: Origin + Drop>(
     shared: &[LoopShared<C>],
     crew: &mut Crew<C>,
     co: u32,
@@ -44,7 +44,7 @@ fn post_kept<C: Origin + Drop, W: Wait>(
     ensures store { crew.new.store ≡ crew.old.store }
     ensures posts { PostsAgain co (far crew.old) (far crew.new) }
 {
-    if let Some(Leaving { to, state }) = take_kept(shared, crew, co) {
+    if let Some(Leaving { to, state }) = take_leaving(shared, crew, co) {
         send_on(rt, shared, crew, co, state, to);
     }
 }

@@ -39,6 +39,7 @@ fn wake_at<C: Origin + Drop, W: Wait>(
     ensures row { AreSeatsOfLoops coroutines shared.now seats.new.items }
     ensures wakes { ChangesOne to (WakesAt co) seats.old.items seats.new.items }
 {
+    // A coroutine that has its mark already is entered for that mark, which does as well as a second one.
     let _posted = post_to(rt, shared, seats, coroutines, to, co, Cause::Wake, None);
 }
 

@@ -122,6 +122,7 @@ fn post<R: Wait>(
         Some(_) => Cause::Begin,
         None => Cause::Wake,
     };
+    // The test looks at what is entered, and not at who was refused.
     let _posted = shared.coroutines.post(
         rt,
         &shared.bottoms,

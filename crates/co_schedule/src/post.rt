@@ -46,6 +46,7 @@ impl<C: Origin + Drop> CoTable<C> {
         ensures posted { MatchResult result (λ _. HasScheduled co cause (has_some state) seat.old.known seat.new.known × SchedulesHandle bh_seat.old.known bh_seat.new.known) (λ already. (already.mark ≢ 0) × (already.state ≡ state) × Looks MarkCompare (mark_at co) already.mark seat.old.known seat.new.known × IsMarkOf co already.mark seat.old.known × (bh_seat.new ≡ bh_seat.old)) }
     {
         self.schedule(rt, seat, co, cause, state)?;
+        // Where the handle was pending already, the dequeue that is due finds the coroutine too.
         let _flags = table.schedule(rt, bh_seat, HANDLE);
         Ok(())
     }

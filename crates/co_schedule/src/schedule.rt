@@ -106,6 +106,7 @@ impl<C: Origin + Drop> CoTable<C> {
                 state: state_of(parcel),
             });
         }
+        // Whoever has set the mark finds the slot empty.
         let _empty = self.table.shared.exchange(inner, co as usize, parcel);
         self.push(rt, inner, co, given);
         Ok(())

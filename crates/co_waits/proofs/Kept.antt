@@ -8,7 +8,7 @@ use Rattle.aio_chain.proofs.Walks.{contains-first}
 use Rattle.aio_model.specs.declared.holds.Hold.TheVariants.{Free, Reads}
 use Rattle.aio_model.specs.declared.holds.Wish.{Wish}
 use Rattle.aio_model.specs.declared.holds.Wish.TheVariants as wish
-use Rattle.aio_model.specs.Holds.Readers.{Readers, Writer, ReadersWriter, other_readers, waits_by, waiting, hold_of}
+use Rattle.aio_model.specs.Holds.WhoHolds.{Readers, Writer, ReadersWriter, other_readers, waits_by, waiting, hold_of}
 use Rattle.aio_model.specs.Holds.{Has, WaitOnce, IsOrderly}
 use Rattle.aio_model.specs.Holds.Table.{none_woken, granted_to, with_ticket, released, wake_one}
 use Rattle.aio_model.proofs.Granted.{waits-nonfree, waits_only, not_reader}

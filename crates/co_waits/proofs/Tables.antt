@@ -4,7 +4,7 @@ use Rattle.std.proofs.lemmas.Bool.{cases_Bool}
 use Rattle.aio_model.specs.declared.holds.RwAnswer.TheVariants.{Got, Queued}
 use Rattle.aio_model.specs.declared.holds.Hold.TheVariants.{Reads}
 use Rattle.aio_model.specs.declared.holds.Wish.TheVariants as wish
-use Rattle.aio_model.specs.Holds.Readers.{Holders, Readers, Writer, Ticket, ReadersWriter, waiting, hold_in, hold_of}
+use Rattle.aio_model.specs.Holds.WhoHolds.{Holders, Readers, Writer, Ticket, ReadersWriter, waiting, hold_in, hold_of}
 use Rattle.aio_model.specs.Holds.Table.{with_ticket, read_by, read_locked, written_by, write_locked, without_holder, wake_one, stepped_back, queued_again, upgraded_by, upgraded}
 use Rattle.co_waits.specs.Registers.{is_written, readers_in, is_vacant, lets_readers_in, is_single}
 

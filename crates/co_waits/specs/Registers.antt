@@ -3,7 +3,7 @@ use Rattle.std.specs.Prelude.{◌≡◌, ℕ, ◌&&◌, Bool, true, false, get_o
 use Rattle.aio_chain.specs.LinkList.{LinkList}
 use Rattle.aio_model.specs.declared.holds.Wish.{Wish}
 use Rattle.aio_model.specs.declared.holds.Wish.TheVariants as wish
-use Rattle.aio_model.specs.Holds.Readers.{Holders, Readers, Writer, Ticket, ReadersWriter}
+use Rattle.aio_model.specs.Holds.WhoHolds.{Holders, Readers, Writer, Ticket, ReadersWriter}
 use Rattle.aio_model.specs.Holds.{IsOrderly}
 
 -- the ticket of an owner that waits

@@ -67,6 +67,7 @@ impl Plain {
         if !self.holders.is_empty() && (writes || self.is_written) {
             return Ok(None);
         }
+        // It is the one that was copied above.
         let _ = self.tickets.remove(0);
         self.holders.push(who)?;
         self.is_written = writes;

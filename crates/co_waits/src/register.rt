@@ -2,7 +2,7 @@
 ghost use Rattle.std.specs.Prelude.{◌≡◌, ◌<◌, ◌++◌, ◌∷◌, [], IfOk, IsTrue, IsFalse};
 ghost use Rattle.co_waits.specs.Registers.{is_written, readers_in, is_vacant, lets_readers_in, is_single};
 ghost use Rattle.aio_model.specs.declared.holds.Hold.TheVariants.{Free};
-ghost use Rattle.aio_model.specs.Holds.Readers.{Readers, Writer, waiting, hold_of};
+ghost use Rattle.aio_model.specs.Holds.WhoHolds.{Readers, Writer, waiting, hold_of};
 ghost use Rattle.aio_model.specs.Holds.{Has, IsOrderly};
 ghost use Rattle.aio_model.specs.Holds.Table.{with_ticket, released, stepped_back, wake_one};
 
@@ -22,7 +22,7 @@ pub(crate) struct Register {
 }
 
 impl Model for Register {
-    ghost use Rattle.aio_model.specs.Holds.Readers.{ReadersWriter};
+    ghost use Rattle.aio_model.specs.Holds.WhoHolds.{ReadersWriter};
 
     ghost Value = { ReadersWriter };
 

@@ -6,7 +6,7 @@
 ghost use Rattle.std.specs.Prelude.{◌≡◌, ◌≢◌, ℕ, ◌<◌, IfOk, IfSome};
 ghost use Rattle.std.specs.Prelude.{[]};
 ghost use Rattle.aio_model.specs.declared.holds.Hold.TheVariants.{Free, Reads, Writes, WaitsRead, WaitsWrite};
-ghost use Rattle.aio_model.specs.Holds.Readers.{Readers, hold_of};
+ghost use Rattle.aio_model.specs.Holds.WhoHolds.{Readers, hold_of};
 ghost use Rattle.aio_model.specs.Holds.{Has, HasTicket, after_wake, answered, WriterIsAlone, IsSettled};
 ghost use Rattle.aio_model.specs.Holds.Table.{read_locked, write_locked, unlocked, upgraded, downgraded, wake_one};
 
@@ -23,7 +23,7 @@ pub struct RwState {
 }
 
 impl Model for RwState {
-    ghost use Rattle.aio_model.specs.Holds.Readers.{ReadersWriter};
+    ghost use Rattle.aio_model.specs.Holds.WhoHolds.{ReadersWriter};
 
     ghost Value = { ReadersWriter };
 

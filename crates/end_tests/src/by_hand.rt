@@ -1,6 +1,6 @@
 //! Coroutines that a test resumes itself.
 ghost use Rattle.std.specs.Prelude.{◌≤◌};
-ghost use Rattle.aio_script.specs.Bounds.{IsBounded};
+ghost use Rattle.aio_script.specs.Image.Bounds.{IsBounded};
 ghost use Rattle.stream_ends.specs.Images.{IsLockFor};
 ghost use Rattle.stream_ends.specs.Starts.{HasBegun, IsEndRoom};
 ghost use Rattle.stream_ends.specs.Stops.{AreGoing};

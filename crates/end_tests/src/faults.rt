@@ -1,6 +1,6 @@
 //! A device fails at each of its calls in turn.
 ghost use Rattle.std.specs.Prelude.{◌≤◌, length};
-ghost use Rattle.aio_script.specs.Bounds.{IsBounded};
+ghost use Rattle.aio_script.specs.Image.Bounds.{IsBounded};
 
 use crate::stage::{is_lawful, script_of, serve, zeros};
 use aio_model::{Placed, Reply, Script};

@@ -1,6 +1,6 @@
 //! A long read and a long zeroing, whose coroutines are resumed in every order.
 ghost use Rattle.std.specs.Prelude.{◌≡◌, ◌≤◌, IfOk, length};
-ghost use Rattle.aio_script.specs.Bounds.{IsBounded};
+ghost use Rattle.aio_script.specs.Image.Bounds.{IsBounded};
 ghost use Rattle.stream_ends.specs.Stops.{AreGoing};
 
 use crate::by_hand::{begin_on, serve_rest};

@@ -1,6 +1,6 @@
 //! How a script is read, served, judged and printed for a test.
 ghost use Rattle.std.specs.Prelude.{◌≡◌, ◌≤◌, IfOk, length};
-ghost use Rattle.aio_script.specs.Bounds.{IsBounded};
+ghost use Rattle.aio_script.specs.Image.Bounds.{IsBounded};
 ghost use Rattle.reply_printing.specs.Standings.{AreInOrder};
 ghost use Rattle.stream_ends.specs.Stops.{IsScriptServed};
 

@@ -1,6 +1,6 @@
 //! Whom each resume wakes, where one stream waits for the other's hold.
 ghost use Rattle.std.specs.Prelude.{◌≤◌};
-ghost use Rattle.aio_script.specs.Bounds.{IsBounded};
+ghost use Rattle.aio_script.specs.Image.Bounds.{IsBounded};
 ghost use Rattle.stream_ends.specs.Stops.{AreGoing};
 
 use crate::by_hand::{begin_on, serve_rest};

@@ -28,7 +28,7 @@ use Rattle.img_shared.specs.Images.{ImageState}
 use Rattle.img_shared.specs.Journals.{noted_count}
 use Rattle.img_shared.specs.Phases.{hold_asked}
 use Rattle.aio_model.specs.Holds.Table.{wake_one, unlocked}
-use Rattle.aio_model.specs.Holds.Readers.{ReadersWriter}
+use Rattle.aio_model.specs.Holds.WhoHolds.{ReadersWriter}
 use Rattle.img_shared.specs.Notes.{Placement, Bytes, entries_from, told_in, note}
 use Rattle.img_shared.specs.Phases.{phase_at, CanLeave, IsWaiting, taken_up}
 use Rattle.img_join.specs.Accounts.{IsAnsweredBy, AllAnswered, Going, Doing, Account}

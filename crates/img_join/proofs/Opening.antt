@@ -1,7 +1,7 @@
 -- A new image's accounts.
 use Rattle.std.proofs.Common.{◌≡◌, ℕ, zero, suc, List, [], length, replicate, slice_index, Option, refl, sym, subst}
 use Rattle.aio_model.specs.Serving.Asked.{Asked}
-use Rattle.aio_model.specs.Holds.Readers.{ReadersWriter}
+use Rattle.aio_model.specs.Holds.WhoHolds.{ReadersWriter}
 use Rattle.img_shared.specs.declared.phases.Phase.{Phase}
 use Rattle.img_shared.specs.declared.phases.Phase.TheVariants.{Idle}
 use Rattle.img_shared.specs.Notes.{note, told_in}

@@ -1,7 +1,7 @@
 -- Whoever is named to be woken was queued and has its hold now.
 use Rattle.std.proofs.Common.{◌≡◌, ◌≢◌, ℕ, zero, suc, ◌<◌, set, List, [], ◌∷◌, length, Option, Some, None, IfSome, sym, subst, arith}
 use Rattle.aio_model.specs.Holds.{Has, HasTicket}
-use Rattle.aio_model.specs.Holds.Readers.{hold_of}
+use Rattle.aio_model.specs.Holds.WhoHolds.{hold_of}
 use Rattle.img_shared.specs.declared.phases.Phase.{Phase}
 use Rattle.img_shared.specs.Calls.{IsGranted}
 use Rattle.img_shared.specs.Images.{ImageState}

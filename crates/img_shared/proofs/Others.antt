@@ -10,7 +10,7 @@ use Rattle.img_shared.specs.declared.journal.Entry.{Entry}
 use Rattle.img_shared.specs.declared.phases.Phase.{Phase}
 use Rattle.img_shared.specs.declared.phases.Phase.TheVariants.{Idle, Waiting, Active, Retired}
 use Rattle.aio_model.specs.Holds.{Has}
-use Rattle.aio_model.specs.Holds.Readers.{ReadersWriter, hold_of}
+use Rattle.aio_model.specs.Holds.WhoHolds.{ReadersWriter, hold_of}
 use Rattle.aio_model.proofs.Granted.{writer_alone}
 use Rattle.img_shared.specs.Phases.{Linked, Writing, phase_at, held_by}
 use Rattle.img_shared.specs.Images.{ImageState}

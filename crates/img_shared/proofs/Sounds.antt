@@ -5,7 +5,7 @@ use Rattle.std.proofs.lemmas.List.{length-set, map-append}
 use Rattle.std.specs.declared.snapshot.Snapshot.{Snapshot}
 use Rattle.aio_model.specs.declared.holds.Hold.TheVariants.{Free, Reads}
 use Rattle.aio_model.specs.Holds.{Has, OnlyGranted}
-use Rattle.aio_model.specs.Holds.Readers.{ReadersWriter, hold_of}
+use Rattle.aio_model.specs.Holds.WhoHolds.{ReadersWriter, hold_of}
 use Rattle.img_requests.specs.declared.journal.Mark.{Mark}
 use Rattle.img_requests.specs.declared.present.Present.{Present}
 use Rattle.img_shared.specs.declared.phases.Phase.{Phase}

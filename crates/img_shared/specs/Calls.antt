@@ -4,7 +4,7 @@ use Rattle.std.specs.List.{AllByRecursion}
 use Rattle.aio_model.specs.declared.holds.RwAnswer.TheVariants as hold
 use Rattle.aio_model.specs.declared.serving.requests.Request.{Request}
 use Rattle.aio_model.specs.Holds.{Has, WriterIsAlone}
-use Rattle.aio_model.specs.Holds.Readers.{hold_of}
+use Rattle.aio_model.specs.Holds.WhoHolds.{hold_of}
 use Rattle.aio_model.specs.Holds.Table.{unlocked}
 use Rattle.aio_model.specs.Serving.SerialHistory.{CountsFrom}
 use Rattle.aio_model.specs.Serving.{length_of, end_of}

@@ -1,6 +1,6 @@
 -- An image that many streams share, as its callers see it.
 use Rattle.std.specs.Prelude.{ℕ, List}
-use Rattle.aio_model.specs.Holds.Readers.{ReadersWriter}
+use Rattle.aio_model.specs.Holds.WhoHolds.{ReadersWriter}
 use Rattle.img_shared.specs.declared.journal.Entry.{Entry}
 use Rattle.img_shared.specs.declared.phases.Phase.{Phase}
 

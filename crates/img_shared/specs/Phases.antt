@@ -2,7 +2,7 @@
 use Rattle.std.specs.Prelude.{◌≡◌, ℕ, ◌⊎◌, Bool, true, false, not, List, get_or, count_by}
 use Rattle.aio_model.specs.declared.holds.Hold.{Hold}
 use Rattle.aio_model.specs.declared.holds.Hold.TheVariants.{Free, Reads, Writes, WaitsRead, WaitsWrite}
-use Rattle.aio_model.specs.Holds.Readers.{ReadersWriter}
+use Rattle.aio_model.specs.Holds.WhoHolds.{ReadersWriter}
 use Rattle.aio_model.specs.Holds.Table.{HoldAsked, read_locked, write_locked}
 use Rattle.img_requests.specs.declared.present.RequestKind.{RequestKind}
 use Rattle.img_requests.specs.declared.present.RequestKind.TheVariants.{Read, Write, Zero, Flush}

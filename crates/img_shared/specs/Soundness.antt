@@ -1,7 +1,7 @@
 -- What always holds of an image.
 use Rattle.std.specs.Prelude.{◌≡◌, ℕ, ◌+◌, ◌<◌, ◌≤◌, count_by, List, length, map, slice_index, Option}
 use Rattle.std.specs.List.{AllByRecursion}
-use Rattle.aio_model.specs.Holds.Readers.{hold_of}
+use Rattle.aio_model.specs.Holds.WhoHolds.{hold_of}
 use Rattle.aio_model.specs.Serving.SerialHistory.{CountsFrom}
 use Rattle.aio_words.specs.declared.called.DeviceCall.{DeviceCall}
 use Rattle.aio_words.specs.Called.{sizes_asked, failures_in}

@@ -3,7 +3,7 @@
 ghost use Rattle.std.specs.Prelude.{◌≡◌, ◌≢◌, ◌<◌, ◌≤◌, ◌^◌, ◌↔◌, ℕ, sum, [], ◌∷◌, ◌++◌, set, length, slice_index, replicate, IfOk, IfErr, IfSome, IsTrue};
 ghost use Rattle.aio_model.specs.declared.holds.Hold.TheVariants.{Free};
 ghost use Rattle.aio_model.specs.Holds.{Has, answered};
-ghost use Rattle.aio_model.specs.Holds.Readers.{Readers, hold_of};
+ghost use Rattle.aio_model.specs.Holds.WhoHolds.{Readers, hold_of};
 ghost use Rattle.aio_model.specs.Holds.Table.{wake_one, unlocked};
 ghost use Rattle.aio_model.specs.Serving.{length_of, end_of};
 ghost use Rattle.img_shared.specs.declared.phases.Phase.TheVariants.{Idle, Retired};
@@ -250,6 +250,7 @@ impl<D: Device> Image<D> {
         ensures device { result ≡ self.device }
         ensures whole { IsWholeRun D.bytes D.extent D.faults D.size_faults D.calls self }
     {
+        // Its contract tells that the journal is whole.
         let _ = self.journal();
         let Image {
             device,

@@ -3,7 +3,7 @@ use Rattle.std.proofs.Common.{◌≡◌, ℕ, zero, suc, ◌<◌, ◌≤◌, Opt
 use Rattle.std.proofs.lemmas.List.{length-set}
 use Rattle.aio_model.specs.declared.serving.requests.Request.{Request}
 use Rattle.aio_model.specs.Holds.{Has}
-use Rattle.aio_model.specs.Holds.Readers.{hold_of}
+use Rattle.aio_model.specs.Holds.WhoHolds.{hold_of}
 use Rattle.aio_model.specs.Holds.Table.{wake_one}
 use Rattle.co_state.specs.declared.cx.CoId.{CoId}
 use Rattle.img_requests.specs.declared.answers.Piece.{Piece}

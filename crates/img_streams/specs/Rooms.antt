@@ -5,7 +5,7 @@ use Rattle.aio_model.specs.declared.scripts.image_scripts.Step.{Step}
 use Rattle.aio_model.specs.declared.scripts.image_scripts.What.{What}
 use Rattle.aio_model.specs.declared.scripts.image_scripts.What.TheVariants.{Ask, Delay, Move}
 use Rattle.aio_model.specs.Serving.Asked.{is_ask, requests_of, asked}
-use Rattle.aio_model.specs.Holds.Readers.{ReadersWriter}
+use Rattle.aio_model.specs.Holds.WhoHolds.{ReadersWriter}
 use Rattle.co_state.specs.declared.cx.CoId.{CoId}
 use Rattle.co_mutex.specs.declared.lock.CoMutex.{CoMutex}
 use Rattle.co_mutex.specs.declared.lock.Pass.{Pass}

@@ -4,7 +4,7 @@
 
 ghost use Rattle.std.specs.Prelude.{◌≡◌, ◌≢◌, ℕ, ◌<◌, Some, IfSome};
 ghost use Rattle.aio_model.specs.Holds.{Has};
-ghost use Rattle.aio_model.specs.Holds.Readers.{hold_of};
+ghost use Rattle.aio_model.specs.Holds.WhoHolds.{hold_of};
 ghost use Rattle.co_waits.specs.declared.rw_state.RwState.{RwState};
 ghost use Rattle.aio_model.specs.declared.holds.Hold.TheVariants.{Free, Reads, Writes, WaitsRead, WaitsWrite};
 

@@ -5,8 +5,8 @@ use Rattle.std.proofs.lemmas.Bool.{cases_Bool, eqb-true}
 use Rattle.aio_model.specs.declared.scripts.image_scripts.Script.{Script}
 use Rattle.aio_model.specs.declared.scripts.image_scripts.Step.{Step}
 use Rattle.aio_model.specs.declared.scripts.image_scripts.Stream.{Stream}
-use Rattle.aio_script.specs.Bounds.{IsAtHome, IsBounded, IsWithin}
-use Rattle.aio_script.specs.Grammar.{has_stream}
+use Rattle.aio_script.specs.Image.Bounds.{IsAtHome, IsBounded, IsWithin}
+use Rattle.aio_script.specs.Image.Grammar.{has_stream}
 use Rattle.reply_printing.specs.Standings.{HaveStreamsBelow}
 
 or_second : (a b : Bool) → a ≡ false → (a || b) ≡ true → b ≡ true

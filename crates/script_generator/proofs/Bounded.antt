@@ -11,8 +11,8 @@ use Rattle.aio_model.specs.declared.scripts.image_scripts.Step.{Step}
 use Rattle.aio_model.specs.declared.scripts.image_scripts.What.TheVariants.{Ask, Move}
 use Rattle.aio_model.specs.Serving.Asked.{is_ask}
 use Rattle.aio_model.specs.Serving.{length_of}
-use Rattle.aio_script.specs.Bounds.{AreApart, IsAtHome, IsBounded, IsWithin}
-use Rattle.aio_script.specs.Grammar.{bytes_moved, has_stream}
+use Rattle.aio_script.specs.Image.Bounds.{AreApart, IsAtHome, IsBounded, IsWithin}
+use Rattle.aio_script.specs.Image.Grammar.{bytes_moved, has_stream}
 use Rattle.aio_script.proofs.Bounded.{all_one_more}
 use Rattle.aio_script.proofs.LinesRead.{count_by-one}
 use Rattle.script_generator.specs.Generated.{ask_line, bytes_to, drawn, generated, lines_to, request_at, streams_to}

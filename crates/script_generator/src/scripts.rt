@@ -1,6 +1,6 @@
 //! The generated script, line by line.
 ghost use Rattle.std.specs.Prelude.{◌≡◌, ◌++◌, ◌∷◌, [], ◌≤◌, ◌<◌, ◌+◌, IfOk};
-ghost use Rattle.aio_script.specs.Bounds.{IsBounded};
+ghost use Rattle.aio_script.specs.Image.Bounds.{IsBounded};
 ghost use Rattle.script_generator.specs.Generated.{ask_line, bytes_to, drawn, drawn_after, generated, lines_to, move_lines, request_at, streams_to};
 ghost use Rattle.aio_model.specs.declared.scripts.image_scripts.What.TheVariants.{Ask};
 

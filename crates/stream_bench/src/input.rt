@@ -1,6 +1,6 @@
 //! The script, from a source.
 ghost use Rattle.std.specs.Prelude.{◌≤◌, IfOk, length};
-ghost use Rattle.aio_script.specs.Bounds.{IsBounded};
+ghost use Rattle.aio_script.specs.Image.Bounds.{IsBounded};
 
 use aio_model::Script;
 use aio_script::read_script;

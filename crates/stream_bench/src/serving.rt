@@ -1,6 +1,6 @@
 //! A script is served on zeros, and its replies are printed.
 ghost use Rattle.std.specs.Prelude.{◌≤◌, IfOk, length};
-ghost use Rattle.aio_script.specs.Bounds.{IsBounded};
+ghost use Rattle.aio_script.specs.Image.Bounds.{IsBounded};
 ghost use Rattle.reply_printing.specs.Standings.{AreInOrder};
 
 use aio_model::{Placed, Script};

@@ -1,5 +1,5 @@
 ghost use Rattle.std.specs.Prelude.{◌≡◌, ◌≤◌, IfOk, IfErr, length};
-ghost use Rattle.aio_script.specs.Bounds.{IsBounded};
+ghost use Rattle.aio_script.specs.Image.Bounds.{IsBounded};
 ghost use Rattle.stream_ends.specs.Images.{device_behind};
 ghost use Rattle.stream_ends.specs.Starts.{HasBegun};
 ghost use Rattle.stream_ends.specs.Stops.{IsScriptServed};

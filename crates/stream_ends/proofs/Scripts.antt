@@ -11,8 +11,8 @@ use Rattle.aio_model.specs.declared.scripts.image_scripts.Stream.{Stream}
 use Rattle.aio_model.specs.declared.scripts.image_scripts.What.{What}
 use Rattle.aio_model.specs.declared.scripts.image_scripts.What.TheVariants.{Ask, Delay, Move}
 use Rattle.aio_model.specs.Serving.Asked.{is_ask, requests_of}
-use Rattle.aio_script.specs.Bounds.{AsksLittle, IsAtHome, IsBounded, IsWithin}
-use Rattle.aio_script.specs.Grammar.{has_stream}
+use Rattle.aio_script.specs.Image.Bounds.{AsksLittle, IsAtHome, IsBounded, IsWithin}
+use Rattle.aio_script.specs.Image.Grammar.{has_stream}
 use Rattle.img_join.specs.Ended.{HaveOwnIds, AreOurs}
 use Rattle.img_streams.specs.Lines.{AreShort, IsShort}
 use Rattle.stream_ends.specs.Images.{counts_for, ids_of_lines}

@@ -4,8 +4,8 @@ use Rattle.std.proofs.lemmas.List.{length-map, length_push}
 use Rattle.aio_model.specs.declared.scripts.image_scripts.Script.{Script}
 use Rattle.aio_model.specs.declared.scripts.image_scripts.Stream.{Stream as StreamLine}
 use Rattle.aio_model.specs.Serving.Asked.{requests_of}
-use Rattle.aio_model.specs.Holds.Readers.{Readers}
-use Rattle.aio_script.specs.Bounds.{IsBounded}
+use Rattle.aio_model.specs.Holds.WhoHolds.{Readers}
+use Rattle.aio_script.specs.Image.Bounds.{IsBounded}
 use Rattle.co_mutex.specs.declared.lock.CoMutex.{CoMutex}
 use Rattle.co_mutex.specs.declared.lock.Pass.{Pass}
 use Rattle.co_mutex.specs.Passes.{IsNew, passes_of}

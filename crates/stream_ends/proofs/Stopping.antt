@@ -10,7 +10,7 @@ use Rattle.aio_model.specs.declared.scripts.image_scripts.Step.{Step}
 use Rattle.aio_model.specs.Serving.Asked.{asked, requests_of}
 use Rattle.aio_model.specs.Serving.SerialHistory.{IsSerialHistory, bytes_left}
 use Rattle.aio_model.proofs.Along.{bytes_left-keeps}
-use Rattle.aio_script.specs.Bounds.{IsBounded}
+use Rattle.aio_script.specs.Image.Bounds.{IsBounded}
 use Rattle.aio_words.specs.declared.called.DeviceCall.{DeviceCall}
 use Rattle.co_mutex.specs.declared.lock.CoMutex.{CoMutex}
 use Rattle.co_mutex.specs.declared.lock.Pass.{Pass}

@@ -4,7 +4,7 @@ use Rattle.aio_model.specs.declared.scripts.image_scripts.Script.{Script}
 use Rattle.aio_model.specs.declared.scripts.image_scripts.Step.{Step}
 use Rattle.aio_model.specs.declared.scripts.image_scripts.Stream.{Stream as StreamLine}
 use Rattle.aio_model.specs.Serving.Asked.{requests_of}
-use Rattle.aio_model.specs.Holds.Readers.{Readers}
+use Rattle.aio_model.specs.Holds.WhoHolds.{Readers}
 use Rattle.co_mutex.specs.declared.lock.CoMutex.{CoMutex}
 use Rattle.co_mutex.specs.Passes.{built_of, passes_of}
 use Rattle.img_shared.specs.declared.phases.Phase.TheVariants.{Idle}

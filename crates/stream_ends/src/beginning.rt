@@ -1,6 +1,6 @@
 //! From a script and a device to a lock and a coroutine for each stream.
 ghost use Rattle.std.specs.Prelude.{◌≡◌, ◌≤◌, ◌<◌, ◌∷◌, [], IfOk, IfErr, length, slice_index, vec_capacity};
-ghost use Rattle.aio_script.specs.Bounds.{IsBounded};
+ghost use Rattle.aio_script.specs.Image.Bounds.{IsBounded};
 ghost use Rattle.co_mutex.specs.Passes.{IsNew};
 ghost use Rattle.img_streams.specs.Rooms.{IsRoomFor};
 ghost use Rattle.stream_ends.specs.Images.{IsLockFor, device_behind, ids_of_lines};

@@ -1,6 +1,6 @@
 //! From coroutines that have retired to the replies and the device.
 ghost use Rattle.std.specs.Prelude.{◌≤◌, length};
-ghost use Rattle.aio_script.specs.Bounds.{IsBounded};
+ghost use Rattle.aio_script.specs.Image.Bounds.{IsBounded};
 ghost use Rattle.img_join.specs.Ended.{IsChargedFor};
 ghost use Rattle.stream_ends.specs.Images.{IsLockFor, device_behind};
 ghost use Rattle.stream_ends.specs.Starts.{IsEndRoom};

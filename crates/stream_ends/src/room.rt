@@ -1,7 +1,7 @@
 //! The memory that serving takes on the image's side.
 ghost use Rattle.std.specs.Prelude.{◌≡◌, ◌≤◌, ◌<◌, ◌^◌, [], IfOk, length, vec_capacity};
 ghost use Rattle.std.specs.List.{All};
-ghost use Rattle.aio_script.specs.Bounds.{IsBounded};
+ghost use Rattle.aio_script.specs.Image.Bounds.{IsBounded};
 ghost use Rattle.stream_ends.specs.Images.{counts_for, ids_of_lines};
 ghost use Rattle.stream_ends.specs.Starts.{HaveRooms, IsEmptyRoom, AreRoomsFor};
 

@@ -1,6 +1,6 @@
 //! All coroutines of a script on the thread of the caller, resumed in rounds.
 ghost use Rattle.std.specs.Prelude.{◌≡◌, ◌≤◌, IsTrue, IfOk, IfErr};
-ghost use Rattle.aio_script.specs.Bounds.{IsBounded};
+ghost use Rattle.aio_script.specs.Image.Bounds.{IsBounded};
 ghost use Rattle.img_join.specs.Ended.{IsChargedFor};
 ghost use Rattle.img_streams.specs.Streams.{HasGone, IsStreamOf, source};
 ghost use Rattle.stream_ends.specs.Starts.{AllAt};

@@ -4,7 +4,7 @@ use Rattle.aio_model.specs.declared.holds.RwAnswer.{RwAnswer}
 use Rattle.aio_model.specs.declared.holds.RwAnswer.TheVariants.{Got, Queued}
 use Rattle.aio_model.specs.declared.holds.Wish.{Wish}
 use Rattle.aio_model.specs.declared.holds.Wish.TheVariants as wish
-use Rattle.aio_model.specs.Holds.Readers.{Holders, Readers, Writer, Ticket, ReadersWriter, other_readers}
+use Rattle.aio_model.specs.Holds.WhoHolds.{Holders, Readers, Writer, Ticket, ReadersWriter, other_readers}
 
 -- of a call that asks for a hold
 pub record HoldAsked : Type 0 where

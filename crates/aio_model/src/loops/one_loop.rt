@@ -207,7 +207,7 @@ fn any_due(halves: &[BottomHalf]) -> bool
     false
 }
 
-/// The newest one of the stack that is urgent.
+/// The newest one of the stack that is urgent. The newest stands last in the stack.
 fn newest_urgent(stack: &[u32], halves: &[BottomHalf]) -> Option<u32>
     requires { All (λ i. i < length halves.now) stack.now }
     ensures { result ≡ find (λ i. are_urgent (slice_index_or halves.now i blank).flags) (reverse stack.now) }

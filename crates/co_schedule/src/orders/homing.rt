@@ -157,6 +157,7 @@ impl<'a> ToLoadMark<'a> {
             run,
             co,
         } = self;
+        // The orders are judged by who is entered, and not by what is found here.
         table.load_mark(&mut inner, co);
         let _parcel = table.table.shared.exchange(&mut inner, co as usize, None);
         Homing::ClearsMark(ToClearMark {

@@ -90,6 +90,7 @@ impl<'a> ToMark<'a> {
         if found != 0 {
             return Scheduler::Refused(found);
         }
+        // Whoever has set the mark finds the slot empty.
         let _empty = table.table.shared.exchange(&mut inner, co as usize, parcel);
         Scheduler::LoadsHead(ToLoadHead { table, inner, co })
     }

@@ -108,7 +108,7 @@ turn-finish-requires-clause-may_end g t c =
     let asked = far c.call.new.home.seat.known c.call.new.runner c.call.new.polled in
     let new = far c.nest.new.home.seat.known c.nest.new.runner c.nest.new.polled in
     let entry = c.call.ensures.nests c.if-call.true in
-    let called = GoesFurther-nested does (Frame sizes a.deeper) (nests_above a.deeper) c.nests_of.result a.next.bh job due old asked new c.nests_of.ensures entry.1 entry.0 entry.2 c.nest.ensures.goes in
+    let called = GoesFurther-nested does (Frame sizes a.deeper) (nests_above a.deeper) c.nests_allowed.result a.next.bh job due old asked new c.nests_allowed.ensures entry.1 entry.0 entry.2 c.nest.ensures.goes in
     may_end_behind sizes a.deeper (nests_above a.deeper) a.next.bh job due does old new called c.nest.ensures.between.legal c.requires.may_end
 
 pub turn-end_lot-requires-clause-may_end : goal.turn-end_lot-requires-clause-may_end
@@ -146,7 +146,7 @@ turn-returns-then-call-clause-goes g t c =
     let new = far home.seat.known c.nest.new.runner c.nest.new.polled in
     let entry = c.call.ensures.nests c.if-call.true in
     let between = c.nest.ensures.between in
-    let called = GoesFurther-nested does frame nests c.nests_of.result bh job due old asked new c.nests_of.ensures entry.1 entry.0 entry.2 c.nest.ensures.goes in
+    let called = GoesFurther-nested does frame nests c.nests_allowed.result bh job due old asked new c.nests_allowed.ensures entry.1 entry.0 entry.2 c.nest.ensures.goes in
     let ends = GoesFurther-ends sizes bh does home.seat.known after c.nest.new.runner c.nest.new.polled home.number.0 home.number.1 between.of_table.sizes between.legal c.finish.ensures.ends in
     GoesFurther-then (CallsBody frame nests bh job due) (FreesLot sizes bh) (FollowsDequeue sizes frame nests bh job due) does old new (far after c.nest.new.runner c.nest.new.polled) (λ x y z one two. (y, one, two)) called ends
 

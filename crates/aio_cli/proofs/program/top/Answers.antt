@@ -3,8 +3,8 @@ use Rattle.aio_model.specs.declared.scripts.image_scripts.Script.{Script}
 use Rattle.aio_model.specs.declared.scripts.loop_scripts.LoopScript.{LoopScript}
 use Rattle.aio_words.specs.Content.{with_piece, AppendsFront}
 use Rattle.aio_script.specs.declared.refusals.ScriptRefusal.{ScriptRefusal}
-use Rattle.aio_script.specs.Grammar.{script_said}
-use Rattle.aio_script.specs.LoopGrammar.{loop_script_said}
+use Rattle.aio_script.specs.Image.Grammar.{script_said}
+use Rattle.aio_script.specs.Loop.Grammar.{loop_script_said}
 use Rattle.program_words.specs.declared.modes.Mode.TheVariants.{Image, Bells, Generated}
 use Rattle.program_words.specs.Words.{mode_said}
 use Rattle.aio_cli.specs.Answers.{LoopScriptIsDone, IsScriptRefusal, IsWholeAnswer}

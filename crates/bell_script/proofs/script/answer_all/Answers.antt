@@ -2,7 +2,7 @@ use Rattle.std.proofs.Common.{◌≡◌, ◌+◌, ◌<◌, length, take, get_or,
 use Rattle.std.proofs.lemmas.List.{take_more, take_all}
 use Rattle.aio_model.specs.declared.scripts.loop_scripts.Command.TheVariants.{Schedule}
 use Rattle.aio_model.specs.Loop.History.{Sizes}
-use Rattle.aio_script.specs.LoopBounds.{IsCommandWithin}
+use Rattle.aio_script.specs.Loop.Bounds.{IsCommandWithin}
 use Rattle.bell_loop.specs.Machines.{machine_state_of}
 use Rattle.bell_script.specs.Scripts.{Collects}
 use Rattle.bell_script.proofs.Scripted.{Collects-none, Collects-more, each_at}

@@ -1,6 +1,6 @@
 use Rattle.std.proofs.Common.{◌≡◌, ◌∙◌, ◌∷◌, [], length, ap, subst, arith, rules}
 use Rattle.aio_model.specs.Serving.Asked.{requests_of}
-use Rattle.aio_model.specs.Holds.Readers.{Readers}
+use Rattle.aio_model.specs.Holds.WhoHolds.{Readers}
 use Rattle.img_streams.specs.Lines.{AreShort}
 use Rattle.stream_tests.proofs.Sole.{sole}
 use Rattle.stream_tests.proofs.stage.set_up.Goals as goal

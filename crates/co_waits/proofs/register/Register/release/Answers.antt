@@ -1,5 +1,5 @@
 use Rattle.std.proofs.Common.{◌∙◌, ap}
-use Rattle.aio_model.specs.Holds.Readers.{ReadersWriter, hold_of}
+use Rattle.aio_model.specs.Holds.WhoHolds.{ReadersWriter, hold_of}
 use Rattle.aio_model.proofs.Holding.{released-own}
 use Rattle.co_waits.specs.Registers.{state_in}
 use Rattle.co_waits.proofs.Kept.{release_present, released_writer, released_reader}

@@ -1,7 +1,7 @@
 use Rattle.std.proofs.Common.{◌≡◌, ◌<◌, ◌∙◌, sym, ap, subst, arith, Some, None}
 use Rattle.std.proofs.lemmas.List.{get_or_read}
 use Rattle.aio_model.specs.declared.holds.Wish.TheVariants as wish
-use Rattle.aio_model.specs.Holds.Readers.{ReadersWriter}
+use Rattle.aio_model.specs.Holds.WhoHolds.{ReadersWriter}
 use Rattle.aio_model.specs.Holds.Table.{wake_one}
 use Rattle.co_waits.specs.Registers.{AreKept, state_in}
 use Rattle.co_waits.proofs.Kept.{nobody, none_there, first_low, first_no_reader, wakes_reader, wakes_writer, wakes_nobody}

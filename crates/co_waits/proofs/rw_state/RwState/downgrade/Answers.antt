@@ -1,6 +1,6 @@
 use Rattle.std.proofs.Common.{◌≡◌, ◌∙◌, ◌++◌, ◌∷◌, [], sym, ap, subst}
 use Rattle.aio_model.specs.declared.holds.Hold.TheVariants.{Writes}
-use Rattle.aio_model.specs.Holds.Readers.{Readers, ReadersWriter, hold_of}
+use Rattle.aio_model.specs.Holds.WhoHolds.{Readers, ReadersWriter, hold_of}
 use Rattle.aio_model.specs.Holds.{after_wake, IsSettled}
 use Rattle.aio_model.specs.Holds.Table.{released, without_holder, with_reader, downgraded, wake_one}
 use Rattle.aio_model.proofs.Holding.{the_writer, downgraded_settles, downgraded-others}

@@ -1,5 +1,5 @@
 use Rattle.std.proofs.Common.{◌≡◌, ◌∙◌, sym, ap, subst, true, false}
-use Rattle.aio_model.specs.Holds.Readers.{ReadersWriter, hold_of}
+use Rattle.aio_model.specs.Holds.WhoHolds.{ReadersWriter, hold_of}
 use Rattle.aio_model.specs.Holds.{answered, IsSettled}
 use Rattle.aio_model.specs.Holds.Table.{read_locked}
 use Rattle.aio_model.specs.declared.holds.Hold.TheVariants.{Reads, WaitsRead}

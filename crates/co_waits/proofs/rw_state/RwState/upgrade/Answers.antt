@@ -1,6 +1,6 @@
 use Rattle.std.proofs.Common.{◌≡◌, ◌∙◌, ℕ, Option, IfSome, sym, ap, subst}
 use Rattle.aio_model.specs.declared.holds.Hold.TheVariants.{Reads, Writes, WaitsWrite}
-use Rattle.aio_model.specs.Holds.Readers.{ReadersWriter, hold_of}
+use Rattle.aio_model.specs.Holds.WhoHolds.{ReadersWriter, hold_of}
 use Rattle.aio_model.specs.Holds.{Has, HasTicket, answered, after_wake, IsSettled}
 use Rattle.aio_model.specs.Holds.Table.{Exchanged, stepped_back, queued_again, upgraded, wake_one}
 use Rattle.aio_model.proofs.Holding.{exchanges}

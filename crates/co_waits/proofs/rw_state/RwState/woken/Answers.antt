@@ -1,5 +1,5 @@
 use Rattle.std.proofs.Common.{◌≡◌, ◌∙◌, sym, ap, subst}
-use Rattle.aio_model.specs.Holds.Readers.{ReadersWriter, hold_of}
+use Rattle.aio_model.specs.Holds.WhoHolds.{ReadersWriter, hold_of}
 use Rattle.aio_model.specs.Holds.{after_wake, IsSettled}
 use Rattle.aio_model.specs.Holds.Table.{wake_one}
 use Rattle.aio_model.proofs.Granted.{wakes}

@@ -1,6 +1,6 @@
 use Rattle.std.proofs.Common.{◌<◌, ◌∙◌, sym, ap, subst, refl, length, arith}
 use Rattle.std.proofs.lemmas.List.{get_or_default}
-use Rattle.aio_model.specs.Holds.Readers.{hold_of}
+use Rattle.aio_model.specs.Holds.WhoHolds.{hold_of}
 use Rattle.img_shared.specs.declared.phases.Phase.TheVariants.{Idle, Active}
 use Rattle.img_shared.specs.Phases.{Writing, has_failed, is_failed_stage}
 use Rattle.img_shared.specs.Soundness.{IsInside}

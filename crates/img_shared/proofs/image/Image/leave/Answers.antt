@@ -1,7 +1,7 @@
 use Rattle.std.proofs.Common.{◌<◌, ◌∙◌, sym, ap, subst, length, arith, refl}
 use Rattle.std.proofs.lemmas.List.{get_or_default}
 use Rattle.aio_model.specs.Holds.{Has}
-use Rattle.aio_model.specs.Holds.Readers.{hold_of}
+use Rattle.aio_model.specs.Holds.WhoHolds.{hold_of}
 use Rattle.img_shared.specs.declared.phases.Phase.TheVariants.{Idle}
 use Rattle.img_shared.specs.Journals.{entry_next}
 use Rattle.img_shared.specs.Phases.{CanLeave, Linked}

@@ -1,6 +1,0 @@
-use Rattle.std.specs.Fmt.{digits}
-use Rattle.aio_script.proofs.loop_print.print_idle.Goals as goal
-
-pub returns : goal.returns
-unfolding digits
-returns g c = c.put.ensures

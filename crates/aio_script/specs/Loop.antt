@@ -1,0 +1,5 @@
+-- Scripts for one loop: what a line says, and what a whole text says.
+pub mod Bounds
+pub mod Forms
+pub mod Grammar
+pub mod Reading
