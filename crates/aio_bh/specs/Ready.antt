@@ -1,12 +1,7 @@
 -- A seat between two calls.
 use Rattle.std.specs.Prelude.{◌≡◌}
 use Rattle.aio_model.specs.Loop.InFlight.{AtRest}
-use Rattle.aio_core.specs.Calls.{TableState, SeatState, IsSeatOf}
-
--- it is of the table, and at rest
-pub record IsReady (table : TableState) (seat : SeatState) : Type 0 where
-  pub of : IsSeatOf table seat
-  pub rest : seat.known.phase ≡ AtRest
+use Rattle.aio_core.specs.Calls.{TableState, SeatState, IsSeatOf, IsReady}
 
 -- it is ready again, with the numbers that it had
 pub record ComesBack (table : TableState) (before after : SeatState) : Type 0 where

@@ -4,7 +4,7 @@ ghost use Rattle.std.specs.Prelude.{◌≡◌, ◌<◌, ◌∷◌, [], MatchResu
 ghost use Rattle.aio_model.specs.Loop.History.{Put as pushed, Enqueue as enqueued};
 ghost use Rattle.aio_model.specs.Loop.InFlight.{AtRest, Announced as announced, ToStore, ForIndex};
 ghost use Rattle.aio_core.specs.Standing.{asks_of_kind};
-ghost use Rattle.aio_core.specs.Calls.{IsSeatOf};
+ghost use Rattle.aio_core.specs.Calls.{IsSeatOf, IsReady};
 ghost use Rattle.aio_bh.specs.Enqueuing.{MissesOnce, PushesOnce, PushesAndNotifies, PushesInTheEnd, Schedules, enqueue_entries, AddsOnly};
 ghost use Rattle.aio_bh.specs.Puts.{TriedToPut};
 
@@ -59,9 +59,8 @@ pub fn push_in_the_end<J: Job, R: Wait>(
 )
     requires seat { IsSeatOf table.now seat.old }
     requires phase { seat.old.known.phase ≡ announced owed }
-    ensures seat { IsSeatOf table.now seat.new }
+    ensures seat { IsReady table.now seat.new }
     ensures steps { PushesInTheEnd owed seat.old.known seat.new.known }
-    ensures rest { seat.new.known.phase ≡ AtRest }
 {
     let mut owed = owed;
     for _ in rt.forever() {
@@ -76,8 +75,7 @@ pub fn push_in_the_end<J: Job, R: Wait>(
 /// An enqueue of this kind that tries once to push.
 #[inline(always)]
 pub fn try_schedule_as<J: Job>(table: &LoopTable<J>, seat: &mut Seat<J>, bh: u32, kind: Kind) -> Put
-    requires seat { IsSeatOf table.now seat.old }
-    requires rest { seat.old.known.phase ≡ AtRest }
+    requires seat { IsReady table.now seat.old }
     requires handle { bh < table.now.sizes.handles }
     ensures seat { IsSeatOf table.now seat.new }
     ensures put { TriedToPut bh (asks_of_kind kind) result seat.old.known seat.new.known }
@@ -102,13 +100,11 @@ pub fn schedule_as<J: Job, R: Wait>(
     bh: u32,
     kind: Kind,
 ) -> Flags
-    requires seat { IsSeatOf table.now seat.old }
-    requires rest { seat.old.known.phase ≡ AtRest }
+    requires seat { IsReady table.now seat.old }
     requires handle { bh < table.now.sizes.handles }
-    ensures seat { IsSeatOf table.now seat.new }
+    ensures seat { IsReady table.now seat.new }
     ensures steps { Schedules bh (asks_of_kind kind) result seat.old.known seat.new.known }
     ensures stands { AddsOnly (enqueue_entries bh (asks_of_kind kind) seat.old.known.first result) seat.old.known seat.new.known }
-    ensures rest { seat.new.known.phase ≡ AtRest }
 {
     match try_schedule_as(table, seat, bh, kind) {
         Put::Done(flags) => flags,

@@ -10,11 +10,12 @@ ghost use Rattle.aio_model.specs.Loop.Frame.{Ended, Nests, Frame, EntersRunner, 
 ghost use Rattle.aio_model.specs.Loop.Frame.{is_cut as is_cut_by};
 ghost use Rattle.aio_core.specs.Words.{index_count};
 ghost use Rattle.aio_core.specs.Standing.{Frees};
-ghost use Rattle.aio_core.specs.Calls.{IsSeatOf};
+ghost use Rattle.aio_core.specs.Calls.{IsSeatOf, IsReady};
 ghost use Rattle.aio_bh.specs.Running.{answer_by, RunsOnce};
 ghost use Rattle.aio_bh.specs.OneShots.{IsPoolFor, FreesNone, GivesFreed};
 ghost use Rattle.lot_pool.specs.Pools.{IsHomeOf};
 ghost use Rattle.aio_bh.specs.PollFrames.{far, GoesFurther, CallsBody, FollowsDequeue, CanTake, IsBetween, FindsNone, MayEnd, TakesNext, BehindNest, noted};
+ghost use Rattle.aio_core.specs.Known.{IsHomes};
 
 use crate::call::Call;
 use crate::polled::Polled;
@@ -45,9 +46,8 @@ fn lend<J: Job + Drop, R: Runner<J>>(
     call: Call<J>,
 ) -> Turn
     requires can_run { R.can_run runner.old table.now.sizes }
-    requires seat { IsSeatOf table.now seat.old }
-    requires home { (seat.old.known.first ≡ 64) × (seat.old.known.count ≡ 1) }
-    requires rest { seat.old.known.phase ≡ AtRest }
+    requires seat { IsReady table.now seat.old }
+    requires home { IsHomes seat.old.known }
     requires legal { IsLegal table.now.sizes seat.old.known.seen }
     requires index { call.bh < index_count table.now.sizes }
     requires handle { call.first ≡ true → call.job ≡ None → call.bh < table.now.sizes.handles }

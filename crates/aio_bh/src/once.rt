@@ -1,7 +1,7 @@
 //! One-shots from any thread, after aio_bh_schedule_oneshot of QEMU's util/async.c, with a place from a pool instead of memory.
 ghost use Rattle.std.specs.Prelude.{◌≡◌, MatchResult};
 ghost use Rattle.aio_model.specs.Loop.InFlight.{AtRest, Announced as announced};
-ghost use Rattle.aio_core.specs.Calls.{IsSeatOf};
+ghost use Rattle.aio_core.specs.Calls.{IsSeatOf, IsReady};
 ghost use Rattle.lot_pool.specs.Pools.{IsPassOf};
 ghost use Rattle.aio_bh.specs.OneShots.{IsPoolFor, FindsNoRoom, PlacesIn, PlacesOnce};
 
@@ -27,8 +27,7 @@ fn announce_in_some<J: Job, R: Wait>(
 ) -> Result<Announced, NoRoom<J>>
     requires pool { IsPoolFor table.now.sizes pool.now }
     requires pass { IsPassOf pool.now pass.old }
-    requires seat { IsSeatOf table.now seat.old }
-    requires rest { seat.old.known.phase ≡ AtRest }
+    requires seat { IsReady table.now seat.old }
     ensures pass { IsPassOf pool.now pass.new }
     ensures seat { IsSeatOf table.now seat.new }
     ensures placed { MatchResult result (λ owed. PlacesIn owed (J.number_of job) pass.old seat.old.known pass.new seat.new.known × (seat.new.known.phase ≡ announced owed)) (λ refused. (refused.job ≡ job) × FindsNoRoom pass.old seat.old.known pass.new seat.new.known) }
@@ -57,11 +56,9 @@ pub fn once_in<J: Job, R: Wait>(
 ) -> Result<(), NoRoom<J>>
     requires pool { IsPoolFor table.now.sizes pool.now }
     requires pass { IsPassOf pool.now pass.old }
-    requires seat { IsSeatOf table.now seat.old }
-    requires rest { seat.old.known.phase ≡ AtRest }
+    requires seat { IsReady table.now seat.old }
     ensures pass { IsPassOf pool.now pass.new }
-    ensures seat { IsSeatOf table.now seat.new }
-    ensures rest { seat.new.known.phase ≡ AtRest }
+    ensures seat { IsReady table.now seat.new }
     ensures placed { MatchResult result (λ _. PlacesOnce (J.number_of job) pass.old seat.old.known pass.new seat.new.known) (λ refused. (refused.job ≡ job) × FindsNoRoom pass.old seat.old.known pass.new seat.new.known) }
 {
     match announce_in_some(rt, table, pool, pass, seat, job) {

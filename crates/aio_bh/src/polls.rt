@@ -5,7 +5,7 @@ ghost use Rattle.std.specs.Prelude.{◌≡◌, ◌<◌, MatchResult};
 ghost use Rattle.aio_model.specs.Loop.History.{ToCall, ToCallIdle, ToDelete};
 ghost use Rattle.aio_model.specs.Loop.InFlight.{AtRest, Announced as announced};
 ghost use Rattle.aio_core.specs.Known.{empty_stage};
-ghost use Rattle.aio_core.specs.Calls.{IsSeatOf};
+ghost use Rattle.aio_core.specs.Calls.{IsSeatOf, IsReady};
 ghost use Rattle.aio_bh.specs.Enqueuing.{PushesAndNotifies, MissesOnce, Schedules, enqueue_entries, AddsOnly};
 ghost use Rattle.aio_bh.specs.Puts.{TriedToPut};
 ghost use Rattle.aio_bh.specs.Polling.{Polls};
@@ -32,38 +32,31 @@ pub trait BottomHalves<J: Job + Drop> {
     /// Schedules a handle: its callback is called at the next poll. Answers the flags that it found. Any thread, with a seat
     /// of its own; it may try again as long as other threads push.
     fn schedule<R: Wait>(&self, rt: &R, seat: &mut Seat<J>, bh: u32) -> Flags
-        requires seat { IsSeatOf (table self.now) seat.old }
-        requires rest { seat.old.known.phase ≡ AtRest }
+        requires seat { IsReady (table self.now) seat.old }
         requires handle { bh < (table self.now).sizes.handles }
-        ensures seat { IsSeatOf (table self.now) seat.new }
+        ensures seat { IsReady (table self.now) seat.new }
         ensures steps { Schedules bh ToCall result seat.old.known seat.new.known }
-        ensures stands { AddsOnly (enqueue_entries bh ToCall seat.old.known.first result) seat.old.known seat.new.known }
-        ensures rest { seat.new.known.phase ≡ AtRest };
+        ensures stands { AddsOnly (enqueue_entries bh ToCall seat.old.known.first result) seat.old.known seat.new.known };
 
     /// The same, for a call that is no progress. Scheduling it again in the same round doesn't take that back.
     fn schedule_idle<R: Wait>(&self, rt: &R, seat: &mut Seat<J>, bh: u32) -> Flags
-        requires seat { IsSeatOf (table self.now) seat.old }
-        requires rest { seat.old.known.phase ≡ AtRest }
+        requires seat { IsReady (table self.now) seat.old }
         requires handle { bh < (table self.now).sizes.handles }
-        ensures seat { IsSeatOf (table self.now) seat.new }
+        ensures seat { IsReady (table self.now) seat.new }
         ensures steps { Schedules bh ToCallIdle result seat.old.known seat.new.known }
-        ensures stands { AddsOnly (enqueue_entries bh ToCallIdle seat.old.known.first result) seat.old.known seat.new.known }
-        ensures rest { seat.new.known.phase ≡ AtRest };
+        ensures stands { AddsOnly (enqueue_entries bh ToCallIdle seat.old.known.first result) seat.old.known seat.new.known };
 
     /// Deletes a handle: its callback is never called again.
     fn delete<R: Wait>(&self, rt: &R, seat: &mut Seat<J>, bh: u32) -> Flags
-        requires seat { IsSeatOf (table self.now) seat.old }
-        requires rest { seat.old.known.phase ≡ AtRest }
+        requires seat { IsReady (table self.now) seat.old }
         requires handle { bh < (table self.now).sizes.handles }
-        ensures seat { IsSeatOf (table self.now) seat.new }
+        ensures seat { IsReady (table self.now) seat.new }
         ensures steps { Schedules bh ToDelete result seat.old.known seat.new.known }
-        ensures stands { AddsOnly (enqueue_entries bh ToDelete seat.old.known.first result) seat.old.known seat.new.known }
-        ensures rest { seat.new.known.phase ≡ AtRest };
+        ensures stands { AddsOnly (enqueue_entries bh ToDelete seat.old.known.first result) seat.old.known seat.new.known };
 
     /// Schedules a handle, and tries once to push it. It doesn't wait.
     fn try_schedule(&self, seat: &mut Seat<J>, bh: u32) -> Put
-        requires seat { IsSeatOf (table self.now) seat.old }
-        requires rest { seat.old.known.phase ≡ AtRest }
+        requires seat { IsReady (table self.now) seat.old }
         requires handle { bh < (table self.now).sizes.handles }
         ensures seat { IsSeatOf (table self.now) seat.new }
         ensures put { TriedToPut bh ToCall result seat.old.known seat.new.known };
@@ -87,11 +80,9 @@ pub trait BottomHalves<J: Job + Drop> {
     ) -> Result<(), NoRoom<J>>
         requires pool { IsPoolFor (table self.now).sizes pool.now }
         requires pass { IsPassOf pool.now pass.old }
-        requires seat { IsSeatOf (table self.now) seat.old }
-        requires rest { seat.old.known.phase ≡ AtRest }
+        requires seat { IsReady (table self.now) seat.old }
         ensures pass { IsPassOf pool.now pass.new }
-        ensures seat { IsSeatOf (table self.now) seat.new }
-        ensures rest { seat.new.known.phase ≡ AtRest }
+        ensures seat { IsReady (table self.now) seat.new }
         ensures placed { MatchResult result (λ _. PlacesOnce (J.number_of job) pass.old seat.old.known pass.new seat.new.known) (λ refused. (refused.job ≡ job) × FindsNoRoom pass.old seat.old.known pass.new seat.new.known) };
 
     /// Calls back all that is due of what was scheduled before, one after another, the last one first, and dequeues the
@@ -111,8 +102,7 @@ pub trait BottomHalves<J: Job + Drop> {
         requires can_run { R.can_run runner.old (table self.now).sizes }
         requires pool { IsPoolFor (table self.now).sizes pool.now }
         requires pass { IsHomeOf pool.now pass.old }
-        requires seat { IsSeatOf (table self.now) home.old.seat }
-        requires rest { home.old.seat.known.phase ≡ AtRest }
+        requires seat { IsReady (table self.now) home.old.seat }
         requires empty { home.old.seat.known.stage ≡ empty_stage }
         ensures can_run { R.can_run runner.new (table self.now).sizes }
         ensures pass { IsHomeOf pool.now pass.new }

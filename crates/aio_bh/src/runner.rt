@@ -4,8 +4,9 @@ ghost use Rattle.aio_model.specs.Loop.InFlight.{AtRest};
 ghost use Rattle.aio_model.specs.Loop.Legal.{IsLegal};
 ghost use Rattle.aio_model.specs.Loop.Frame.{lent_of};
 ghost use Rattle.aio_core.specs.Words.{index_count};
-ghost use Rattle.aio_core.specs.Calls.{IsSeatOf};
+ghost use Rattle.aio_core.specs.Calls.{IsSeatOf, IsReady};
 ghost use Rattle.aio_bh.specs.Running.{answer_by, RunsOnce};
+ghost use Rattle.aio_core.specs.Known.{IsHomes};
 
 use crate::call::Call;
 use crate::turn::Turn;
@@ -26,9 +27,8 @@ pub trait Runner<J: Job> {
     /// schedules is for a later poll. A first entry that brings no job is for a handle.
     fn run(&mut self, table: &LoopTable<J>, seat: &mut Seat<J>, call: &mut Call<J>) -> Turn
         requires can_run { can_run self.old table.now.sizes }
-        requires seat { IsSeatOf table.now seat.old }
-        requires home { (seat.old.known.first ≡ 64) × (seat.old.known.count ≡ 1) }
-        requires rest { seat.old.known.phase ≡ AtRest }
+        requires seat { IsReady table.now seat.old }
+        requires home { IsHomes seat.old.known }
         requires legal { IsLegal table.now.sizes seat.old.known.seen }
         requires index { call.old.bh < index_count table.now.sizes }
         requires handle { call.old.first ≡ true → call.old.job ≡ None → call.old.bh < table.now.sizes.handles }

@@ -24,6 +24,11 @@ pub record IsSeatOf (table : TableState) (seat : SeatState) : Type 0 where
   pub tables : seat.table ≡ table.table
   pub sizes : seat.known.sizes ≡ table.sizes
 
+-- the seat is of the table, and at rest
+pub record IsReady (table : TableState) (seat : SeatState) : Type 0 where
+  pub of : IsSeatOf table seat
+  pub rest : seat.known.phase ≡ AtRest
+
 -- the head was another than the one that was loaded
 pub record IsMissed (i head : ℕ) (before after : Known) : Type 0 where
   pub found : ℕ

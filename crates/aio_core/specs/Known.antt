@@ -1,5 +1,5 @@
 -- What a seat of a loop's table knows.
-use Rattle.std.specs.Prelude.{ℕ, Bool, true, false, Option, None, List, []}
+use Rattle.std.specs.Prelude.{◌≡◌, ℕ, Bool, true, false, Option, None, List, []}
 use Rattle.table_seats.specs.Seats.{Numbers, Told, Part, numbers_in}
 use Rattle.aio_model.specs.Loop.History.{Sizes, Entry, History}
 use Rattle.aio_model.specs.Loop.InFlight.{Phase, AtRest}
@@ -92,6 +92,10 @@ pub record Known : Type 0 where
   pub stage : Stage
   pub sleep : Sleep
   pub told : Option (Told Entry)
+
+-- it has the home's number, and no other
+abbrev pub IsHomes : Known → Type 0
+IsHomes known = (known.first ≡ 64) × (known.count ≡ 1)
 
 -- the part that is about numbers and the history
 abbrev pub part_of : Known → Part Entry

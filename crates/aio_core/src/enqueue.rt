@@ -7,7 +7,7 @@ ghost use Rattle.aio_model.specs.Loop.Flags.{is_once};
 ghost use Rattle.aio_core.specs.Words.{index_count};
 ghost use Rattle.aio_core.specs.Standing.{asks_of_kind, mask_of, Enqueues, Aims, Pushes, Misses};
 ghost use Rattle.aio_core.specs.Plays.{Enqueued, HeadIsLoaded, NextIsStored};
-ghost use Rattle.aio_core.specs.Calls.{IsSeatOf, IsMissed};
+ghost use Rattle.aio_core.specs.Calls.{IsSeatOf, IsMissed, IsReady};
 
 use crate::job::Job;
 use crate::plays::{CompareHead, Enqueue, LoadHead, StoreNext};
@@ -30,8 +30,7 @@ fn mask(kind: Kind) -> u64
 
 impl<J: Job> LoopTable<J> {
     fn set_flags(&self, seat: &mut Seat<J>, bh: u32, kind: Kind, mask: u64) -> u64
-        requires seat { IsSeatOf self.now seat.old }
-        requires rest { seat.old.known.phase ≡ AtRest }
+        requires seat { IsReady self.now seat.old }
         requires handle { bh < self.now.sizes.handles }
         requires mask { mask ≡ mask_of (asks_of_kind kind) }
         ensures seat { IsSeatOf self.now seat.new }
@@ -77,8 +76,7 @@ impl<J: Job> LoopTable<J> {
     /// Sets the flags of an enqueue, one atomic step, and answers those that it found. Where the handle was not pending,
     /// the seat has announced it and is to push it. Any thread, with a seat of its own.
     pub fn announce(&self, seat: &mut Seat<J>, bh: u32, kind: Kind) -> (Flags, Option<Announced>)
-        requires seat { IsSeatOf self.now seat.old }
-        requires rest { seat.old.known.phase ≡ AtRest }
+        requires seat { IsReady self.now seat.old }
         requires handle { bh < self.now.sizes.handles }
         ensures seat { IsSeatOf self.now seat.new }
         ensures step { Enqueues bh (asks_of_kind kind) result.0 seat.old.known seat.new.known }

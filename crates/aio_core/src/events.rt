@@ -3,7 +3,8 @@
 ghost use Rattle.std.specs.Prelude.{◌≡◌, ◌<◌, ◌==◌, ℕ};
 ghost use Rattle.aio_model.specs.Loop.InFlight.{AtRest};
 ghost use Rattle.aio_core.specs.SleepSteps.{SetsEvent, ClearsEvent, LoadsEvent};
-ghost use Rattle.aio_core.specs.Calls.{IsSeatOf};
+ghost use Rattle.aio_core.specs.Calls.{IsSeatOf, IsReady};
+ghost use Rattle.aio_core.specs.Known.{IsHomes};
 
 use crate::home::Home;
 use crate::job::Job;
@@ -14,8 +15,7 @@ use crate::words::event_word;
 
 impl<J: Job> LoopTable<J> {
     fn swap_in_event(&self, seat: &mut Seat<J>, event: u32) -> u64
-        requires seat { IsSeatOf self.now seat.old }
-        requires rest { seat.old.known.phase ≡ AtRest }
+        requires seat { IsReady self.now seat.old }
         requires event { event < self.now.sizes.events }
         ensures seat { IsSeatOf self.now seat.new }
         ensures step { SetsEvent event result seat.old.known seat.new.known }
@@ -27,7 +27,7 @@ impl<J: Job> LoopTable<J> {
 
     fn swap_out_event(&self, seat: &mut Seat<J>, event: u32) -> u64
         requires seat { IsSeatOf self.now seat.old }
-        requires number { (seat.old.known.first ≡ 64) × (seat.old.known.count ≡ 1) }
+        requires number { IsHomes seat.old.known }
         requires event { event < self.now.sizes.events }
         ensures seat { IsSeatOf self.now seat.new }
         ensures step { ClearsEvent event result seat.old.known seat.new.known }
@@ -39,7 +39,7 @@ impl<J: Job> LoopTable<J> {
 
     fn read_event(&self, seat: &mut Seat<J>, event: u32) -> u64
         requires seat { IsSeatOf self.now seat.old }
-        requires number { (seat.old.known.first ≡ 64) × (seat.old.known.count ≡ 1) }
+        requires number { IsHomes seat.old.known }
         requires event { event < self.now.sizes.events }
         ensures seat { IsSeatOf self.now seat.new }
         ensures step { LoadsEvent event result seat.old.known seat.new.known }
@@ -51,8 +51,7 @@ impl<J: Job> LoopTable<J> {
 
     /// Sets an event, by one atomic swap. The seat has to notify then.
     pub fn mark_event(&self, seat: &mut Seat<J>, event: u32)
-        requires seat { IsSeatOf self.now seat.old }
-        requires rest { seat.old.known.phase ≡ AtRest }
+        requires seat { IsReady self.now seat.old }
         requires event { event < self.now.sizes.events }
         ensures seat { IsSeatOf self.now seat.new }
         ensures step { (found : ℕ) × SetsEvent event found seat.old.known seat.new.known }

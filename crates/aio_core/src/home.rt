@@ -1,7 +1,7 @@
 //! The steps of the home thread: it takes the list whole, and dequeues what it took, after aio_bh_poll and aio_bh_dequeue of
 //! QEMU's util/async.c.
 ghost use Rattle.std.specs.Prelude.{◌≡◌, ◌≢◌, ◌<◌, ◌≤◌, ◌+◌, [], ◌∷◌, length, drop, slice_index, None, Some, IfSome, MatchOption, true};
-ghost use Rattle.aio_core.specs.Known.{Known};
+ghost use Rattle.aio_core.specs.Known.{Known, IsHomes};
 ghost use Rattle.aio_core.specs.Words.{index_count};
 ghost use Rattle.aio_core.specs.Standing.{Takes, Lifts, Dequeues};
 ghost use Rattle.aio_core.specs.Plays.{Dequeued};
@@ -22,7 +22,7 @@ use aio_model::Flags;
 pub struct Home<J: Job> {
     pub seat: Seat<J>,
     pub(crate) slices: Slices,
-    ghost number: { (seat.known.first ≡ 64) × (seat.known.count ≡ 1) },
+    ghost number: { IsHomes seat.known },
     ghost same_slices: { slices ≡ seat.known.stage.slices },
     ghost few_slices: { length slices ≤ 8 },
     ghost slices_within: { are_within seat.known.sizes slices ≡ true },
@@ -45,7 +45,7 @@ impl<J: Job> LoopTable<J> {
     #[inline(always)]
     fn swap_head(&self, seat: &mut Seat<J>) -> u64
         requires seat { IsSeatOf self.now seat.old }
-        requires number { (seat.old.known.first ≡ 64) × (seat.old.known.count ≡ 1) }
+        requires number { IsHomes seat.old.known }
         ensures seat { IsSeatOf self.now seat.new }
         ensures step { Takes result seat.old.known seat.new.known }
     {
@@ -55,7 +55,7 @@ impl<J: Job> LoopTable<J> {
     #[inline(always)]
     fn load_after(&self, seat: &mut Seat<J>, bh: u32) -> u64
         requires seat { IsSeatOf self.now seat.old }
-        requires number { (seat.old.known.first ≡ 64) × (seat.old.known.count ≡ 1) }
+        requires number { IsHomes seat.old.known }
         requires handle { bh < self.now.sizes.handles }
         requires first { seat.old.known.stage.slices ≡ (bh + 1) ∷ drop 1 seat.old.known.stage.slices }
         requires free { seat.old.known.stage.hand ≡ None }
@@ -70,7 +70,7 @@ impl<J: Job> LoopTable<J> {
     #[inline(always)]
     fn clear_flags(&self, seat: &mut Seat<J>, bh: u32) -> u64
         requires seat { IsSeatOf self.now seat.old }
-        requires number { (seat.old.known.first ≡ 64) × (seat.old.known.count ≡ 1) }
+        requires number { IsHomes seat.old.known }
         requires handle { bh < self.now.sizes.handles }
         requires hand { seat.old.known.stage.hand ≡ Some bh }
         ensures seat { IsSeatOf self.now seat.new }

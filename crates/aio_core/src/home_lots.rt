@@ -4,7 +4,7 @@ ghost use Rattle.std.specs.Prelude.{◌≡◌, ◌≤◌, ◌<◌, ◌+◌, [], 
 ghost use Rattle.aio_model.specs.Loop.History.{Free};
 ghost use Rattle.aio_model.specs.Loop.Lists.{job_of};
 ghost use Rattle.aio_model.specs.Loop.Legal.{MayFollow};
-ghost use Rattle.aio_core.specs.Known.{Known};
+ghost use Rattle.aio_core.specs.Known.{Known, IsHomes};
 ghost use Rattle.aio_core.specs.Words.{index_count};
 ghost use Rattle.aio_core.specs.Standing.{Lifts, Dequeues, Frees};
 ghost use Rattle.aio_core.specs.Plays.{Dequeued as dequeued_by};
@@ -30,7 +30,7 @@ impl<J: Job> LoopTable<J> {
     /// Loads what follows the lot, moves its job out, and clears its flags.
     fn take_lot(&self, inner: &mut Inner<J>, lot: u32) -> (u64, u64, Option<J>)
         requires table { inner.old.table_id ≡ self.now.table }
-        requires numbers { (inner.old.me.0.first ≡ 64) × (inner.old.me.0.count ≡ 1) }
+        requires numbers { IsHomes inner.old.me.0 }
         requires sizes { inner.old.me.0.sizes ≡ self.now.sizes }
         requires lot { lot < self.now.sizes.lots }
         requires first { inner.old.me.0.stage.slices ≡ (self.now.sizes.handles + lot + 1) ∷ drop 1 inner.old.me.0.stage.slices }
@@ -54,7 +54,7 @@ impl<J: Job> LoopTable<J> {
 impl<J: Job> LoopTable<J> {
     fn take_job(&self, seat: &mut Seat<J>, bh: u32) -> (u64, u64, Option<J>)
         requires seat { IsSeatOf self.now seat.old }
-        requires number { (seat.old.known.first ≡ 64) × (seat.old.known.count ≡ 1) }
+        requires number { IsHomes seat.old.known }
         requires lot { (self.now.sizes.handles ≤ bh) × (bh < index_count self.now.sizes) }
         requires first { seat.old.known.stage.slices ≡ (bh + 1) ∷ drop 1 seat.old.known.stage.slices }
         requires free { seat.old.known.stage.hand ≡ None }
@@ -124,7 +124,7 @@ impl<J: Job> LoopTable<J> {
 
     fn store_free(&self, seat: &mut Seat<J>, bh: u32)
         requires seat { IsSeatOf self.now seat.old }
-        requires number { (seat.old.known.first ≡ 64) × (seat.old.known.count ≡ 1) }
+        requires number { IsHomes seat.old.known }
         requires done { MayFollow self.now.sizes (Free bh) seat.old.known.seen }
         ensures seat { IsSeatOf self.now seat.new }
         ensures step { Frees bh seat.old.known seat.new.known }

@@ -6,7 +6,7 @@ ghost use Rattle.aio_core.specs.Known.{LotClaimCompare};
 ghost use Rattle.aio_core.specs.Words.{free_word, flags_at, index_count};
 ghost use Rattle.aio_core.specs.Standing.{Claims, Looks, PlacesJob};
 ghost use Rattle.aio_core.specs.Plays.{Enqueued};
-ghost use Rattle.aio_core.specs.Calls.{IsSeatOf, IsTaken};
+ghost use Rattle.aio_core.specs.Calls.{IsSeatOf, IsTaken, IsReady};
 
 use crate::job::Job;
 use crate::plays::{ClaimLot, EnqueueLot, Inner};
@@ -95,8 +95,7 @@ impl<J: Job> LoopTable<J> {
     }
 
     fn place(&self, seat: &mut Seat<J>, bh: u32, job: Option<J>) -> Option<J>
-        requires seat { IsSeatOf self.now seat.old }
-        requires rest { seat.old.known.phase ≡ AtRest }
+        requires seat { IsReady self.now seat.old }
         requires lot { (self.now.sizes.handles ≤ bh) × (bh < index_count self.now.sizes) }
         requires job { (x : J) × (job ≡ Some x) }
         ensures seat { IsSeatOf self.now seat.new }
@@ -110,8 +109,7 @@ impl<J: Job> LoopTable<J> {
     /// setting of its flags. The seat has announced it then, and is to push it. The job comes back where the lot wasn't free.
     /// Any thread, with a seat of its own.
     pub fn announce_once(&self, seat: &mut Seat<J>, bh: u32, job: J) -> Result<Announced, J>
-        requires seat { IsSeatOf self.now seat.old }
-        requires rest { seat.old.known.phase ≡ AtRest }
+        requires seat { IsReady self.now seat.old }
         requires lot { (self.now.sizes.handles ≤ bh) × (bh < index_count self.now.sizes) }
         ensures seat { IsSeatOf self.now seat.new }
         ensures steps { MatchResult result (λ owed. (owed ≡ bh) × PlacesJob bh (J.number_of job) seat.old.known seat.new.known) (λ back. (back ≡ job) × IsTaken bh seat.old.known seat.new.known) }

@@ -1,7 +1,7 @@
 //! A home on its way to sleep looks at all that was pushed and not dequeued, after aio_compute_bh_timeout of QEMU's util/async.c.
 ghost use Rattle.std.specs.Prelude.{◌≡◌, ◌<◌, ◌+◌, ◌∷◌, drop, length, Some, None, true, false, not, ◌&&◌, ◌||◌, if◌then◌else◌, MatchOption, MatchBool, [], ◌⊎◌};
 ghost use Rattle.aio_model.specs.Loop.Flags.{are_due, are_urgent};
-ghost use Rattle.aio_core.specs.Known.{Scanning, is_running};
+ghost use Rattle.aio_core.specs.Known.{Scanning, is_running, IsHomes};
 ghost use Rattle.aio_core.specs.Words.{index_count};
 ghost use Rattle.aio_core.specs.HomeState.{are_within};
 ghost use Rattle.aio_core.specs.SleepSteps.{BeginsScan, ScansNext, scan_in};
@@ -62,7 +62,7 @@ impl Scanned {
 impl<J: Job> LoopTable<J> {
     fn scan_head(&self, seat: &mut Seat<J>) -> u64
         requires seat { IsSeatOf self.now seat.old }
-        requires number { (seat.old.known.first ≡ 64) × (seat.old.known.count ≡ 1) }
+        requires number { IsHomes seat.old.known }
         requires running { is_running seat.old.known.sleep ≡ true }
         requires free { seat.old.known.stage.hand ≡ None }
         ensures seat { IsSeatOf self.now seat.new }
@@ -73,7 +73,7 @@ impl<J: Job> LoopTable<J> {
 
     fn scan_next(&self, seat: &mut Seat<J>, bh: u32) -> u64
         requires seat { IsSeatOf self.now seat.old }
-        requires number { (seat.old.known.first ≡ 64) × (seat.old.known.count ≡ 1) }
+        requires number { IsHomes seat.old.known }
         requires below { bh < index_count self.now.sizes }
         requires scanning { seat.old.known.sleep ≡ Scanning (length seat.old.known.did) (scan_in seat.old.known.sleep) }
         requires first { (scan_in seat.old.known.sleep).stage.slices ≡ (bh + 1) ∷ drop 1 (scan_in seat.old.known.sleep).stage.slices }
@@ -88,7 +88,7 @@ impl<J: Job> LoopTable<J> {
 
     fn scan_flags(&self, seat: &mut Seat<J>, bh: u32) -> u64
         requires seat { IsSeatOf self.now seat.old }
-        requires number { (seat.old.known.first ≡ 64) × (seat.old.known.count ≡ 1) }
+        requires number { IsHomes seat.old.known }
         requires below { bh < index_count self.now.sizes }
         requires scanning { seat.old.known.sleep ≡ Scanning (length seat.old.known.did) (scan_in seat.old.known.sleep) }
         requires hand { (scan_in seat.old.known.sleep).stage.hand ≡ Some bh }
@@ -103,10 +103,10 @@ impl<J: Job> LoopTable<J> {
     /// Loads what follows the first index ahead, and its flags. None where nothing is ahead.
     fn pass(&self, seat: &mut Seat<J>, ahead: &mut Slices) -> Option<Passed>
         requires seat { IsSeatOf self.now seat.old }
-        requires number { (seat.old.known.first ≡ 64) × (seat.old.known.count ≡ 1) }
+        requires number { IsHomes seat.old.known }
         requires at { IsAhead ahead.old seat.old.known }
         ensures seat { IsSeatOf self.now seat.new }
-        ensures number { (seat.new.known.first ≡ 64) × (seat.new.known.count ≡ 1) }
+        ensures number { IsHomes seat.new.known }
         ensures passed { MatchOption result ((ahead.old ≡ []) × (ahead.new ≡ ahead.old) × (seat.new ≡ seat.old)) (λ passed. Passes (record { index = passed.bh; flags = passed.flags }) seat.old.known seat.new.known × (are_urgent passed.flags ≡ false → IsAhead ahead.new seat.new.known)) }
     {
         let bh = self.index_of(ahead.first()?);
@@ -122,10 +122,10 @@ impl<J: Job> LoopTable<J> {
     /// One index more of a scan. False where it is over.
     fn scan_on(&self, seat: &mut Seat<J>, ahead: &mut Slices, scanned: &mut Scanned) -> bool
         requires seat { IsSeatOf self.now seat.old }
-        requires number { (seat.old.known.first ≡ 64) × (seat.old.known.count ≡ 1) }
+        requires number { IsHomes seat.old.known }
         requires at { IsAhead ahead.old seat.old.known }
         ensures seat { IsSeatOf self.now seat.new }
-        ensures number { (seat.new.known.first ≡ 64) × (seat.new.known.count ≡ 1) }
+        ensures number { IsHomes seat.new.known }
         ensures on { MatchBool result (ScansOn scanned.old.urgent scanned.new.urgent scanned.old.idle scanned.new.idle ahead.new seat.old.known seat.new.known) (ScanIsOver scanned.old.urgent scanned.new.urgent scanned.old.idle scanned.new.idle ahead.old seat.old.known seat.new.known ⊎ ScanMeets scanned.new.urgent scanned.old.idle scanned.new.idle seat.old.known seat.new.known) }
     {
         let Some(passed) = self.pass(seat, ahead) else {
@@ -137,12 +137,12 @@ impl<J: Job> LoopTable<J> {
     /// Goes over the list from its head, and then over the slices.
     fn scan_list(&self, seat: &mut Seat<J>, slices: &Slices) -> Scanned
         requires seat { IsSeatOf self.now seat.old }
-        requires number { (seat.old.known.first ≡ 64) × (seat.old.known.count ≡ 1) }
+        requires number { IsHomes seat.old.known }
         requires running { is_running seat.old.known.sleep ≡ true }
         requires free { seat.old.known.stage.hand ≡ None }
         requires slices { (slices.now ≡ seat.old.known.stage.slices) × (are_within seat.old.known.sizes slices.now ≡ true) × (length slices.now < 9) }
         ensures seat { IsSeatOf self.now seat.new }
-        ensures number { (seat.new.known.first ≡ 64) × (seat.new.known.count ≡ 1) }
+        ensures number { IsHomes seat.new.known }
         ensures scans { Scans result.urgent result.idle seat.old.known seat.new.known }
     {
         let head = self.scan_head(seat);

@@ -1,6 +1,6 @@
 //! The steps by which home says that it is about to sleep, and that it is awake, after aio_poll of QEMU's util/aio-posix.c.
 ghost use Rattle.std.specs.Prelude.{◌≡◌, ◌≤◌, ℕ, [], length, true, ◌==◌};
-ghost use Rattle.aio_core.specs.Known.{Scanning, Armed, NotifierLoad, empty_stage, is_running};
+ghost use Rattle.aio_core.specs.Known.{Scanning, Armed, NotifierLoad, empty_stage, is_running, IsHomes};
 ghost use Rattle.aio_core.specs.Words.{notifier_at};
 ghost use Rattle.aio_core.specs.Standing.{Looks};
 ghost use Rattle.aio_core.specs.SleepSteps.{Arms, Tests, Disarms, ClearsNotifier, Accepts, scan_in, watched_in, is_to_disarm};
@@ -18,7 +18,7 @@ use std::sync::Wait;
 impl<J: Job> LoopTable<J> {
     fn add_notify_me(&self, seat: &mut Seat<J>) -> u64
         requires seat { IsSeatOf self.now seat.old }
-        requires number { (seat.old.known.first ≡ 64) × (seat.old.known.count ≡ 1) }
+        requires number { IsHomes seat.old.known }
         requires scanned { seat.old.known.sleep ≡ Scanning (length seat.old.known.did) (scan_in seat.old.known.sleep) }
         requires over { (scan_in seat.old.known.sleep).stage ≡ empty_stage }
         ensures seat { IsSeatOf self.now seat.new }
@@ -31,7 +31,7 @@ impl<J: Job> LoopTable<J> {
 
     fn load_notified(&self, seat: &mut Seat<J>) -> u64
         requires seat { IsSeatOf self.now seat.old }
-        requires number { (seat.old.known.first ≡ 64) × (seat.old.known.count ≡ 1) }
+        requires number { IsHomes seat.old.known }
         requires armed { seat.old.known.sleep ≡ Armed (length seat.old.known.did) (watched_in seat.old.known.sleep) }
         ensures seat { IsSeatOf self.now seat.new }
         ensures step { Tests (watched_in seat.old.known.sleep) result seat.old.known seat.new.known }
@@ -41,7 +41,7 @@ impl<J: Job> LoopTable<J> {
 
     fn sub_notify_me(&self, seat: &mut Seat<J>) -> u64
         requires seat { IsSeatOf self.now seat.old }
-        requires number { (seat.old.known.first ≡ 64) × (seat.old.known.count ≡ 1) }
+        requires number { IsHomes seat.old.known }
         requires due { is_to_disarm seat.old.known.sleep ≡ true }
         ensures seat { IsSeatOf self.now seat.new }
         ensures step { Disarms result seat.old.known seat.new.known }
@@ -53,7 +53,7 @@ impl<J: Job> LoopTable<J> {
 
     fn take_notifier(&self, seat: &mut Seat<J>) -> u64
         requires seat { IsSeatOf self.now seat.old }
-        requires number { (seat.old.known.first ≡ 64) × (seat.old.known.count ≡ 1) }
+        requires number { IsHomes seat.old.known }
         requires running { is_running seat.old.known.sleep ≡ true }
         ensures seat { IsSeatOf self.now seat.new }
         ensures step { ClearsNotifier result seat.old.known seat.new.known }
@@ -65,7 +65,7 @@ impl<J: Job> LoopTable<J> {
 
     fn store_accept(&self, seat: &mut Seat<J>)
         requires seat { IsSeatOf self.now seat.old }
-        requires number { (seat.old.known.first ≡ 64) × (seat.old.known.count ≡ 1) }
+        requires number { IsHomes seat.old.known }
         requires running { is_running seat.old.known.sleep ≡ true }
         ensures seat { IsSeatOf self.now seat.new }
         ensures step { Accepts seat.old.known seat.new.known }

@@ -5,7 +5,7 @@ ghost use Rattle.table_seats.specs.Seats.{longer_of};
 ghost use Rattle.table_seats.specs.Dividing.{half_as_many};
 ghost use Rattle.aio_core.specs.Splitting.{front_known, back_known};
 ghost use Rattle.aio_core.specs.Joining.{joined_known, told_of, IsJoined};
-ghost use Rattle.aio_core.specs.Calls.{IsSeatOf};
+ghost use Rattle.aio_core.specs.Calls.{IsSeatOf, IsReady};
 
 use crate::job::Job;
 use crate::plays::{Halves, Learn, Together};
@@ -31,8 +31,7 @@ impl<J: Job> LoopTable<J> {
     /// A seat of the last half of the numbers, rounded down, for another thread. It has seen what this one has seen, and
     /// has made no step. None, where there is but one number.
     pub fn split(&self, seat: &mut Seat<J>) -> Option<Seat<J>>
-        requires seat { IsSeatOf self.now seat.old }
-        requires rest { seat.old.known.phase ≡ AtRest }
+        requires seat { IsReady self.now seat.old }
         ensures seat { IsSeatOf self.now seat.new }
         ensures split { MatchOption result ((seat.old.known.count ≡ 1) × (seat.new ≡ seat.old)) (λ other. (1 < seat.old.known.count) × IsSeatOf self.now other × (seat.new.known ≡ front_known (seat.old.known.count - half_as_many seat.old.known.count) seat.old.known) × (other.known ≡ back_known (seat.old.known.count - half_as_many seat.old.known.count) seat.old.known)) }
     {
@@ -44,8 +43,7 @@ impl<J: Job> LoopTable<J> {
 
     pub(crate) fn unite(&self, seat: &mut Seat<J>, other: Seat<J>)
         requires seat { IsSeatOf self.now seat.old }
-        requires other { IsSeatOf self.now other }
-        requires rest { other.known.phase ≡ AtRest }
+        requires other { IsReady self.now other }
         requires next { other.known.first ≡ seat.old.known.first + seat.old.known.count }
         ensures seat { IsSeatOf self.now seat.new }
         ensures both { seat.new.known ≡ joined_known seat.old.known other.known }
@@ -72,9 +70,8 @@ impl<J: Job> LoopTable<J> {
     /// Takes in the numbers of another seat, which begin behind this one's own; both at rest. It has seen the longer of what
     /// the two have seen then, of which the other is a part.
     pub fn join(&self, seat: &mut Seat<J>, other: Seat<J>)
-        requires seat { IsSeatOf self.now seat.old }
-        requires other { IsSeatOf self.now other }
-        requires rest { (seat.old.known.phase ≡ AtRest) × (other.known.phase ≡ AtRest) }
+        requires seat { IsReady self.now seat.old }
+        requires other { IsReady self.now other }
         requires next { other.known.first ≡ seat.old.known.first + seat.old.known.count }
         requires below { other.known.first < 64 }
         ensures seat { IsSeatOf self.now seat.new }

@@ -14,7 +14,7 @@ ghost use Rattle.aio_core.specs.Splitting.{front_known, back_known};
 ghost use Rattle.aio_core.specs.Joining.{joined_known, told_of, IsJoined};
 ghost use Rattle.aio_core.specs.Standing.{Looks};
 ghost use Rattle.aio_core.specs.SleepSteps.{OwnsAll};
-ghost use Rattle.aio_core.specs.Calls.{IsSeatOf};
+ghost use Rattle.aio_core.specs.Calls.{IsReady, IsSeatOf};
 
 use crate::home::Home;
 use crate::job::Job;
@@ -78,10 +78,9 @@ impl<J: Job> LoopTable<J> {
     /// Joins home and all other numbers, both at rest. What each of them had seen is a part of what both have seen now, and
     /// holds of the entries under its numbers just those that it made.
     pub fn unite_all(&self, home: Home<J>, seat: Seat<J>) -> Whole<J>
-        requires home { IsSeatOf self.now home.seat }
-        requires seat { IsSeatOf self.now seat }
+        requires home { IsReady self.now home.seat }
+        requires seat { IsReady self.now seat }
         requires numbers { (seat.known.first ≡ 0) × (seat.known.count ≡ 64) }
-        requires rest { (seat.known.phase ≡ AtRest) × (home.seat.known.phase ≡ AtRest) }
         ensures seat { IsSeatOf self.now result.seat }
         ensures both { result.seat.known ≡ joined_known seat.known home.seat.known }
         ensures at_home { (result.seat.known.stage ≡ home.seat.known.stage) × (result.seat.known.sleep ≡ calmed home.seat.known.sleep) }

@@ -11,8 +11,8 @@ pub record HandlerList : Type 0 where
   pub count : ℕ
   pub live : List Handler
   pub walking : Bool
-  pub handlers_to_come : List Handler
-  pub removed_in_walk : ℕ
+  pub waiting : List Handler
+  pub marked : ℕ
 
 -- the handlers are as these calls left them, newest first
 pub record StandsFor (handlers : HandlerList) (calls : List HandlerCall) : Type 0 where

@@ -3,9 +3,10 @@ ghost use Rattle.aio_model.specs.Loop.InFlight.{AtRest};
 ghost use Rattle.aio_model.specs.Loop.Legal.{IsLegal};
 ghost use Rattle.aio_model.specs.Loop.Frame.{lent_of};
 ghost use Rattle.aio_core.specs.Words.{index_count};
-ghost use Rattle.aio_core.specs.Calls.{IsSeatOf};
+ghost use Rattle.aio_core.specs.Calls.{IsSeatOf, IsReady};
 ghost use Rattle.aio_bh.specs.Running.{answer_by};
 ghost use Rattle.aio_loop.specs.Entering.{ForBottom, ForReady, ForExpired, RunsOneEntry};
+ghost use Rattle.aio_core.specs.Known.{IsHomes};
 
 use crate::side::Side;
 use aio_bh::{Call, Turn};
@@ -36,9 +37,8 @@ pub trait LoopRunner<J: Job> {
         call: &mut Call<J>,
     ) -> Turn
         requires can_run { can_run self.old table.now.sizes side.old.timers.made }
-        requires seat { IsSeatOf table.now seat.old }
-        requires home { (seat.old.known.first ≡ 64) × (seat.old.known.count ≡ 1) }
-        requires rest { seat.old.known.phase ≡ AtRest }
+        requires seat { IsReady table.now seat.old }
+        requires home { IsHomes seat.old.known }
         requires legal { IsLegal table.now.sizes seat.old.known.seen }
         requires index { call.old.bh < index_count table.now.sizes }
         requires handle { call.old.first ≡ true → call.old.job ≡ None → call.old.bh < table.now.sizes.handles }
@@ -49,9 +49,8 @@ pub trait LoopRunner<J: Job> {
     /// The event of this handler was found set, and is cleared now.
     fn ready(&mut self, table: &LoopTable<J>, seat: &mut Seat<J>, side: &mut Side, ready: Ready)
         requires can_run { can_run self.old table.now.sizes side.old.timers.made }
-        requires seat { IsSeatOf table.now seat.old }
-        requires home { (seat.old.known.first ≡ 64) × (seat.old.known.count ≡ 1) }
-        requires rest { seat.old.known.phase ≡ AtRest }
+        requires seat { IsReady table.now seat.old }
+        requires home { IsHomes seat.old.known }
         requires legal { IsLegal table.now.sizes seat.old.known.seen }
         ensures can_run { can_run self.new table.now.sizes side.new.timers.made }
         ensures seat { IsSeatOf table.now seat.new }
@@ -60,9 +59,8 @@ pub trait LoopRunner<J: Job> {
     /// This timer has expired, and isn't armed any more.
     fn expired(&mut self, table: &LoopTable<J>, seat: &mut Seat<J>, side: &mut Side, id: TimerId)
         requires can_run { can_run self.old table.now.sizes side.old.timers.made }
-        requires seat { IsSeatOf table.now seat.old }
-        requires home { (seat.old.known.first ≡ 64) × (seat.old.known.count ≡ 1) }
-        requires rest { seat.old.known.phase ≡ AtRest }
+        requires seat { IsReady table.now seat.old }
+        requires home { IsHomes seat.old.known }
         requires legal { IsLegal table.now.sizes seat.old.known.seen }
         ensures can_run { can_run self.new table.now.sizes side.new.timers.made }
         ensures seat { IsSeatOf table.now seat.new }

@@ -4,7 +4,7 @@ ghost use Rattle.aio_model.specs.Loop.InFlight.{AtRest};
 ghost use Rattle.aio_model.specs.Loop.History.{SetEvent};
 ghost use Rattle.aio_core.specs.Standing.{Makes};
 ghost use Rattle.aio_core.specs.Scans.{SameButSleep};
-ghost use Rattle.aio_core.specs.Calls.{IsSeatOf};
+ghost use Rattle.aio_core.specs.Calls.{IsSeatOf, IsReady};
 ghost use Rattle.aio_notify.specs.Watching.{FindsBits};
 ghost use Rattle.aio_notify.specs.Setting.{SetsAndNotifies};
 
@@ -20,8 +20,7 @@ pub trait LoopEvents<J: Job> {
 
     /// Sets an event, and notifies home.
     fn set_event(&self, seat: &mut Seat<J>, event: u32)
-        requires seat { IsSeatOf (table self.now) seat.old }
-        requires rest { seat.old.known.phase ≡ AtRest }
+        requires seat { IsReady (table self.now) seat.old }
         requires event { event < (table self.now).sizes.events }
         ensures seat { IsSeatOf (table self.now) seat.new }
         ensures steps { SetsAndNotifies event seat.old.known seat.new.known }

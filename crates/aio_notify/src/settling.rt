@@ -4,7 +4,7 @@ ghost use Rattle.std.specs.Prelude.{◌≡◌, true, MatchOption};
 ghost use Rattle.aio_model.specs.Loop.InFlight.{AtRest};
 ghost use Rattle.aio_core.specs.Words.{index_count};
 ghost use Rattle.aio_core.specs.Splitting.{front_known, back_known};
-ghost use Rattle.aio_core.specs.Calls.{IsSeatOf};
+ghost use Rattle.aio_core.specs.Calls.{IsReady, IsSeatOf};
 ghost use Rattle.aio_notify.specs.Settling.{is_committed, least_pending, least_set, looked_at, LooksAtFlags, LooksAtEvents, SameButDone, IsWhole, HomeHasAll, NotifierStands, EndsQuiet, FindsPending, FindsSetEvent};
 ghost use Rattle.aio_notify.specs.Settled.{MatchSettled};
 
@@ -45,11 +45,10 @@ fn first_event<J: Job>(table: &LoopTable<J>, whole: &mut Whole<J>) -> Option<u32
 
 /// Joins all numbers, and looks at the notifier.
 fn whole_of<J: Job>(table: &LoopTable<J>, home: Home<J>, seat: Seat<J>) -> (Whole<J>, bool)
-    requires home { IsSeatOf table.now home.seat }
-    requires seat { IsSeatOf table.now seat }
+    requires home { IsReady table.now home.seat }
+    requires seat { IsReady table.now seat }
     requires committed { is_committed home.seat.known.sleep ≡ true }
     requires all { (seat.known.first ≡ 0) × (seat.known.count ≡ 64) }
-    requires rest { (seat.known.phase ≡ AtRest) × (home.seat.known.phase ≡ AtRest) }
     ensures seat { IsSeatOf table.now result.0.seat }
     ensures whole { IsWhole result.1 seat.known home.seat.known result.0.seat.known }
     ensures at_home { HomeHasAll home.seat.known result.0.seat.known }
@@ -83,11 +82,10 @@ fn given_back<J: Job>(table: LoopTable<J>, whole: Whole<J>, notifier: bool) -> U
 /// the notifier was found set: it is where the index is to be called and isn't idle, and where home watched the event. What home
 /// is to do then is to disarm, to accept and to poll. Of the seats that were joined, what each had seen is a part of the history.
 pub fn settle<J: Job + Drop>(table: LoopTable<J>, home: Home<J>, seat: Seat<J>) -> Settled<J>
-    requires home { IsSeatOf table home.seat }
-    requires seat { IsSeatOf table seat }
+    requires home { IsReady table home.seat }
+    requires seat { IsReady table seat }
     requires committed { is_committed home.seat.known.sleep ≡ true }
     requires all { (seat.known.first ≡ 0) × (seat.known.count ≡ 64) }
-    requires rest { (seat.known.phase ≡ AtRest) × (home.seat.known.phase ≡ AtRest) }
     ensures { MatchSettled result
         (λ end. (end.table ≡ table.table) × EndsQuiet seat.known home.seat.known end.known)
         (λ i left. (left.table ≡ table) × IsSeatOf table left.home.seat × IsSeatOf table left.seat × FindsPending i left.notifier seat.known home.seat.known left.seat.known left.home.seat.known)

@@ -4,7 +4,7 @@ ghost use Rattle.aio_model.specs.Loop.InFlight.{AtRest, Announced as announced};
 ghost use Rattle.aio_core.specs.Standing.{may_notify};
 ghost use Rattle.aio_core.specs.Known.{is_running};
 ghost use Rattle.aio_core.specs.Scans.{IsAhead};
-ghost use Rattle.aio_core.specs.Calls.{IsSeatOf};
+ghost use Rattle.aio_core.specs.Calls.{IsSeatOf, IsReady};
 
 use crate::{LoopEvents, Notify, Sleeping};
 use aio_core::{Announced, Built, Home, LoopTable, Seat};
@@ -55,11 +55,9 @@ fn push(rt: &impl Abort, table: &LoopTable<()>, seat: &mut Seat<()>, owed: Annou
 
 /// A whole enqueue of the one handle, with its notify.
 fn enqueue(rt: &impl Abort, table: &LoopTable<()>, seat: &mut Seat<()>, kind: Kind)
-    requires seat { IsSeatOf table.now seat.old }
-    requires rest { seat.old.known.phase ≡ AtRest }
+    requires seat { IsReady table.now seat.old }
     requires handle { 0 < table.now.sizes.handles }
-    ensures seat { IsSeatOf table.now seat.new }
-    ensures rest { seat.new.known.phase ≡ AtRest }
+    ensures seat { IsReady table.now seat.new }
 {
     let (_, owed) = table.announce(seat, 0, kind);
     if let Some(owed) = owed {
@@ -232,8 +230,7 @@ fn commit_under_way(
     requires home { IsSeatOf table.now home.old.seat }
     requires running { is_running home.old.seat.known.sleep ≡ true }
     requires free { home.old.seat.known.stage.hand ≡ None }
-    requires seat { IsSeatOf table.now seat.old }
-    requires rest { seat.old.known.phase ≡ AtRest }
+    requires seat { IsReady table.now seat.old }
     requires handle { 0 < table.now.sizes.handles }
     ensures home { IsSeatOf table.now home.new.seat }
     ensures running { is_running home.new.seat.known.sleep ≡ true }

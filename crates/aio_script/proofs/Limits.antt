@@ -76,7 +76,7 @@ module _ (line loops : ℕ) (streams : List Stream) (counts : Counts) (said : Sa
       let sum = leb-true (counts.moved + moved) 67108864 others.1 in
       let fit : Fits loops streams counts (Does (record { stream = id; what = Ask request })) = record {
         low = record { requests = omega (arith, more); pauses = low.pauses; moved = omega (arith, sum, moves) };
-        own = record { is_known_stream = there; little = omega (arith, small, long) };
+        own = record { known = there; little = omega (arith, small, long) };
       } in
       subst (Fits loops streams counts) same fit) e2) e
 
@@ -92,7 +92,7 @@ module _ (line loops : ℕ) (streams : List Stream) (counts : Counts) (said : Sa
       record { requests = low.requests; pauses = omega (arith, more); moved = low.moved } in
       let fit : Fits loops streams counts (Does (record { stream = id; what = what })) = record {
         low = subst AreLow (sym with_) one;
-        own = record { is_known_stream = there; little = little parts.0 };
+        own = record { known = there; little = little parts.0 };
       } in
       subst (Fits loops streams counts) same fit) e2) e
 

@@ -4,7 +4,7 @@ ghost use Rattle.std.specs.Thread.{IsSync};
 ghost use Rattle.aio_core.specs.Known.{empty_stage};
 ghost use Rattle.lot_pool.specs.Pools.{IsPassOf, IsHomeOf};
 ghost use Rattle.aio_bh.specs.OneShots.{IsPoolFor};
-ghost use Rattle.aio_bh.specs.Ready.{IsReady};
+ghost use Rattle.aio_core.specs.Calls.{IsReady};
 
 use aio_bh::{BottomHalves, Call, LotBuilt, LotPass, LotPool, Runner, Turn};
 use aio_core::{Built, Home, LoopTable, Seat};

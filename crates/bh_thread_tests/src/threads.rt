@@ -2,8 +2,8 @@
 ghost use Rattle.std.specs.Prelude.{◌≡◌, ◌<◌, ◌≤◌, ◌+◌, IfOk, IfSome};
 ghost use Rattle.std.specs.Thread.{IsSync};
 ghost use Rattle.aio_core.specs.Known.{empty_stage};
-ghost use Rattle.aio_core.specs.Calls.{IsSeatOf};
-ghost use Rattle.aio_bh.specs.Ready.{IsReady, ComesBack};
+ghost use Rattle.aio_core.specs.Calls.{IsSeatOf, IsReady};
+ghost use Rattle.aio_bh.specs.Ready.{ComesBack};
 
 use aio_bh::BottomHalves;
 use aio_core::{BuildRefusal, Built, Home, LoopTable, Seat};

@@ -1,5 +1,5 @@
 -- What a seat knows.
-use Rattle.std.specs.Prelude.{ℕ, Bool, true, false, Option, None, List, []}
+use Rattle.std.specs.Prelude.{◌≡◌, ℕ, Bool, true, false, Option, None, List, []}
 use Rattle.table_seats.specs.Seats.{Numbers, Told, Part, numbers_in}
 use Rattle.aio_model.specs.Coroutines.History.{Entry, History}
 
@@ -55,6 +55,10 @@ pub record Known : Type 0 where
   pub phase : Phase
   pub stage : Stage
   pub told : Option (Told Entry)
+
+-- it has the home's number, and no other
+abbrev pub IsHomes : Known → Type 0
+IsHomes known = (known.first ≡ 64) × (known.count ≡ 1)
 
 -- the part that is about numbers and the history
 abbrev pub part_of : Known → Part Entry

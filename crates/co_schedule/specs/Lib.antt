@@ -11,3 +11,4 @@ pub mod Seating
 pub mod Posting
 pub mod Closing
 pub mod States
+pub mod Homes

@@ -1,7 +1,6 @@
 //! A schedule that also lets the home's loop know.
 ghost use Rattle.std.specs.Prelude.{◌≡◌, ◌≢◌, ◌<◌, MatchResult};
-ghost use Rattle.aio_model.specs.Loop.InFlight.{AtRest};
-ghost use Rattle.aio_core.specs.Calls.{IsSeatOf as IsLoopSeatOf};
+ghost use Rattle.aio_core.specs.Calls.{IsReady};
 ghost use Rattle.co_schedule.specs.Words.{mark_at};
 ghost use Rattle.co_schedule.specs.Known.{MarkCompare};
 ghost use Rattle.co_schedule.specs.Standing.{IsMarkOf, Looks};
@@ -37,12 +36,10 @@ impl<C: Origin + Drop> CoTable<C> {
         requires seat { IsSeatOf self.now seat.old }
         requires below { co < self.now.coroutines }
         requires state { IsStateOf C.is_of co self.now.origin state }
-        requires bh_seat { IsLoopSeatOf table.now bh_seat.old }
-        requires bh_rest { bh_seat.old.known.phase ≡ AtRest }
+        requires bh_seat { IsReady table.now bh_seat.old }
         requires handle { 0 < table.now.sizes.handles }
         ensures seat { IsSeatOf self.now seat.new }
-        ensures bh_seat { IsLoopSeatOf table.now bh_seat.new }
-        ensures bh_rest { bh_seat.new.known.phase ≡ AtRest }
+        ensures bh_seat { IsReady table.now bh_seat.new }
         ensures posted { MatchResult result (λ _. HasScheduled co cause (has_some state) seat.old.known seat.new.known × SchedulesHandle bh_seat.old.known bh_seat.new.known) (λ already. (already.mark ≢ 0) × (already.state ≡ state) × Looks MarkCompare (mark_at co) already.mark seat.old.known seat.new.known × IsMarkOf co already.mark seat.old.known × (bh_seat.new ≡ bh_seat.old)) }
     {
         self.schedule(rt, seat, co, cause, state)?;

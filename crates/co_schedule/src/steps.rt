@@ -1,7 +1,7 @@
 //! The steps, each in a function without branches.
 ghost use Rattle.std.specs.Prelude.{◌≡◌, ◌≢◌, ◌<◌, ◌≤◌, ◌+◌, ℕ, ◌==◌, MatchBool, [], ◌∷◌, drop, None, Some, true, false, Option};
 ghost use Rattle.co_schedule.specs.Words.{mark_at};
-ghost use Rattle.co_schedule.specs.Known.{MarkCompare, AtRest, Marked, HeadLoaded, Linked};
+ghost use Rattle.co_schedule.specs.Known.{MarkCompare, AtRest, Marked, HeadLoaded, Linked, IsHomes};
 ghost use Rattle.co_schedule.specs.Standing.{Schedules, Looks, IsMarkOf, HeadIsLoaded, NextIsStored, Pushes, Misses, Takes, WalksOn, Opens, IsFirstEntered};
 ghost use Rattle.co_schedule.specs.Parcels.{cause_in, given_in, IsParcelOf, has_some};
 
@@ -78,7 +78,7 @@ impl<C: Origin + Drop> CoTable<C> {
 
     pub(crate) fn swap_head(&self, inner: &mut Inner<C>) -> u64
         requires table { inner.old.table_id ≡ self.now.table }
-        requires numbers { (inner.old.me.0.known.first ≡ 64) × (inner.old.me.0.known.count ≡ 1) }
+        requires numbers { IsHomes inner.old.me.0.known }
         requires free { (inner.old.me.0.known.stage.word ≡ 0) × (inner.old.me.0.known.stage.run ≡ []) × (inner.old.me.0.known.stage.hand ≡ None) }
         ensures seat { (inner.new.table_id ≡ inner.old.table_id) × (inner.new.id ≡ inner.old.id) × (inner.new.me.0.origin ≡ inner.old.me.0.origin) × (inner.new.me.1 ≡ inner.old.me.1) }
         ensures told { Takes result inner.old.me.0.known inner.new.me.0.known }
@@ -88,7 +88,7 @@ impl<C: Origin + Drop> CoTable<C> {
 
     pub(crate) fn load_next(&self, inner: &mut Inner<C>, co: u32) -> u64
         requires table { inner.old.table_id ≡ self.now.table }
-        requires numbers { (inner.old.me.0.known.first ≡ 64) × (inner.old.me.0.known.count ≡ 1) }
+        requires numbers { IsHomes inner.old.me.0.known }
         requires below { co < self.now.coroutines }
         requires word { (inner.old.me.0.known.stage.word ≡ co + 1) × (inner.old.me.0.known.stage.hand ≡ None) }
         ensures seat { (inner.new.table_id ≡ inner.old.table_id) × (inner.new.id ≡ inner.old.id) × (inner.new.me.0.origin ≡ inner.old.me.0.origin) × (inner.new.me.1 ≡ inner.old.me.1) }
@@ -100,7 +100,7 @@ impl<C: Origin + Drop> CoTable<C> {
     /// The slot of the first coroutine of the run comes out with home.
     pub(crate) fn load_mark(&self, inner: &mut Inner<C>, co: u32) -> u64
         requires table { inner.old.table_id ≡ self.now.table }
-        requires numbers { (inner.old.me.0.known.first ≡ 64) × (inner.old.me.0.known.count ≡ 1) }
+        requires numbers { IsHomes inner.old.me.0.known }
         requires below { co < self.now.coroutines }
         requires run { (inner.old.me.0.known.stage.run ≡ co ∷ drop 1 inner.old.me.0.known.stage.run) × (inner.old.me.0.known.stage.word ≡ 0) × (inner.old.me.0.known.stage.hand ≡ None) }
         requires origin { inner.old.me.0.origin ≡ Some self.now.origin }
@@ -113,7 +113,7 @@ impl<C: Origin + Drop> CoTable<C> {
     /// The first coroutine of the run is entered, and its slot goes back.
     pub(crate) fn clear_mark(&self, inner: &mut Inner<C>, co: u32)
         requires table { inner.old.table_id ≡ self.now.table }
-        requires numbers { (inner.old.me.0.known.first ≡ 64) × (inner.old.me.0.known.count ≡ 1) }
+        requires numbers { IsHomes inner.old.me.0.known }
         requires below { co < self.now.coroutines }
         requires run { (inner.old.me.0.known.stage.run ≡ co ∷ drop 1 inner.old.me.0.known.stage.run) × (inner.old.me.0.known.stage.word ≡ 0) × (inner.old.me.0.known.stage.hand ≡ Some co) }
         requires slot { inner.old.me.1 ≡ (co, None) ∷ [] }

@@ -3,6 +3,7 @@
 ghost use Rattle.std.specs.Prelude.{◌≡◌, ◌<◌, ◌≤◌, ◌+◌, [], ◌∷◌, None, Some, drop, true, MatchOption};
 ghost use Rattle.co_schedule.specs.Parcels.{IsStateOf, has_some};
 ghost use Rattle.co_schedule.specs.Calls.{are_within, IsSeatOf, HasTaken, HasBegunFirst};
+ghost use Rattle.co_schedule.specs.Known.{IsHomes};
 
 use crate::counting::count_state;
 use crate::homes::CoHome;
@@ -27,7 +28,7 @@ impl<C: Origin + Drop> CoTable<C> {
     /// Takes all that was pushed by one swap, and walks over it.
     pub(crate) fn take_list(&self, inner: &mut Inner<C>, run: &mut CoRun)
         requires table { (inner.old.table_id ≡ self.now.table) × (inner.old.me.0.known.coroutines ≡ self.now.coroutines) }
-        requires numbers { (inner.old.me.0.known.first ≡ 64) × (inner.old.me.0.known.count ≡ 1) }
+        requires numbers { IsHomes inner.old.me.0.known }
         requires free { (inner.old.me.0.known.stage.word ≡ 0) × (inner.old.me.0.known.stage.run ≡ []) × (inner.old.me.0.known.stage.hand ≡ None) }
         requires run { (run.old.cos ≡ []) × (self.now.coroutines ≤ run.old.room) }
         ensures seat { (inner.new.table_id ≡ inner.old.table_id) × (inner.new.id ≡ inner.old.id) × (inner.new.me.0.origin ≡ inner.old.me.0.origin) × (inner.new.me.1 ≡ inner.old.me.1) }
@@ -47,7 +48,7 @@ impl<C: Origin + Drop> CoTable<C> {
     /// Enters the first coroutine of the run: its state comes out, and then its mark is cleared.
     fn begin_first(&self, inner: &mut Inner<C>, co: u32) -> Option<C>
         requires table { inner.old.table_id ≡ self.now.table }
-        requires numbers { (inner.old.me.0.known.first ≡ 64) × (inner.old.me.0.known.count ≡ 1) }
+        requires numbers { IsHomes inner.old.me.0.known }
         requires below { co < self.now.coroutines }
         requires run { (inner.old.me.0.known.stage.run ≡ co ∷ drop 1 inner.old.me.0.known.stage.run) × (inner.old.me.0.known.stage.word ≡ 0) × (inner.old.me.0.known.stage.hand ≡ None) }
         requires taken { inner.old.me.0.known.stage.run ≡ inner.old.me.0.known.stage.taken }

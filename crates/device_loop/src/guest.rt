@@ -1,5 +1,5 @@
 ghost use Rattle.std.specs.Prelude.{◌<◌};
-ghost use Rattle.aio_bh.specs.Ready.{IsReady};
+ghost use Rattle.aio_core.specs.Calls.{IsReady};
 
 use aio_bh::BottomHalves;
 use aio_core::{LoopTable, Seat};

@@ -1,10 +1,10 @@
 //! The device's home thread and the guest's.
 ghost use Rattle.std.specs.Prelude.{◌≡◌, ◌<◌, ◌≤◌, true, false, IfOk, IfSome};
 ghost use Rattle.std.specs.Thread.{IsSync};
-ghost use Rattle.aio_bh.specs.Ready.{IsReady};
 ghost use Rattle.aio_bh.specs.OneShots.{ServesHome};
 ghost use Rattle.aio_loop.specs.Homes.{IsHomeFree};
 ghost use Rattle.device_loop.specs.Devices.{DeviceIsDone};
+ghost use Rattle.aio_core.specs.Calls.{IsReady};
 
 use crate::counts::Counts;
 use crate::device::{Device, PERIOD};

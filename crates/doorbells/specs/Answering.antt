@@ -7,8 +7,7 @@ use Rattle.aio_model.specs.Loop.Laws.{some_entry}
 use Rattle.aio_model.specs.Loop.Seats.{home, entries_of}
 use Rattle.aio_model.specs.Loop.Calls.{dequeue_times, stops, AwaitsCall}
 use Rattle.aio_core.specs.Known.{empty_stage}
-use Rattle.aio_core.specs.Calls.{TableState, SeatState}
-use Rattle.aio_bh.specs.Ready.{IsReady}
+use Rattle.aio_core.specs.Calls.{TableState, SeatState, IsReady}
 use Rattle.doorbells.specs.Responding.{is_new, count_of}
 use Rattle.doorbells.specs.Rings.{RingsTwice}
 use Rattle.aio_model.specs.Counts.{one_more}

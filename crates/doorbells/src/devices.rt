@@ -2,10 +2,10 @@
 ghost use Rattle.std.specs.Prelude.{◌≡◌, ◌<◌, ◌==◌, ◌&&◌, true, if◌then◌else◌, length, get_or, IfOk, ℕ};
 ghost use Rattle.aio_model.specs.Loop.History.{History};
 ghost use Rattle.aio_model.specs.Loop.Legal.{IsLegal};
-ghost use Rattle.aio_bh.specs.Ready.{IsReady};
 ghost use Rattle.aio_bh.specs.Running.{SeatComesBack};
 ghost use Rattle.doorbells.specs.Responding.{count_of, PassesOn, AreFit};
 ghost use Rattle.aio_model.specs.Counts.{one_more};
+ghost use Rattle.aio_core.specs.Calls.{IsReady};
 
 use crate::ringing::ring;
 use aio_bh::{Call, Runner, Turn};

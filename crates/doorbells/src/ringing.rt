@@ -1,6 +1,6 @@
 ghost use Rattle.std.specs.Prelude.{◌<◌};
-ghost use Rattle.aio_bh.specs.Ready.{IsReady};
 ghost use Rattle.doorbells.specs.Rings.{Rings};
+ghost use Rattle.aio_core.specs.Calls.{IsReady};
 
 use aio_bh::BottomHalves;
 use aio_core::{LoopTable, Seat};

@@ -1,11 +1,11 @@
 //! Rings from two threads.
 ghost use Rattle.std.specs.Prelude.{◌≡◌, ◌<◌, ◌≤◌, ◌+◌, MatchOption};
 ghost use Rattle.std.specs.Thread.{IsSync};
-ghost use Rattle.aio_bh.specs.Ready.{IsReady};
 ghost use Rattle.aio_bh.specs.OneShots.{ServesHome};
 ghost use Rattle.doorbells.specs.Responding.{AreFit};
 ghost use Rattle.doorbells.specs.Rings.{Rings, RingsTwice};
 ghost use Rattle.doorbells.specs.Answering.{IsHomeReady, RingsAndAnswers};
+ghost use Rattle.aio_core.specs.Calls.{IsReady};
 
 use crate::devices::Devices;
 use crate::polling::answer;

@@ -2,8 +2,8 @@
 //! threads that notify a parked home, each at its own moments.
 ghost use Rattle.std.specs.Prelude.{◌≡◌};
 ghost use Rattle.std.specs.Thread.{IsSync};
-ghost use Rattle.aio_bh.specs.Ready.{IsReady};
 ghost use Rattle.loop_bench.specs.Awake.{IsAwake};
+ghost use Rattle.aio_core.specs.Calls.{IsReady};
 
 use aio_core::{Built, Home, LoopTable, Seat};
 use aio_model::Commit;

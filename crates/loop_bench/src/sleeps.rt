@@ -1,8 +1,8 @@
 //! A home commits to sleep and is awake again, over and over: with nothing in its list, and with 64 idle handles in it. And a home
 //! that accepts.
 ghost use Rattle.std.specs.Prelude.{◌≡◌, IfOk};
-ghost use Rattle.aio_bh.specs.Ready.{IsReady};
 ghost use Rattle.loop_bench.specs.Awake.{IsAwake};
+ghost use Rattle.aio_core.specs.Calls.{IsReady};
 
 use crate::calls::{HANDLES, MANY_ROUNDS, ONE_ROUNDS};
 use aio_bh::BottomHalves;

@@ -1,7 +1,6 @@
 -- A post through the seats of a loop.
 use Rattle.std.specs.Prelude.{◌≡◌, ◌≢◌, ℕ, Bool, Option, List, slice_index_or}
 use Rattle.aio_model.specs.declared.coroutines.causes.Cause.{Cause}
-use Rattle.aio_bh.specs.Ready.{IsReady}
 use Rattle.co_schedule.specs.Words.{mark_at}
 use Rattle.co_schedule.specs.Known.{MarkCompare}
 use Rattle.co_schedule.specs.Standing.{Looks, IsMarkOf}
@@ -10,6 +9,7 @@ use Rattle.co_schedule.specs.Calls.{IsSeatOf, HasScheduled}
 use Rattle.co_schedule.specs.Posting.{SchedulesHandle}
 use Rattle.loop_rows.specs.declared.shared.LoopShared.{LoopShared}
 use Rattle.loop_rows.specs.declared.seats.Seats.{Seats}
+use Rattle.aio_core.specs.Calls.{IsReady}
 
 module _ {C O : Type 0} where
   -- the seats are of the loop's tables, and at rest

@@ -2,7 +2,6 @@
 use Rattle.std.specs.Prelude.{◌≡◌, ℕ, ◌<◌, ◌≤◌, ◌+◌, List, length, slice_index_or}
 use Rattle.aio_core.specs.Splitting.{front_known, back_known}
 use Rattle.aio_core.specs.Joining.{joined_known, told_of, IsJoined}
-use Rattle.aio_bh.specs.Ready.{IsReady}
 use Rattle.aio_model.specs.Coroutines.History.{seat_of, IsLegal}
 use Rattle.table_seats.specs.Calls.{IsJoined as IsCoJoined}
 use Rattle.co_schedule.specs.Seating.{front_known as front_co, back_known as back_co, joined_known as joined_co, told_by}
@@ -10,6 +9,7 @@ use Rattle.co_schedule.specs.Calls.{IsSeatOf as IsCoSeatOf}
 use Rattle.loop_rows.specs.declared.shared.LoopShared.{LoopShared}
 use Rattle.loop_rows.specs.declared.seats.Seats.{Seats}
 use Rattle.loop_rows.specs.declared.rows.Row.{Row}
+use Rattle.aio_core.specs.Calls.{IsReady}
 
 -- the seats are of the loop's tables, at rest, and own these numbers
 pub record AreSeatsOf {C O : Type 0} (first count : ℕ) (shared : LoopShared C O) (seats : Seats C O) : Type 0 where

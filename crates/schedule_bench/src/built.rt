@@ -1,10 +1,10 @@
 //! A loop with one handle, and the table of the coroutines of its home.
 ghost use Rattle.std.specs.Prelude.{◌≡◌, IfOk};
 ghost use Rattle.aio_core.specs.Known.{empty_stage};
-ghost use Rattle.aio_bh.specs.Ready.{IsReady};
 ghost use Rattle.aio_bh.specs.OneShots.{ServesHome};
 ghost use Rattle.co_schedule.specs.Calls.{IsSeatOf};
-ghost use Rattle.schedule_bench.specs.Homes.{IsIdle};
+ghost use Rattle.co_schedule.specs.Homes.{IsIdle};
+ghost use Rattle.aio_core.specs.Calls.{IsReady};
 
 use aio_bh::{LotBuilt, LotPool};
 use aio_core::{Built, LoopTable};

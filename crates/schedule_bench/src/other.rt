@@ -1,10 +1,10 @@
 //! A thread posts wakes while the home polls, until it has said by a coroutine of its own that it is done.
 ghost use Rattle.std.specs.Prelude.{◌≡◌, ◌<◌};
 ghost use Rattle.aio_core.specs.Known.{empty_stage};
-ghost use Rattle.aio_bh.specs.Ready.{IsReady};
 ghost use Rattle.aio_bh.specs.OneShots.{ServesHome};
 ghost use Rattle.co_schedule.specs.Calls.{IsSeatOf};
-ghost use Rattle.schedule_bench.specs.Homes.{IsIdle};
+ghost use Rattle.co_schedule.specs.Homes.{IsIdle};
+ghost use Rattle.aio_core.specs.Calls.{IsReady};
 
 use crate::built::{HomeParts, build_parts};
 use crate::callbacks::{Begun, HomeCallback, SHARED};

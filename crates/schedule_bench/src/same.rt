@@ -1,10 +1,10 @@
 //! One thread schedules 32 coroutines and begins them in a poll, over and over.
 ghost use Rattle.std.specs.Prelude.{◌≡◌, ◌<◌};
 ghost use Rattle.aio_core.specs.Known.{empty_stage};
-ghost use Rattle.aio_bh.specs.Ready.{IsReady};
 ghost use Rattle.aio_bh.specs.OneShots.{ServesHome};
 ghost use Rattle.co_schedule.specs.Calls.{IsSeatOf};
-ghost use Rattle.schedule_bench.specs.Homes.{IsIdle};
+ghost use Rattle.co_schedule.specs.Homes.{IsIdle};
+ghost use Rattle.aio_core.specs.Calls.{IsReady};
 
 use crate::built::{HomeParts, build_parts};
 use crate::callbacks::{Begun, HomeCallback, SHARED};

@@ -1,7 +1,7 @@
 //! A callback of handle 0 that takes the list and begins what it took.
 ghost use Rattle.std.specs.Prelude.{◌≡◌, ◌≤◌, []};
 ghost use Rattle.co_schedule.specs.Calls.{IsSeatOf};
-ghost use Rattle.schedule_tests.specs.Homes.{IsIdle};
+ghost use Rattle.co_schedule.specs.Homes.{IsIdle};
 
 use aio_bh::{Call, Runner, Turn};
 use aio_core::{LoopTable, Seat};
@@ -75,7 +75,7 @@ pub(crate) struct HomeCallback<'a> {
 
 impl<'a> Runner<()> for HomeCallback<'a> {
     ghost use Rattle.std.specs.Prelude.{true};
-    ghost use Rattle.schedule_tests.specs.Homes.{IsIdle};
+    ghost use Rattle.co_schedule.specs.Homes.{IsIdle};
 
     ghost can_run = { λ e _. IsIdle e.table.now e.home e.run };
 

@@ -1,7 +1,7 @@
 //! What is scheduled is begun in that order, with its state, and what isn't begun is left.
 ghost use Rattle.std.specs.Prelude.{◌≡◌};
-ghost use Rattle.aio_bh.specs.Ready.{IsReady};
 ghost use Rattle.co_schedule.specs.Calls.{IsSeatOf};
+ghost use Rattle.aio_core.specs.Calls.{IsReady};
 
 use crate::callbacks::{Log, take_and_begin};
 use aio_bh::{BottomHalves, Call, LotPool, Runner, Turn};
@@ -78,7 +78,7 @@ struct Whole {
 impl Runner<()> for Whole {
     ghost use Rattle.std.specs.Prelude.{◌≡◌, true};
     ghost use Rattle.co_schedule.specs.Calls.{IsSeatOf};
-    ghost use Rattle.schedule_tests.specs.Homes.{IsIdle};
+    ghost use Rattle.co_schedule.specs.Homes.{IsIdle};
 
     ghost can_run = { λ w _. IsIdle w.table w.home w.run × IsSeatOf w.table w.seat × (w.seat.known.first ≡ 0) × (w.seat.known.count ≡ 64) };
 

@@ -1,10 +1,10 @@
 //! Two threads schedule wakes into one home, which takes and begins them from a callback.
 ghost use Rattle.std.specs.Prelude.{◌≡◌, ◌<◌};
 ghost use Rattle.aio_core.specs.Known.{empty_stage};
-ghost use Rattle.aio_bh.specs.Ready.{IsReady};
 ghost use Rattle.aio_bh.specs.OneShots.{ServesHome};
 ghost use Rattle.co_schedule.specs.Calls.{IsSeatOf};
-ghost use Rattle.schedule_tests.specs.Homes.{IsIdle};
+ghost use Rattle.co_schedule.specs.Homes.{IsIdle};
+ghost use Rattle.aio_core.specs.Calls.{IsReady};
 
 use crate::callbacks::{HomeCallback, Log};
 use aio_bh::{BottomHalves, LotBuilt, LotPool};

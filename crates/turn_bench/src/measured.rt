@@ -1,8 +1,8 @@
 //! The loop whose turns are measured.
 ghost use Rattle.std.specs.Prelude.{◌≡◌, ◌<◌, false};
 ghost use Rattle.aio_bh.specs.OneShots.{ServesHome};
-ghost use Rattle.aio_bh.specs.Ready.{IsReady};
 ghost use Rattle.aio_loop.specs.Homes.{IsHomeFree};
+ghost use Rattle.aio_core.specs.Calls.{IsReady};
 
 use crate::calls::Calls;
 use aio_bh::BottomHalves;

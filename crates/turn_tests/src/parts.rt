@@ -2,8 +2,8 @@
 ghost use Rattle.std.specs.Prelude.{◌≡◌, ◌<◌, false, IfOk};
 ghost use Rattle.aio_model.specs.Loop.InFlight.{AtRest};
 ghost use Rattle.aio_bh.specs.OneShots.{ServesHome};
-ghost use Rattle.aio_bh.specs.Ready.{IsReady};
 ghost use Rattle.aio_loop.specs.Homes.{IsHomeFree};
+ghost use Rattle.aio_core.specs.Calls.{IsReady};
 
 use aio_bh::{LotBuilt, LotPool};
 use aio_core::{Built, Home, LoopTable, Seat};

@@ -4,9 +4,9 @@ ghost use Rattle.aio_model.specs.Loop.History.{History};
 ghost use Rattle.aio_model.specs.Loop.Legal.{IsLegal};
 ghost use Rattle.aio_model.specs.declared.handlers.calls.HandlerCall.{HandlerCall};
 ghost use Rattle.aio_model.specs.declared.timers.calls.TimerCall.{TimerCall};
-ghost use Rattle.aio_bh.specs.Ready.{IsReady};
 ghost use Rattle.aio_bh.specs.Running.{SeatComesBack};
 ghost use Rattle.aio_loop.specs.Entering.{EachPasses, is_callees_on_handlers, is_callees_on_timers, ChangesSide};
+ghost use Rattle.aio_core.specs.Calls.{IsReady};
 
 use crate::notes::{Entry, Notes};
 use aio_bh::{BottomHalves, Call, Turn};

@@ -1,9 +1,9 @@
 //! A turn that sleeps, and another thread that wakes it.
 ghost use Rattle.std.specs.Prelude.{◌≡◌, ◌<◌, ◌≤◌, IsFalse};
 ghost use Rattle.std.specs.Thread.{IsSync};
-ghost use Rattle.aio_bh.specs.Ready.{IsReady};
 ghost use Rattle.aio_bh.specs.OneShots.{ServesHome};
 ghost use Rattle.aio_loop.specs.Homes.{IsHomeFree};
+ghost use Rattle.aio_core.specs.Calls.{IsReady};
 
 use crate::notes::{Entry, Notes};
 use crate::parts::Parts;

@@ -1,6 +1,7 @@
 //! A home that takes the list and begins what it took, by its next step.
 ghost use Rattle.std.specs.Prelude.{◌≡◌, ◌<◌, ◌≤◌, ◌+◌, length, None, Some, true, [], ◌∷◌};
 ghost use Rattle.co_schedule.specs.Calls.{are_within};
+ghost use Rattle.co_schedule.specs.Known.{IsHomes};
 
 use crate::orders::wake::Sleeper;
 use crate::plays::Inner;
@@ -14,7 +15,7 @@ pub(crate) struct ToSwap<'a> {
     pub(crate) inner: Inner<Sleeper>,
     pub(crate) run: CoRun,
     ghost of: { (inner.table_id ≡ table.now.table) × (inner.me.0.known.coroutines ≡ table.now.coroutines) × (inner.me.0.origin ≡ Some table.now.origin) },
-    ghost number: { (inner.me.0.known.first ≡ 64) × (inner.me.0.known.count ≡ 1) },
+    ghost number: { IsHomes inner.me.0.known },
     ghost slots: { inner.me.1 ≡ [] },
     ghost room: { table.now.coroutines ≤ run.room },
     ghost free: { (inner.me.0.known.stage.word ≡ 0) × (inner.me.0.known.stage.hand ≡ None) },
@@ -29,7 +30,7 @@ pub(crate) struct ToLoadNext<'a> {
     pub(crate) run: CoRun,
     pub(crate) co: u32,
     ghost of: { (inner.table_id ≡ table.now.table) × (inner.me.0.known.coroutines ≡ table.now.coroutines) × (inner.me.0.origin ≡ Some table.now.origin) },
-    ghost number: { (inner.me.0.known.first ≡ 64) × (inner.me.0.known.count ≡ 1) },
+    ghost number: { IsHomes inner.me.0.known },
     ghost slots: { inner.me.1 ≡ [] },
     ghost room: { table.now.coroutines ≤ run.room },
     ghost below: { co < table.now.coroutines },
@@ -48,7 +49,7 @@ pub(crate) struct ToLoadMark<'a> {
     pub(crate) run: CoRun,
     pub(crate) co: u32,
     ghost of: { (inner.table_id ≡ table.now.table) × (inner.me.0.known.coroutines ≡ table.now.coroutines) × (inner.me.0.origin ≡ Some table.now.origin) },
-    ghost number: { (inner.me.0.known.first ≡ 64) × (inner.me.0.known.count ≡ 1) },
+    ghost number: { IsHomes inner.me.0.known },
     ghost slots: { inner.me.1 ≡ [] },
     ghost room: { table.now.coroutines ≤ run.room },
     ghost below: { co < table.now.coroutines },
@@ -65,7 +66,7 @@ pub(crate) struct ToClearMark<'a> {
     pub(crate) run: CoRun,
     pub(crate) co: u32,
     ghost of: { (inner.table_id ≡ table.now.table) × (inner.me.0.known.coroutines ≡ table.now.coroutines) × (inner.me.0.origin ≡ Some table.now.origin) },
-    ghost number: { (inner.me.0.known.first ≡ 64) × (inner.me.0.known.count ≡ 1) },
+    ghost number: { IsHomes inner.me.0.known },
     ghost slots: { inner.me.1 ≡ (co, None) ∷ [] },
     ghost room: { table.now.coroutines ≤ run.room },
     ghost below: { co < table.now.coroutines },
@@ -86,7 +87,7 @@ pub(crate) enum Homing<'a> {
 /// The next of the run, if there is one.
 fn pop<'a>(table: &'a CoTable<Sleeper>, inner: Inner<Sleeper>, run: CoRun) -> Homing<'a>
     requires of { (inner.table_id ≡ table.now.table) × (inner.me.0.known.coroutines ≡ table.now.coroutines) × (inner.me.0.origin ≡ Some table.now.origin) }
-    requires number { (inner.me.0.known.first ≡ 64) × (inner.me.0.known.count ≡ 1) }
+    requires number { IsHomes inner.me.0.known }
     requires slots { inner.me.1 ≡ [] }
     requires room { table.now.coroutines ≤ run.room }
     requires free { (inner.me.0.known.stage.word ≡ 0) × (inner.me.0.known.stage.hand ≡ None) }

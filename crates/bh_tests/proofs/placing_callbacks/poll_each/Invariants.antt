@@ -2,8 +2,8 @@ use Rattle.std.proofs.Common.{◌≡◌}
 use Rattle.aio_core.specs.Known.{empty_stage}
 use Rattle.lot_pool.specs.Pools.{IsPassOf, IsHomeOf}
 use Rattle.aio_bh.specs.OneShots.{IsPoolFor}
-use Rattle.aio_bh.specs.Ready.{IsReady}
 use Rattle.bh_tests.proofs.placing_callbacks.poll_each.Given as goal
+use Rattle.aio_core.specs.Calls.{IsReady}
 
 abbrev pub invariant-loop-poll : goal.invariant-loop-poll
 invariant-loop-poll g l =

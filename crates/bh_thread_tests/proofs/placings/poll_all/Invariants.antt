@@ -1,8 +1,8 @@
 use Rattle.std.proofs.Common.{◌≡◌}
 use Rattle.aio_core.specs.Known.{empty_stage}
 use Rattle.lot_pool.specs.Pools.{IsHomeOf}
-use Rattle.aio_bh.specs.Ready.{IsReady}
 use Rattle.bh_thread_tests.proofs.placings.poll_all.Given as goal
+use Rattle.aio_core.specs.Calls.{IsReady}
 
 abbrev pub invariant-loop : goal.invariant-loop
 invariant-loop g l =

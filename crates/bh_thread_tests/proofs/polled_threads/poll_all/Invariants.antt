@@ -1,8 +1,8 @@
 use Rattle.std.proofs.Common.{◌≡◌}
 use Rattle.aio_core.specs.Known.{empty_stage}
 use Rattle.aio_bh.specs.OneShots.{ServesHome}
-use Rattle.aio_bh.specs.Ready.{IsReady}
 use Rattle.bh_thread_tests.proofs.polled_threads.poll_all.Given as goal
+use Rattle.aio_core.specs.Calls.{IsReady}
 
 abbrev pub invariant-loop : goal.invariant-loop
 invariant-loop g l =

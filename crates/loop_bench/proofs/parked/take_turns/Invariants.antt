@@ -1,6 +1,6 @@
-use Rattle.aio_bh.specs.Ready.{IsReady}
 use Rattle.loop_bench.specs.Awake.{IsAwake}
 use Rattle.loop_bench.proofs.parked.take_turns.Given as goal
+use Rattle.aio_core.specs.Calls.{IsReady}
 
 abbrev pub invariant-loop : goal.invariant-loop
 invariant-loop g l =

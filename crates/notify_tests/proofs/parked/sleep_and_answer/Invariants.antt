@@ -1,8 +1,8 @@
 use Rattle.std.proofs.Common.{◌≡◌, true}
 use Rattle.aio_core.specs.Known.{is_running, empty_stage}
 use Rattle.aio_bh.specs.OneShots.{ServesHome}
-use Rattle.aio_bh.specs.Ready.{IsReady}
 use Rattle.notify_tests.proofs.parked.sleep_and_answer.Given as goal
+use Rattle.aio_core.specs.Calls.{IsReady}
 
 abbrev pub invariant-loop-round : goal.invariant-loop-round
 invariant-loop-round g l =

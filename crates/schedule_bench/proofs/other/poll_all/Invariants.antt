@@ -1,9 +1,9 @@
 use Rattle.std.proofs.Common.{◌≡◌}
 use Rattle.aio_core.specs.Known.{empty_stage}
 use Rattle.aio_bh.specs.OneShots.{ServesHome}
-use Rattle.aio_bh.specs.Ready.{IsReady}
-use Rattle.schedule_bench.specs.Homes.{IsIdle}
+use Rattle.co_schedule.specs.Homes.{IsIdle}
 use Rattle.schedule_bench.proofs.other.poll_all.Given as goal
+use Rattle.aio_core.specs.Calls.{IsReady}
 
 abbrev pub invariant-loop : goal.invariant-loop
 invariant-loop g l =

@@ -1,6 +1,6 @@
-use Rattle.aio_bh.specs.Ready.{IsReady}
 use Rattle.co_schedule.specs.Calls.{IsSeatOf}
 use Rattle.schedule_bench.proofs.other.wake_all.Given as goal
+use Rattle.aio_core.specs.Calls.{IsReady}
 
 abbrev pub invariant-loop-turn : goal.invariant-loop-turn
 invariant-loop-turn g l =

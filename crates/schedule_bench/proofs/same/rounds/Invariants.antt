@@ -1,10 +1,10 @@
 use Rattle.std.proofs.Common.{◌≡◌}
 use Rattle.aio_core.specs.Known.{empty_stage}
 use Rattle.aio_bh.specs.OneShots.{ServesHome}
-use Rattle.aio_bh.specs.Ready.{IsReady}
 use Rattle.co_schedule.specs.Calls.{IsSeatOf}
-use Rattle.schedule_bench.specs.Homes.{IsIdle}
+use Rattle.co_schedule.specs.Homes.{IsIdle}
 use Rattle.schedule_bench.proofs.same.rounds.Given as goal
+use Rattle.aio_core.specs.Calls.{IsReady}
 
 abbrev pub invariant-loop : goal.invariant-loop
 invariant-loop g l =

@@ -1,7 +1,7 @@
 use Rattle.std.proofs.Common.{◌≡◌}
-use Rattle.aio_bh.specs.Ready.{IsReady}
 use Rattle.co_schedule.specs.Calls.{IsSeatOf}
 use Rattle.schedule_tests.proofs.rows.post_all.Given as goal
+use Rattle.aio_core.specs.Calls.{IsReady}
 
 abbrev pub invariant-loop-post : goal.invariant-loop-post
 invariant-loop-post g l =

@@ -13,4 +13,4 @@ pub returns-clause-seat : goal.returns-clause-seat
 returns-clause-seat g c =
     let s = c.seat.inside.inner in
     let same = same_placed _ _ _ _ _ _ (c.deliver.ensures.told c.requires.job.0 c.requires.job.1) in
-    seat_still s.table_id c.deliver.new.inner.table_id s.me.0 c.deliver.new.inner.me.0 c.args.seat.now c.args.self.now c.seat.view_is c.requires.seat c.deliver.ensures.seat.0 same.0
+    seat_still s.table_id c.deliver.new.inner.table_id s.me.0 c.deliver.new.inner.me.0 c.args.seat.now c.args.self.now c.seat.view_is c.requires.seat.of c.deliver.ensures.seat.0 same.0

@@ -14,8 +14,8 @@ swap-requires g c =
     let there : event < t.key.events = subst (λ z. event < z.sizes.events) (sym c.self.view_is) c.requires.event in
     let few = c.self.invariant.4 in
     let below : event < 64 = omega arith in
-    let phase : s.me.0.phase ≡ AtRest = subst (λ z. z.known.phase ≡ AtRest) (sym c.seat.view_is) c.requires.rest in (
-      same_table s.table_id t.table_id s.me.0 t.key c.args.seat.now c.args.self.now c.seat.view_is c.self.view_is c.requires.seat,
+    let phase : s.me.0.phase ≡ AtRest = subst (λ z. z.known.phase ≡ AtRest) (sym c.seat.view_is) c.requires.seat.rest in (
+      same_table s.table_id t.table_id s.me.0 t.key c.args.seat.now c.args.self.now c.seat.view_is c.self.view_is c.requires.seat.of,
       event_within t.table_id.words c.event_word.result event t.key c.self.invariant.1 c.event_word.ensures below,
       rw c.event_word.ensures (event_set_allowed _ t.key t.table_id.slots s.id event s.me (held_numbers s.me _ _ c.seat.invariant) phase below),
     )
@@ -30,7 +30,7 @@ pub returns-clause-seat : goal.returns-clause-seat
 returns-clause-seat g c =
     let told = c.swap.ensures.2 in
     let step = (told.1 c.args.event c.event_word.ensures).rest in
-    seat_still c.seat.inside.inner.table_id c.swap.new.seat.table_id c.seat.inside.inner.me.0 c.swap.new.seat.me.0 c.args.seat.now c.args.self.now c.seat.view_is c.requires.seat c.swap.ensures.0 (ap (λ (k : Known). k.sizes) step)
+    seat_still c.seat.inside.inner.table_id c.swap.new.seat.table_id c.seat.inside.inner.me.0 c.swap.new.seat.me.0 c.args.seat.now c.args.self.now c.seat.view_is c.requires.seat.of c.swap.ensures.0 (ap (λ (k : Known). k.sizes) step)
 
 pub returns-clause-step : goal.returns-clause-step
 returns-clause-step g c =

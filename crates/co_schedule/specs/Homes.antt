@@ -1,4 +1,4 @@
--- What the tests keep of a home.
+-- A home between two polls.
 use Rattle.std.specs.Prelude.{◌≡◌, ◌≤◌, []}
 use Rattle.co_schedule.specs.Calls.{TableState, SeatState, RunState, IsSeatOf}
 
