@@ -8,7 +8,8 @@ use Rattle.aio_model.specs.declared.scripts.image_scripts.Script.{Script}
 use Rattle.aio_model.specs.declared.scripts.image_scripts.Stream.{Stream as StreamLine}
 use Rattle.aio_model.specs.Coroutines.History.{Schedule, Push, Enter, History}
 use Rattle.aio_script.specs.Image.Bounds.{IsAtHome, IsBounded}
-use Rattle.co_schedule.specs.States.{count_of_moves as held, states_given}
+use Rattle.co_schedule.specs.States.{states_given}
+use Rattle.aio_model.specs.Counts.{counted}
 use Rattle.stream_ends.specs.Images.{homes_of}
 use Rattle.aio_run.specs.declared.running.RunEnd.{RunEnd}
 use Rattle.aio_run.specs.Moves.{begun_in, count_of_moves, moved_in, states_in, HaveServed}
@@ -112,5 +113,5 @@ module _ {C O : Type 0} where
       ∙ beginnings script.loops many homes (λ co low. home_below script.loops script.streams co bounded.at_home low)
 
 -- what is left of a count of states, that stays at the greatest u64, without those of the streams
-pub left_over : (states begun moved streams found : ℕ) → states ≡ begun + moved → begun ≡ streams → streams ≤ 64 → found ≡ held states → (streams ≤ found) × (count_of_moves (found - streams) ≡ count_of_moves moved)
+pub left_over : (states begun moved streams found : ℕ) → states ≡ begun + moved → begun ≡ streams → streams ≤ 64 → found ≡ counted states → (streams ≤ found) × (count_of_moves (found - streams) ≡ count_of_moves moved)
 left_over states begun moved streams found all is few counts = (omega arith, omega arith)

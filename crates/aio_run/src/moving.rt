@@ -1,7 +1,7 @@
 //! How often coroutines moved from loop to loop in a run.
 ghost use Rattle.std.specs.Prelude.{◌≡◌, length};
 ghost use Rattle.aio_script.specs.Image.Bounds.{IsBounded};
-ghost use Rattle.co_schedule.specs.States.{count_of_moves as held};
+ghost use Rattle.aio_model.specs.Counts.{counted};
 ghost use Rattle.aio_run.specs.Moves.{HaveServed, begun_in, count_of_moves, moved_in, states_in};
 
 use crate::RunEnd;
@@ -10,7 +10,7 @@ use co_state::Origin;
 
 /// How many states came with what was scheduled on these loops. It stays at the greatest u64.
 fn states_in<C: Origin>(loops: &[RunEnd<C>]) -> u64
-    ensures { result ≡ held (states_in loops.now) }
+    ensures { result ≡ counted (states_in loops.now) }
 {
     let mut total: u64 = 0;
     for end in loops {

@@ -1,4 +1,3 @@
-ghost use Rattle.aio_model.specs.Counts.{counted};
 //! What a table comes to in the end.
 use crate::built::CoBuilt;
 use crate::plays::Inner;
@@ -15,7 +14,8 @@ pub struct CoEnd<C: Origin> {
 impl<C: Origin> Model for CoEnd<C> {
     ghost use Rattle.std.specs.Prelude.{◌≡◌};
     ghost use Rattle.co_schedule.specs.Calls.{EndState};
-    ghost use Rattle.co_schedule.specs.States.{counted, states_given};
+    ghost use Rattle.co_schedule.specs.States.{states_given};
+    ghost use Rattle.aio_model.specs.Counts.{counted};
 
     ghost Value = { EndState };
 
@@ -26,7 +26,8 @@ impl<C: Origin> Model for CoEnd<C> {
 
 impl<C: Origin> CoEnd<C> {
     ghost use Rattle.std.specs.Prelude.{◌≡◌};
-    ghost use Rattle.co_schedule.specs.States.{counted, states_given};
+    ghost use Rattle.co_schedule.specs.States.{states_given};
+    ghost use Rattle.aio_model.specs.Counts.{counted};
 
     pub(crate) fn of(inner: Inner<C>, states: u64) -> CoEnd<C>
         requires { states ≡ counted (states_given inner.me.0.known.seen) }
