@@ -1,7 +1,6 @@
 -- A seat between two calls.
 use Rattle.std.specs.Prelude.{◌≡◌}
-use Rattle.aio_model.specs.Loop.InFlight.{AtRest}
-use Rattle.aio_core.specs.Calls.{TableState, SeatState, IsSeatOf, IsReady}
+use Rattle.aio_core.specs.Calls.{TableState, SeatState, IsReady}
 
 -- it is ready again, with the numbers that it had
 pub record ComesBack (table : TableState) (before after : SeatState) : Type 0 where

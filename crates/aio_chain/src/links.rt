@@ -1,3 +1,4 @@
+//! A list of indices, in which each knows its neighbours.
 ghost use Rattle.std.specs.Prelude.{◌≡◌, ◌≤◌, ◌<◌, ℕ, ◌+◌, ◌++◌, ◌∷◌, [], length, IfOk, IsTrue, IsFalse, if◌then◌else◌, ◌==◌};
 ghost use Rattle.aio_chain.specs.LinkList.{contains, first_of, next_after, put_before, without, IsLinked};
 ghost use Rattle.aio_chain.specs.Nodes.{next_of_node, prev_in, PointsAt, PutsBetween, TakesOut};

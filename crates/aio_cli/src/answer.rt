@@ -1,3 +1,4 @@
+//! How a run of the program ended, and what it leaves.
 ghost use Rattle.std.specs.Prelude.{◌≡◌};
 
 use aio_model::Placed;

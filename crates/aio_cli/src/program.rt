@@ -1,3 +1,4 @@
+//! The program: what its arguments ask, done over a source, a sink, a device and a clock.
 ghost use Rattle.std.specs.Prelude.{◌≡◌, ◌≤◌, ◌<◌, [], List, ℕ, length, map, string_bytes, vec_len, None, Ok, Err, IfOk, IfErr, IfSome, true, false, ◌+◌, ◌∷◌};
 ghost use Rattle.aio_model.specs.declared.scripts.image_scripts.Script.{Script};
 ghost use Rattle.aio_model.specs.declared.scripts.loop_scripts.LoopScript.{LoopScript};

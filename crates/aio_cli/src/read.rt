@@ -1,3 +1,4 @@
+//! Reads a source's text to its end.
 ghost use Rattle.std.specs.Prelude.{◌≡◌, ◌≤◌, ◌<◌, [], ◌∷◌, length, take, IfOk, IfErr, OnErr, IfSome, IsErrOf, true, false};
 ghost use Rattle.aio_words.specs.Called.{read_call};
 ghost use Rattle.aio_words.specs.Content.{TakesBytes};

@@ -1,3 +1,5 @@
+//! What the calls on handlers answer.
+
 /// A handler of one set of handlers. The first that was added has the number 0.
 #[derive(Clone, Copy, Debug, PartialEq, Eq)]
 pub struct HandlerId {

@@ -1,3 +1,4 @@
+//! A set of event handlers, and the walk over those whose events were found.
 ghost use Rattle.std.specs.Prelude.{◌≡◌, ◌<◌, ℕ, ◌∷◌, [], List, IfOk, OnErr, IfSome, IfNone, IsTrue, IsFalse, is_some};
 ghost use Rattle.aio_model.specs.declared.handlers.calls.HandlerCall.{HandlerCall};
 ghost use Rattle.aio_model.specs.declared.handlers.calls.HandlerCall.TheVariants.{Add, Remove, WalkBegin, Give, WalkEnd};

@@ -1,3 +1,4 @@
+//! Whether home may sleep, and for how long.
 ghost use Rattle.std.specs.Prelude.{◌≡◌, ◌≤◌, MatchBool, false};
 ghost use Rattle.aio_core.specs.Scans.{SameButSleep};
 ghost use Rattle.aio_loop.specs.Homes.{IsHomeFree};

@@ -1,3 +1,4 @@
+//! What a loop calls: bottom halves, handlers and timers.
 ghost use Rattle.std.specs.Prelude.{◌≡◌, ◌<◌, None, true, option_map};
 ghost use Rattle.aio_model.specs.Loop.InFlight.{AtRest};
 ghost use Rattle.aio_model.specs.Loop.Legal.{IsLegal};

@@ -1,3 +1,4 @@
+//! What home has beside the table.
 use aio_handlers::Handlers;
 use aio_timers::Timers;
 

@@ -1,3 +1,5 @@
+//! The answer of a turn.
+
 /// What a turn tells.
 #[derive(Clone, Copy, Debug, PartialEq, Eq)]
 pub struct Turned {

@@ -1,3 +1,5 @@
+//! What somebody has, wishes and is answered of a lock for readers and a writer.
+
 /// What somebody has of a lock for readers and a writer.
 #[derive(Clone, Copy, Debug, PartialEq, Eq)]
 pub enum Hold {

@@ -1,3 +1,4 @@
+//! A set of timers: arms, disarms, and runs of those that are due.
 ghost use Rattle.std.specs.Prelude.{◌≡◌, ◌<◌, ◌+◌, ◌∷◌, [], length, nat_lt, slice_set, List, IfOk, IfSome, IfNone, MatchOption};
 ghost use Rattle.aio_model.specs.declared.timers.calls.TimerCall.{TimerCall};
 ghost use Rattle.aio_model.specs.declared.timers.calls.TimerCall.TheVariants.{Add, Arm, Disarm, RunBegin, Give};

@@ -1,3 +1,4 @@
+//! The calls that a source, a sink or a device had.
 ghost use Rattle.std.specs.Prelude.{◌≡◌, List, [], ◌∷◌};
 
 use chosen::Chosen;

@@ -1,3 +1,5 @@
+//! What the objects in memory have in common: counts of calls, and lists of those that fail.
+
 // What the objects in memory share: calls are numbered from 0, and those of listed numbers fail.
 ghost use Rattle.std.specs.Prelude.{◌≡◌, IfOk};
 ghost use Rattle.aio_words.specs.Calls.{is_listed};

@@ -1,3 +1,4 @@
+//! A clock for tests, which only its pauses move on.
 ghost use Rattle.std.specs.Prelude.{◌≡◌, ◌+◌, ◌-◌, ◌^◌, ◌≤◌, min};
 
 use crate::Clock;

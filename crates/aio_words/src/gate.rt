@@ -1,3 +1,4 @@
+//! A gate that holds nobody back.
 use crate::Gate;
 
 /// A gate that every stream passes at once.

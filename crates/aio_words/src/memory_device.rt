@@ -1,3 +1,4 @@
+//! A device in memory, of whose calls some may fail.
 ghost use Rattle.std.specs.Prelude.{◌≡◌, ◌+◌, ◌≤◌, [], ◌∷◌, Some, length, take, drop, replicate, refl, option_map, is_err, IfOk, IfSome, OnErr, OnOk};
 ghost use Rattle.aio_model.specs.Serving.{put_at};
 ghost use Rattle.aio_words.specs.Called.{device_call};

@@ -1,3 +1,4 @@
+//! A sink in memory, of whose calls some may fail.
 ghost use Rattle.std.specs.Prelude.{◌≡◌, ◌≤◌, ◌++◌, [], ◌∷◌, Some, length, is_err, IfOk, OnErr, OnOk};
 ghost use Rattle.aio_words.specs.Called.{write_call};
 ghost use Rattle.aio_words.specs.Content.{with_piece, AppendsFront};

@@ -1,3 +1,4 @@
+//! A source in memory, of whose calls some may fail.
 ghost use Rattle.std.specs.Prelude.{◌≡◌, ◌≤◌, ◌<◌, [], ◌∷◌, Some, length, take, drop, is_err, IfOk, OnErr};
 ghost use Rattle.aio_words.specs.Called.{read_call};
 ghost use Rattle.aio_words.specs.Calls.{is_listed};

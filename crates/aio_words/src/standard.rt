@@ -1,3 +1,5 @@
+//! The standard streams as source and sink.
+
 // Standard input, output and error: the trusted edge. Sources and sinks over them tell nothing of the bytes that pass,
 // only how many calls failed. Over a stream that tells its bytes, as one in memory may, clauses say what became of them.
 ghost use Rattle.std.specs.Prelude.{◌≡◌, ◌≤◌, [], ◌∷◌, is_err, None, length, IfOk, IsOkAnd, OnErr, OnOk};

@@ -1,3 +1,4 @@
+//! What the program stands on: a source, a sink, a device, a clock and a gate.
 ghost use Rattle.std.specs.Prelude.{◌≡◌, ℕ, ◌+◌, ◌≤◌, ◌<◌, List, [], ◌∷◌, is_err, length, take, drop, Option, option_map, IfOk, OnOk, OnErr, IfSome};
 ghost use Rattle.aio_model.specs.Serving.{put_at};
 ghost use Rattle.aio_words.specs.Called.{read_call, write_call, device_call};

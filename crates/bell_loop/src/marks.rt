@@ -1,3 +1,4 @@
+//! Which events home knows to be set.
 ghost use Rattle.std.specs.Prelude.{◌≡◌, ◌≤◌, ◌<◌, false, length, replicate, set, slice_index_or, IfOk};
 ghost use Rattle.aio_model.specs.Loop.Log.{first_from};
 

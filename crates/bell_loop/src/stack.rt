@@ -1,3 +1,4 @@
+//! What callbacks that wait for a nested poll have still to do.
 ghost use Rattle.std.specs.Prelude.{◌≡◌, ◌<◌, ◌∷◌, [], length, IfOk, MatchOption};
 
 use aio_model::{ActKind, NoMemory};

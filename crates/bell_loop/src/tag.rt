@@ -1,3 +1,4 @@
+//! The job of a one-shot of a loop script.
 use aio_core::Job;
 
 /// What a one-shot of a loop script is begun for.

@@ -1,3 +1,4 @@
+//! Enqueues by each kind of call, their polls, and callbacks that note what they are called for.
 ghost use Rattle.std.specs.Prelude.{◌≡◌, ◌<◌, IfSome, None};
 ghost use Rattle.aio_model.specs.Loop.InFlight.{AtRest};
 ghost use Rattle.aio_model.specs.Loop.History.{History};

@@ -1,3 +1,4 @@
+//! A coroutine that yields so many times.
 use co_state::{Co, CoStep, Cx, Origin};
 
 /// Yields so many times, and then is done.

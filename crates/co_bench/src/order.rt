@@ -1,3 +1,5 @@
+//! Numbers in a scattered order.
+
 /// The place of a call among the numbers below a power of two: each comes once, in a scattered order.
 pub fn scattered(call: u32, size: u32) -> u32 {
     if size == 0 {

@@ -1,3 +1,5 @@
+//! Which part of the measurement a run is.
+
 /// What is done again and again.
 #[derive(Clone, Copy)]
 pub enum Kind {

@@ -1,3 +1,4 @@
+//! A coroutine on its way to another loop.
 ghost use Rattle.std.specs.Prelude.{◌≡◌, None, Some, MatchOption};
 
 /// A coroutine that is to move to a loop where its number was scheduled and not entered yet.

@@ -1,3 +1,5 @@
+//! Whether a coroutine sleeps.
+
 /// Whether a coroutine sleeps.
 #[derive(Clone, Copy, Debug, PartialEq, Eq)]
 pub enum Nap {

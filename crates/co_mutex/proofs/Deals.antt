@@ -62,7 +62,7 @@ module _ {T : Type 0} where
 
   pub reseat : (h : List (LockEntry T)) (seat other : ℕ → ℕ) (j k number : ℕ) (seen mine : List (LockEntry T)) → IsPassPart h seat j number seen mine → other number ≡ k → IsPassPart h other k number seen mine
   reseat h seat other j k number seen mine is e =
-      record { sits = e; rest = is.rest; longer = is.longer; none_missed = is.none_missed; mine_is = is.mine_is }
+      record { sits = e; seen_of = is.seen_of }
 
   -- a seat whose parts all sit elsewhere now
   pub moved_seat : (built : T) (h : List (LockEntry T)) (places : List PassPlace) (seat other : ℕ → ℕ) (j k : ℕ) (u : Known T) → ((number : ℕ) → seat number ≡ j → (number ≡ u.number) ⊎ (number ≢ u.number) → other number ≡ k) → IsSeat built h places seat j u → IsSeat built h places other k u
@@ -126,7 +126,7 @@ module _ {T N : Type 0} (note : T → ℕ → N) (n : ℕ) (built : T) where
     where
       first : IsSeat built [] (replicate n AtRest) (λ k. 0) 0 (first_view_of key)
       first =
-          record { opens = ap Some (sym value); sized = sym size ∙ sym (rest_long n); placed = rest_at n 0 (subst (λ z. 0 < z) (sym size) some_pass); part = record { sits = refl; rest = []; longer = refl; none_missed = refl; mine_is = refl }; value = λ owns. owning_rest owns; others = λ k x atx. (let t = new_at 1 (pred key.passes) k x atx in let number : x.number ≡ 1 + k = ap (λ (z : OtherPart T). z.number) t.0 in let seen : x.seen ≡ [] = ap (λ (z : OtherPart T). z.seen) t.0 in let made : x.mine ≡ [] = ap (λ (z : OtherPart T). z.mine) t.0 in let less = t.1 in let low : x.number < n = omega (arith, number, less, size) in (record { sits = refl; rest = []; longer = sym seen; none_missed = refl; mine_is = ap (made_by x.number) seen ∙ sym made }, rest_at n x.number low, λ q. omega (arith, number, q))) }
+          record { opens = ap Some (sym value); sized = sym size ∙ sym (rest_long n); placed = rest_at n 0 (subst (λ z. 0 < z) (sym size) some_pass); part = record { sits = refl; seen_of = record { rest = []; longer = refl; none_missed = refl; mine_is = refl } }; value = λ owns. owning_rest owns; others = λ k x atx. (let t = new_at 1 (pred key.passes) k x atx in let number : x.number ≡ 1 + k = ap (λ (z : OtherPart T). z.number) t.0 in let seen : x.seen ≡ [] = ap (λ (z : OtherPart T). z.seen) t.0 in let made : x.mine ≡ [] = ap (λ (z : OtherPart T). z.mine) t.0 in let less = t.1 in let low : x.number < n = omega (arith, number, less, size) in (record { sits = refl; rest = []; longer = sym seen; none_missed = refl; mine_is = ap (made_by x.number) seen ∙ sym made }, rest_at n x.number low, λ q. omega (arith, number, q))) }
 
       seats : SeatsStand built [] (replicate n AtRest) (λ k. 0) (first_view_of key ∷ [])
       seats zero u e lives = subst (IsSeat built [] (replicate n AtRest) (λ k. 0) 0) (some-injective (first_view_of key) u e) first

@@ -1,18 +1,13 @@
 -- Entries of a pass in histories that are put together, and notes in them.
 use Rattle.std.proofs.Common.{◌≡◌, ◌≢◌, ℕ, eqb, Bool, true, false, cond, List, [], ◌∷◌, ◌++◌, refl, sym, ap, ◌∙◌, subst, ⊎_elim}
 use Rattle.std.proofs.lemmas.Bool.{cases_eq, ne_eqb, eq-eqb}
+use Rattle.table_seats.proofs.Entries.{by-append}
 use Rattle.aio_model.specs.Lock.History.{LockEntry, Got, Wait, Grant, Release, maker_of, made_by, value_of, IsLegalLock}
 use Rattle.aio_model.specs.Lock.Notes.{IsNoted}
 
 module _ {T : Type 0} where
   pub made_by-append : (p : ℕ) (xs ys : List (LockEntry T)) → made_by p (xs ++ ys) ≡ made_by p xs ++ made_by p ys
-  made_by-append p [] ys = refl
-  made_by-append p (e ∷ xs) ys =
-      by (eqb (maker_of e) p) (made_by-append p xs ys)
-    where
-      by : (k : Bool) → made_by p (xs ++ ys) ≡ made_by p xs ++ made_by p ys → cond k (e ∷ made_by p (xs ++ ys)) (made_by p (xs ++ ys)) ≡ cond k (e ∷ made_by p xs) (made_by p xs) ++ made_by p ys
-      by true h = ap (λ (l : List (LockEntry T)). e ∷ l) h
-      by false h = h
+  made_by-append p xs ys = by-append maker_of (λ n. eqb n p) xs ys
 
   -- one more entry, by the pass or by another
   pub made_more : (p : ℕ) (e : LockEntry T) (h : List (LockEntry T)) → maker_of e ≡ p → made_by p (e ∷ h) ≡ e ∷ made_by p h

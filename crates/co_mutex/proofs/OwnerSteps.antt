@@ -194,7 +194,7 @@ module _ {T N : Type 0} (note : T → ℕ → N) (n : ℕ) (built : T) (slots id
       let a = takes 0 (Value (value_of built me.0.seen)) in
       let w = moves me.0 Holds d in
       let hand : List (ℕ × S) = (0, Value (value_of built me.0.seen)) ∷ [] in
-      let noted : IsNoted note built me.0.seen = noted_rest note built seat.part.rest me.0.seen (subst (IsNoted note built) seat.part.longer r.noted) in
+      let noted : IsNoted note built me.0.seen = noted_rest note built seat.part.seen_of.rest me.0.seen (subst (IsNoted note built) seat.part.seen_of.longer r.noted) in
       let told : TakesOwn note k built (me.0, []) (w, hand) = record { is = refl; noted = noted } in
       let P : List (ℕ × S) → Type 0 = λ l. (w : Known T) × (a : Act S) × Valid s.homes l a × Kept note n built (stepped s k 0 id l w a) × swapped_grant note (step slots k 0 0 none) (me.0, l) (slice_index s.words k) (w, carried_after l a) in
       subst P (sym carried) (w, a, all.1 ∙ ap (λ z. some (some (Value z))) (sym value), kept_own note n built id me.0 s r at live Holds d k 0 [] a r.baton r.stack value all.2, λ x e. subst (λ z. finds_at note z k x (me.0, []) (slice_index s.words k) (w, hand)) (sym is) (one, subst (λ z. TakesOwn note k z (me.0, []) (w, hand)) (some_same built x (sym seat.opens ∙ e)) told))

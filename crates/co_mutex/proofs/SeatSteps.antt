@@ -1,23 +1,24 @@
 -- What the passes know after a step of one of them.
-use Rattle.std.proofs.Common.{◌≡◌, ◌≢◌, ℕ, ◌<◌, ⊎_elim, true, List, [], ◌∷◌, ◌++◌, set, length, length-set, refl, sym, ap, ◌∙◌, subst}
+use Rattle.std.proofs.Common.{◌≡◌, ◌≢◌, ℕ, eqb, ◌<◌, ⊎_elim, true, List, [], ◌∷◌, ◌++◌, set, length, length-set, refl, sym, ap, ◌∙◌, subst}
 use mathlib.Core.Option.{some}
 use lib.ListN.{get_elem?}
 use Rattle.atomic_table.proofs.Lists.{at_set, set_here, set_else}
+use Rattle.table_seats.proofs.Entries.{all_of_seen}
 use Rattle.aio_model.specs.Lock.History.{LockEntry, maker_of, made_by, value_of, IsLegalLock}
 use Rattle.co_mutex.specs.Places.{PassPlace, AtRest, is_owning}
 use Rattle.co_mutex.specs.Known.{OtherPart, Done, Known, moves, learns, makes, KnownGoesOn}
 use Rattle.co_mutex.specs.Seats.{IsPassPart, IsSeat, SeatsStand}
 use Rattle.co_mutex.proofs.QuietSteps.{at_low}
-use Rattle.co_mutex.proofs.Histories.{made_by-append, made_more, made_else}
+use Rattle.co_mutex.proofs.Histories.{made_more, made_else}
 
 module _ {T : Type 0} where
   pub made_whole : (h : List (LockEntry T)) (seat : ℕ → ℕ) (id number : ℕ) (seen mine : List (LockEntry T)) → IsPassPart h seat id number seen mine → made_by number h ≡ mine
   made_whole h seat id number seen mine is =
-      ap (made_by number) is.longer ∙ made_by-append number is.rest seen ∙ ap (λ (l : List (LockEntry T)). l ++ made_by number seen) is.none_missed ∙ is.mine_is
+      all_of_seen maker_of (λ n. eqb n number) h seen mine is.seen_of
 
   part_made : (h : List (LockEntry T)) (seat : ℕ → ℕ) (e : LockEntry T) (id number : ℕ) (seen mine : List (LockEntry T)) → maker_of e ≢ number → IsPassPart h seat id number seen mine → IsPassPart (e ∷ h) seat id number seen mine
   part_made h seat e id number seen mine ne is =
-      record { sits = is.sits; rest = e ∷ is.rest; longer = ap (λ (l : List (LockEntry T)). e ∷ l) is.longer; none_missed = made_else number e is.rest ne ∙ is.none_missed; mine_is = is.mine_is }
+      record { sits = is.sits; seen_of = record { rest = e ∷ is.seen_of.rest; longer = ap (λ (l : List (LockEntry T)). e ∷ l) is.seen_of.longer; none_missed = made_else number e is.seen_of.rest ne ∙ is.seen_of.none_missed; mine_is = is.seen_of.mine_is } }
 
   module _ (built : T) (h : List (LockEntry T)) (places : List PassPlace) (seat : ℕ → ℕ) (views : List (Known T)) (id : ℕ) (v : Known T) (s : SeatsStand built h places seat views) (at : get_elem? views id ≡ some v) (live : v.live ≡ true) (new : PassPlace) where
     me : IsSeat built h places seat id v
@@ -25,7 +26,7 @@ module _ {T : Type 0} where
 
     pub goes_on : IsLegalLock h → KnownGoesOn v h
     goes_on legal =
-        record { others = me.part.rest; longer = me.part.longer; foreign = me.part.none_missed; all_mine = made_whole h seat id v.number v.seen v.mine me.part; legal = legal }
+        record { others = me.part.seen_of.rest; longer = me.part.seen_of.longer; foreign = me.part.seen_of.none_missed; all_mine = made_whole h seat id v.number v.seen v.mine me.part; legal = legal }
 
     low : v.number < length places
     low = at_low places v.number v.place me.placed
@@ -62,11 +63,11 @@ module _ {T : Type 0} where
 
     pub seats_make : (e : LockEntry T) (d : Done) → maker_of e ≡ v.number → ValueStays (e ∷ h) → SeatsStand built (e ∷ h) (set places v.number new) seat (set views id (makes v new d h e))
     seats_make e d by_it stays =
-        seats_set (e ∷ h) (makes v new d h e) (keeps_made e by_it) stays record { opens = me.opens; sized = me.sized ∙ sym (length-set places v.number new); placed = set_here places v.number new low; part = record { sits = me.part.sits; rest = []; longer = refl; none_missed = refl; mine_is = made_more v.number e h by_it ∙ ap (λ (l : List (LockEntry T)). e ∷ l) (made_whole h seat id v.number v.seen v.mine me.part) }; value = λ owns. refl; others = my_others (e ∷ h) (keeps_made e by_it) }
+        seats_set (e ∷ h) (makes v new d h e) (keeps_made e by_it) stays record { opens = me.opens; sized = me.sized ∙ sym (length-set places v.number new); placed = set_here places v.number new low; part = record { sits = me.part.sits; seen_of = record { rest = []; longer = refl; none_missed = refl; mine_is = sym (made_more v.number e h by_it ∙ ap (λ (l : List (LockEntry T)). e ∷ l) (made_whole h seat id v.number v.seen v.mine me.part)) } }; value = λ owns. refl; others = my_others (e ∷ h) (keeps_made e by_it) }
 
     pub seats_learn : (d : Done) → SeatsStand built h (set places v.number new) seat (set views id (learns v new d h))
     seats_learn d =
-        seats_set h (learns v new d h) keeps_same (λ j u ne atu lives owns. refl) record { opens = me.opens; sized = me.sized ∙ sym (length-set places v.number new); placed = set_here places v.number new low; part = record { sits = me.part.sits; rest = []; longer = refl; none_missed = refl; mine_is = made_whole h seat id v.number v.seen v.mine me.part }; value = λ owns. refl; others = my_others h keeps_same }
+        seats_set h (learns v new d h) keeps_same (λ j u ne atu lives owns. refl) record { opens = me.opens; sized = me.sized ∙ sym (length-set places v.number new); placed = set_here places v.number new low; part = record { sits = me.part.sits; seen_of = record { rest = []; longer = refl; none_missed = refl; mine_is = sym (made_whole h seat id v.number v.seen v.mine me.part) } }; value = λ owns. refl; others = my_others h keeps_same }
 
     pub seats_move : (d : Done) → (is_owning new ≡ true → value_of built v.seen ≡ value_of built h) → SeatsStand built h (set places v.number new) seat (set views id (moves v new d))
     seats_move d value =

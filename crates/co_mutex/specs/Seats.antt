@@ -1,9 +1,10 @@
 -- What ties the passes to the history, and the whole rule of the table.
-use Rattle.std.specs.Prelude.{◌≡◌, ◌≢◌, ℕ, ◌≤◌, true, Some, List, [], ◌++◌, length}
+use Rattle.std.specs.Prelude.{◌≡◌, ◌≢◌, ℕ, ◌==◌, ◌≤◌, true, Some, List, length}
 use mathlib.Core.Option.{some}
 use lib.ListN.{get_elem?}
 use Rattle.atomic_table.specs.Table.{State}
-use Rattle.aio_model.specs.Lock.History.{LockEntry, made_by, value_of, AreBelow}
+use Rattle.table_seats.specs.Seats.{IsSeenBy}
+use Rattle.aio_model.specs.Lock.History.{LockEntry, maker_of, value_of, AreBelow}
 use Rattle.aio_model.specs.Lock.Notes.{IsNoted}
 use Rattle.co_mutex.specs.Places.{PassPlace, AtRest, is_owning}
 use Rattle.co_mutex.specs.declared.slot.Slot.{Slot}
@@ -15,10 +16,7 @@ module _ {T : Type 0} where
   -- which has no more of them
   pub record IsPassPart (h : List (LockEntry T)) (seat : ℕ → ℕ) (id number : ℕ) (seen mine : List (LockEntry T)) : Type 0 where
     pub sits : seat number ≡ id
-    pub rest : List (LockEntry T)
-    pub longer : h ≡ rest ++ seen
-    pub none_missed : made_by number rest ≡ []
-    pub mine_is : made_by number seen ≡ mine
+    pub seen_of : IsSeenBy maker_of (λ n. n == number) h seen mine
 
   -- what a live seat knows: of its own pass, and of others, which are at rest
   pub record IsSeat (built : T) (h : List (LockEntry T)) (places : List PassPlace) (seat : ℕ → ℕ) (id : ℕ) (known : Known T) : Type 0 where

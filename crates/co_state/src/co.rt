@@ -1,3 +1,4 @@
+//! What a coroutine is: a value that is resumed, and says what it wants then.
 use crate::cx::Cx;
 
 /// Where a coroutine's facts come from, such as which lock it waits for. Only contracts see it.

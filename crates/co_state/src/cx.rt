@@ -1,3 +1,4 @@
+//! What a coroutine asks for in a resume: wakes of others, and the end.
 ghost use Rattle.std.specs.Prelude.{◌≡◌, ◌+◌, ◌-◌, ◌<◌, ◌++◌, ◌∷◌, [], true, MatchOption};
 
 use std::marker::Model;

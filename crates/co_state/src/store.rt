@@ -1,3 +1,4 @@
+//! The coroutines that wait in one home.
 ghost use Rattle.std.specs.Prelude.{◌≡◌, ◌<◌, ◌||◌, length, nat_le, is_err, Some, None, IfOk, IfErr, OnOk, OnErr, MatchOption, MatchResult, nat_eq, slice_index, if◌then◌else◌};
 ghost use Rattle.std.specs.FinMap as map;
 ghost use Rattle.slab.specs.Slab.{Slab, get, slab_len, Updates, ContainsKey};

@@ -1,3 +1,4 @@
+//! Worked calls on stores and on what is asked in a resume.
 ghost use Rattle.std.specs.Prelude.{◌≡◌};
 
 use super::{Co, CoId, CoStep, CoStore, Cx, Entered, Origin};

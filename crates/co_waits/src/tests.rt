@@ -1,3 +1,4 @@
+//! Worked calls on queues, readers and writers, and the same beside a plain table.
 ghost use Rattle.std.specs.Prelude.{◌≡◌, ◌<◌, ◌≤◌};
 
 use super::{CoQueue, Hold, Moved, RwAnswer, RwState};

@@ -1,3 +1,4 @@
+//! What a device was called for.
 ghost use Rattle.std.specs.Prelude.{◌≡◌, true, false};
 ghost use Rattle.aio_model.specs.Counts.{one_more};
 

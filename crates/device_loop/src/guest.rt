@@ -1,3 +1,4 @@
+//! The thread that rings the device.
 ghost use Rattle.std.specs.Prelude.{◌<◌};
 ghost use Rattle.aio_core.specs.Calls.{IsReady};
 

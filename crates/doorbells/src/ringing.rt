@@ -1,3 +1,4 @@
+//! A ring of a doorbell.
 ghost use Rattle.std.specs.Prelude.{◌<◌};
 ghost use Rattle.doorbells.specs.Rings.{Rings};
 ghost use Rattle.aio_core.specs.Calls.{IsReady};

@@ -1,3 +1,4 @@
+//! Rings from two threads and from callbacks.
 use crate::{
     Devices, Rung, answer, answer_twice, ring, ring_from_two_and_answer, ring_twice_and_answer,
 };

@@ -1,3 +1,4 @@
+//! A device of which one call fails.
 ghost use Rattle.std.specs.Prelude.{◌≡◌, ◌≤◌, ◌∷◌, is_err, length, IfOk, OnErr};
 ghost use Rattle.aio_words.specs.Called.{device_call};
 ghost use Rattle.aio_words.specs.Faults.{HasRisen};

@@ -1,3 +1,4 @@
+//! The objects that stand for the outside, beside what they are told to do.
 use aio_words::{
     Clock, Device, Failed, Gate, MemDevice, MemSink, MemSource, OpenGate, Sink, Source, StdSink,
     StdSource, StepClock,

@@ -1,3 +1,4 @@
+//! Requests on an image, whole and cut, with and without faults.
 ghost use Rattle.std.specs.Prelude.{◌≡◌, ◌<◌, ◌≤◌, ◌^◌, ◌∷◌, ◌++◌, length, slice_index, IfOk, IfSome, Some, None, []};
 ghost use Rattle.aio_model.specs.Serving.{length_of, end_of};
 ghost use Rattle.img_requests.specs.Journal.{entry_count, entry_next};

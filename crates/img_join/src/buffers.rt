@@ -1,3 +1,4 @@
+//! The buffers of all streams.
 ghost use Rattle.std.specs.Prelude.{◌≡◌, ◌<◌, ℕ, List, length, map, set};
 ghost use Rattle.img_join.specs.Placing.{first_buffer, rest_of, row_at};
 

@@ -1,3 +1,4 @@
+//! The end of an image: its replies and its device.
 ghost use Rattle.std.specs.Prelude.{◌≡◌, ◌<◌, ◌≤◌, ℕ, List, [], length, vec_capacity};
 ghost use Rattle.aio_model.specs.declared.scripts.image_scripts.Step.{Step};
 ghost use Rattle.img_join.specs.Ended.{HaveOwnIds, AreOurs, HasRetired, IsChargedFor, IsServedWhole};

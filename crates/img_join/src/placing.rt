@@ -1,3 +1,4 @@
+//! Replies put in the order of the journal.
 ghost use Rattle.std.specs.Prelude.{◌≡◌, ◌≤◌, [], length, vec_capacity};
 ghost use Rattle.img_join.specs.Placing.{HaveAll, placed_from};
 

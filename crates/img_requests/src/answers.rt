@@ -1,3 +1,5 @@
+//! What the parts of a request answer.
+
 /// What came of entering a request.
 #[derive(Clone, Copy, Debug, PartialEq, Eq)]
 pub enum Enter {

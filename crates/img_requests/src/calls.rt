@@ -1,3 +1,4 @@
+//! The calls of a piece on the device.
 ghost use Rattle.std.specs.Prelude.{◌≡◌, is_err, ◌+◌, ◌<◌, ◌≤◌, ◌^◌, take, drop, length, replicate, option_map, IfSome, OnOk, OnErr};
 ghost use Rattle.aio_model.specs.Serving.{put_at, length_of, end_of};
 ghost use Rattle.aio_words.specs.Faults.{HasRisen};

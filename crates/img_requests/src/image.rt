@@ -1,3 +1,4 @@
+//! An image that serves one request after the other.
 ghost use Rattle.std.specs.Prelude.{◌≡◌, ◌<◌, ◌≤◌, ◌^◌, sum, [], ◌∷◌, ◌++◌, length, slice_index, Option, IfSome, IfOk, IfErr};
 ghost use Rattle.aio_model.specs.Serving.{length_of, end_of};
 

@@ -1,3 +1,4 @@
+//! What stands of a request once it has its reply.
 ghost use Rattle.std.specs.Prelude.{◌≡◌};
 
 use aio_model::{Bytes, Reply};

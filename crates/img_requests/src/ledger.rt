@@ -1,3 +1,4 @@
+//! The journal, with room for all that can come to stand in it.
 ghost use Rattle.std.specs.Prelude.{◌≡◌, ◌<◌, ◌≤◌, ◌∷◌, [], ◌++◌, sum, length, slice_index, IfOk};
 
 use crate::{Entry, Mark};

@@ -1,3 +1,4 @@
+//! A request under way.
 ghost use Rattle.std.specs.Prelude.{◌≡◌, ◌<◌, ◌^◌, ◌+◌, ◌↔◌, IsTrue};
 ghost use Rattle.aio_model.specs.Serving.{length_of};
 

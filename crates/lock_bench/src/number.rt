@@ -1,3 +1,4 @@
+//! A number behind a lock.
 use co_mutex::LockRule;
 
 /// A number behind a lock, whose note is the same whatever it is.

@@ -1,3 +1,4 @@
+-- A tally behind a lock: how often each pass held it.
 use Rattle.std.specs.Prelude.{ℕ, slice_index}
 use Rattle.lock_tests.specs.declared.tally.Tally.{Tally}
 

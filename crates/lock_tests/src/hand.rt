@@ -1,3 +1,4 @@
+//! What a pass has, and what it is to do.
 use crate::number::Number;
 use co_mutex::{Guard, Waiting};
 use co_state::CoId;

@@ -1,3 +1,4 @@
+//! A pass that does as it is told.
 ghost use Rattle.std.specs.Prelude.{◌≡◌};
 ghost use Rattle.co_mutex.specs.Places.{AtRest, Counted, Queued, Holds};
 ghost use Rattle.co_mutex.specs.Passes.{IsPassOf, known};

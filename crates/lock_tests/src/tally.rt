@@ -1,3 +1,4 @@
+//! A tally behind a lock, noted by pass.
 ghost use Rattle.aio_model.specs.Lock.Notes.{SameNotes};
 ghost use Rattle.lock_tests.specs.Tallies.{own_of};
 

@@ -1,3 +1,4 @@
+//! How many rounds are measured, and a runner that counts calls.
 use aio_bh::{Call, Runner, Turn};
 use aio_core::{LoopTable, Seat};
 

@@ -1,3 +1,5 @@
+//! Which part of the measurement a run is.
+
 /// What is to be measured.
 pub enum Part {
     /// What starting the program costs.

@@ -1,3 +1,4 @@
+//! What one loop shares with all threads.
 ghost use Rattle.std.specs.Prelude.{◌≡◌};
 
 use aio_bh::LotPool;

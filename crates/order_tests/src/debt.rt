@@ -1,3 +1,4 @@
+//! The next step of a seat that schedules.
 use aio_core::{Aimed, Announced};
 
 /// The next step of a seat that enqueues a handle and notifies.

@@ -1,3 +1,5 @@
+//! The orders of the steps of two seats.
+
 /// How many steps of two seats may be chosen at most.
 const CHOICES: usize = 16;
 

@@ -1,3 +1,4 @@
+//! A seat that schedules step by step.
 ghost use Rattle.std.specs.Prelude.{◌≡◌, ◌<◌};
 ghost use Rattle.aio_model.specs.Loop.InFlight.{AtRest, Linked, ToLoad, flight_of};
 ghost use Rattle.aio_core.specs.Calls.{IsSeatOf};

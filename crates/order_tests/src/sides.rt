@@ -1,3 +1,4 @@
+//! Two seats that schedule step by step, in every order.
 ghost use Rattle.std.specs.Prelude.{◌≡◌};
 ghost use Rattle.aio_core.specs.Calls.{IsSeatOf};
 

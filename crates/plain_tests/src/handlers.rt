@@ -1,3 +1,4 @@
+//! Handlers and walks, beside what their calls leave.
 ghost use Rattle.std.specs.Prelude.{◌≡◌, ◌<◌, IsTrue, IsFalse, IfOk};
 
 use aio_handlers::{AddRefusal, HandlerId, Handlers, Ready, Removed};

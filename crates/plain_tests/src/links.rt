@@ -1,3 +1,4 @@
+//! Linked indices, beside a plain list.
 ghost use Rattle.std.specs.Prelude.{◌≡◌};
 
 use crate::slow_lists::{is_in, next_after, put_before, without};

@@ -1,3 +1,4 @@
+//! Worked calls on the loop of one thread.
 use aio_model::{Commit, Flags, OneLoop, Why};
 use std::test::Fail;
 

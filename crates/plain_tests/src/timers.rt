@@ -1,3 +1,4 @@
+//! Timers and runs, beside what their calls leave.
 ghost use Rattle.std.specs.Prelude.{◌≡◌, ◌+◌};
 
 use aio_model::{TimerCall, timer_state};

@@ -1,3 +1,4 @@
+//! A device in memory or on a file.
 use crate::FileDevice;
 use aio_words::{Device, Failed, MemDevice};
 

@@ -1,3 +1,4 @@
+//! A device on a raw file.
 ghost use Rattle.std.specs.Prelude.{◌≡◌, ◌+◌, ◌≤◌, [], ◌∷◌, None, length, is_err, is_some, not, true, false, IfOk, IsOkAnd, OnErr, OnOk};
 ghost use Rattle.aio_words.specs.Called.{device_call};
 ghost use Rattle.aio_words.specs.Faults.{HasRisen};

@@ -1,3 +1,4 @@
+//! The machine's clock.
 ghost use Rattle.std.specs.Prelude.{◌≡◌, ◌≤◌, IsOkAnd};
 
 use aio_words::{Clock, NoMemory};

@@ -1,3 +1,4 @@
+//! Room to find replies by their requests.
 ghost use Rattle.std.specs.Prelude.{◌≡◌, IfOk};
 
 use crate::links::{Links, STREAMS};

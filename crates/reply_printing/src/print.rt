@@ -1,3 +1,4 @@
+//! Prints the replies to a script's requests.
 ghost use Rattle.std.specs.Prelude.{◌≡◌, ◌+◌, ◌<◌, ◌≤◌, ◌^◌, ℕ, [], length, map, IsPermutation};
 ghost use Rattle.std.specs.List.{flat_map};
 ghost use Rattle.aio_model.specs.Serving.Asked.{asked};

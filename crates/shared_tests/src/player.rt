@@ -1,3 +1,4 @@
+//! A stream with one request and one buffer.
 ghost use Rattle.std.specs.Prelude.{◌≡◌, ◌<◌, ◌^◌, ◌⊎◌, ℕ, length};
 ghost use Rattle.shared_tests.specs.declared.turn.Turn.TheVariants.{Rest, Wait, Serve, Leave};
 ghost use Rattle.aio_model.specs.Serving.{length_of};

@@ -1,3 +1,4 @@
+//! Rows of steps of several streams, and what each answers.
 use crate::stage::{plays, reads, table_of, writes};
 use crate::turn::Answer;
 use crate::turn::Answer::{Entered, Left, Nothing, Retired, Served, StillWaits, TookUp};

@@ -1,3 +1,4 @@
+//! An image and a player for each of its streams.
 ghost use Rattle.std.specs.Prelude.{◌≡◌, ◌<◌, ◌≤◌, ◌^◌, sum, length, IfOk};
 ghost use Rattle.aio_model.specs.Serving.{length_of};
 ghost use Rattle.shared_tests.specs.Tables.{AreFresh};

@@ -1,3 +1,4 @@
+//! What a stream does next, and what came of it.
 use img_shared::{Enter, Piece};
 
 /// What a stream does next.

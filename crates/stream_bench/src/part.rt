@@ -1,3 +1,5 @@
+//! Which part of the measurement a run is.
+
 /// How much of a run is to be measured.
 #[derive(Clone, Copy, Debug, PartialEq, Eq)]
 pub enum Part {

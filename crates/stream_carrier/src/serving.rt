@@ -1,3 +1,4 @@
+//! Serves a script on one thread, each stream resumed as a wake names it.
 ghost use Rattle.std.specs.Prelude.{◌≡◌, ◌≤◌, IfOk, IfErr, length};
 ghost use Rattle.aio_script.specs.Image.Bounds.{IsBounded};
 ghost use Rattle.stream_ends.specs.Images.{device_behind};

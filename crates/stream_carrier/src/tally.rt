@@ -1,3 +1,4 @@
+//! How a run on one thread went.
 use co_state::Cx;
 
 /// How a run went. A count at its type's end begins again at 0.

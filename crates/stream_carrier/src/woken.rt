@@ -1,3 +1,4 @@
+//! Which streams are to be resumed.
 ghost use Rattle.std.specs.Prelude.{◌≡◌};
 
 use aio_model::NoMemory;

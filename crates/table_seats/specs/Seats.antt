@@ -63,12 +63,16 @@ module _ {E : Type 0} (seat_of : E → ℕ) where
   abbrev pub own_entries : Numbers → List E → List E
   own_entries numbers = entries_by (owns numbers)
 
-  -- a seat has seen the history up to some entry, and in that all entries of its numbers, which are those that it lists
-  pub record IsSeenOf (history : List E) (numbers : Numbers) (seen mine : List E) : Type 0 where
+  -- the history was seen up to some entry, and in that all entries made under the numbers that pass, which are those that are listed
+  pub record IsSeenBy (test : ℕ → Bool) (history seen mine : List E) : Type 0 where
     pub rest : List E
     pub longer : history ≡ rest ++ seen
-    pub none_missed : own_entries numbers rest ≡ []
-    pub mine_is : mine ≡ own_entries numbers seen
+    pub none_missed : entries_by test rest ≡ []
+    pub mine_is : mine ≡ entries_by test seen
+
+  -- the same of a seat, by the numbers that it owns
+  abbrev pub IsSeenOf : List E → Numbers → List E → List E → Type 0
+  IsSeenOf history numbers seen mine = IsSeenBy (owns numbers) history seen mine
 
   -- in the longer of what two joined seats had seen, the entries of each one's numbers are just those that it made
   pub record NoneMissed (told : Told E) : Type 0 where

@@ -1,3 +1,4 @@
+//! Worked calls on a table.
 ghost use Rattle.std.specs.Prelude.{◌≡◌, ◌<◌, true, length, None};
 ghost use Rattle.aio_model.specs.Loop.InFlight.{AtRest};
 ghost use Rattle.aio_core.specs.Known.{Armed, is_running};

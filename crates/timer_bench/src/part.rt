@@ -1,3 +1,5 @@
+//! Which part of the measurement a run is.
+
 /// How the expiries of the arms come one after the other.
 #[derive(Clone, Copy)]
 pub enum Expiries {

@@ -1,3 +1,4 @@
+//! A runner that counts what it is called for.
 ghost use Rattle.std.specs.Prelude.{◌≡◌, ◌<◌, List, []};
 ghost use Rattle.aio_model.specs.declared.timers.calls.TimerCall.{TimerCall};
 ghost use Rattle.aio_loop.specs.Entering.{EachPasses, is_callees_on_timers, ChangesSide};

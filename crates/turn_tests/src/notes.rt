@@ -1,3 +1,4 @@
+//! A runner that notes what it is entered for.
 use aio_bh::{Call, Turn};
 use aio_core::{LoopTable, Seat};
 use aio_loop::{LoopRunner, Ready, Side, TimerId};

@@ -1,3 +1,4 @@
+//! Turns, beside what each is to call.
 use crate::notes::{Entry, Notes};
 use aio_bh::{BottomHalves, LotBuilt, LotPool};
 use aio_core::{Built, LoopTable};

@@ -1,6 +1,7 @@
 -- The history of a lock of coroutines, newest first: who owns it, who waits in order of pushing, which value it holds, and
 -- what is legal. A coroutine is named by one number, that of its own times 2^32 and its home's.
 use Rattle.std.specs.Prelude.{◌≡◌, ◌≢◌, ℕ, ◌<◌, ◌==◌, cond, Option, None, Some, List, [], ◌∷◌, ◌++◌, ◌⊎◌}
+use Rattle.table_seats.specs.Seats.{entries_of}
 
 pub data LockEntry (T : Type 0) : Type 0 where
   -- the pass found the lock free and owns it
@@ -75,8 +76,7 @@ module _ {T : Type 0} where
   maker_of (Release p x) = p
 
   abbrev pub made_by : ℕ → List (LockEntry T) → List (LockEntry T)
-  made_by p [] = []
-  made_by p (entry ∷ older) = cond (maker_of entry == p) (entry ∷ made_by p older) (made_by p older)
+  made_by p history = entries_of maker_of p history
 
   -- each entry was made by one of so many passes
   abbrev pub AreBelow : ℕ → List (LockEntry T) → Type 0

@@ -1,3 +1,5 @@
+//! The causes for which coroutines are scheduled.
+
 /// Why a coroutine is scheduled into its home.
 #[derive(Clone, Copy, Debug, PartialEq, Eq)]
 pub enum Cause {

@@ -1,3 +1,5 @@
+//! The calls on a set of event handlers.
+
 /// A call that changed a set of event handlers, with what it answered.
 #[derive(Clone, Copy, Debug, PartialEq, Eq)]
 pub enum HandlerCall {

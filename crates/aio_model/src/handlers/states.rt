@@ -1,3 +1,4 @@
+//! What calls leave of a set of event handlers, looked up slowly.
 ghost use Rattle.std.specs.Prelude.{◌≡◌, ◌≤◌, ◌<◌, ◌+◌, ◌∷◌, List, IfOk, filter, reverse, is_some};
 ghost use Rattle.aio_model.specs.Handlers.Calls.{has_event, named, others};
 ghost use Rattle.aio_model.specs.Handlers.States.{Tells};

@@ -1,3 +1,4 @@
+//! What the loop of one thread keeps of an index.
 use crate::Flags;
 
 /// What a one-thread loop keeps of an index.

@@ -1,3 +1,5 @@
+//! What a commit answers.
+
 /// Why a loop stays awake.
 #[derive(Clone, Copy, Debug, PartialEq, Eq)]
 pub enum Why {

@@ -1,3 +1,4 @@
+//! The flags of a bottom half, and the word that stands for them.
 ghost use Rattle.std.specs.Prelude.{◌≡◌, ◌<◌};
 
 /// The five flags of a bottom half, as a call on it found them.

@@ -1,3 +1,5 @@
+//! The kinds of call on a bottom half.
+
 /// What a call asks of a bottom half.
 #[derive(Clone, Copy, Debug, PartialEq, Eq)]
 pub enum Kind {

@@ -1,3 +1,4 @@
+//! The list of what a poll called, of a fixed length.
 ghost use Rattle.std.specs.Prelude.{◌≡◌, ◌<◌, ◌≤◌, ◌++◌, ◌∷◌, [], length, nat_le};
 
 use std::marker::Model;

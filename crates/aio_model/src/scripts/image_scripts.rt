@@ -1,3 +1,4 @@
+//! Scripts for an image: streams and steps.
 ghost use Rattle.std.specs.Prelude.{◌≡◌};
 
 use crate::Request;

@@ -1,3 +1,4 @@
+//! What the commands of a loop script answer.
 use crate::{Command, Commit, Flags, RanList};
 
 /// What a command of a loop script answers: one variant for each form of a printed line.

@@ -1,3 +1,4 @@
+//! Scripts for one loop: commands, and the actions of callbacks.
 ghost use Rattle.std.specs.Prelude.{◌≡◌};
 
 use std::marker::Model;

@@ -1,3 +1,4 @@
+//! What comes of a request.
 ghost use Rattle.std.specs.Prelude.{◌≡◌};
 
 use crate::Bytes;

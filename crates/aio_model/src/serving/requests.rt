@@ -1,3 +1,4 @@
+//! What a stream asks of the image.
 use crate::Bytes;
 
 /// What a stream asks of the image. Places and lengths are in bytes.

@@ -1,3 +1,5 @@
+//! The calls on a set of timers.
+
 /// A call that changed a set of timers, with what it answered.
 #[derive(Clone, Copy, Debug, PartialEq, Eq)]
 pub enum TimerCall {

@@ -1,3 +1,4 @@
+//! What calls leave of one timer, looked up slowly.
 ghost use Rattle.std.specs.Prelude.{◌≡◌, ◌∷◌, List, length, reverse};
 ghost use Rattle.aio_model.specs.Timers.States.{Tells};
 ghost use Rattle.aio_model.specs.declared.timers.calls.TimerCall.{TimerCall};

@@ -22,4 +22,4 @@ returns-clause-ends g c ends =
     let old = far a.home.now.seat.known a.runner.now a.polled.now in
     let new = far c.enter.new.home.seat.known c.enter.new.runner c.enter.new.polled in
     GoesFurther-called does frame (nests_above a.deeper) a.next.bh (option_map number a.next.job) (are_due a.next.flags) old new (sym c.is_due.ensures ∙ c.if-not-is_due.false)
-    (GoesFurther-renamed does frame a.next.bh call.bh (nests_above a.deeper) call.nests_left (option_map number a.next.job) (option_map number call.job) true call.first old new is.0 (ap (option_map number) is.1) is.2 (is.3 ∙ c.nests_of.ensures) (c.enter.ensures.ends ends))
+    (GoesFurther-renamed does frame a.next.bh call.bh (nests_above a.deeper) call.nests_left (option_map number a.next.job) (option_map number call.job) true call.first old new is.0 (ap (option_map number) is.1) is.2 (is.3 ∙ c.nests_allowed.ensures) (c.enter.ensures.ends ends))
