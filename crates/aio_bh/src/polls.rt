@@ -4,7 +4,7 @@
 ghost use Rattle.std.specs.Prelude.{◌≡◌, ◌<◌, MatchResult};
 ghost use Rattle.aio_model.specs.Loop.History.{ToCall, ToCallIdle, ToDelete};
 ghost use Rattle.aio_model.specs.Loop.InFlight.{AtRest, Announced as announced};
-ghost use Rattle.aio_core.specs.Known.{empty_stage};
+ghost use Rattle.aio_bh.specs.Ready.{IsBetweenPolls};
 ghost use Rattle.aio_core.specs.Calls.{IsSeatOf, IsReady};
 ghost use Rattle.aio_bh.specs.Enqueuing.{PushesAndNotifies, MissesOnce, Schedules, enqueue_entries, AddsOnly};
 ghost use Rattle.aio_bh.specs.Puts.{TriedToPut};
@@ -102,8 +102,7 @@ pub trait BottomHalves<J: Job + Drop> {
         requires can_run { R.can_run runner.old (table self.now).sizes }
         requires pool { IsPoolFor (table self.now).sizes pool.now }
         requires pass { IsHomeOf pool.now pass.old }
-        requires seat { IsReady (table self.now) home.old.seat }
-        requires empty { home.old.seat.known.stage ≡ empty_stage }
+        requires home { IsBetweenPolls (table self.now) home.old.seat }
         ensures can_run { R.can_run runner.new (table self.now).sizes }
         ensures pass { IsHomeOf pool.now pass.new }
         ensures seat { IsSeatOf (table self.now) home.new.seat }

@@ -3,11 +3,11 @@ ghost use Rattle.std.specs.Prelude.{◌≡◌};
 ghost use Rattle.aio_model.specs.Loop.InFlight.{AtRest};
 ghost use Rattle.aio_model.specs.Loop.History.{History};
 ghost use Rattle.aio_model.specs.Loop.Legal.{IsLegal};
-ghost use Rattle.aio_core.specs.Known.{empty_stage};
-ghost use Rattle.aio_core.specs.Calls.{IsSeatOf, IsReady};
+ghost use Rattle.aio_core.specs.Calls.{IsSeatOf};
 ghost use Rattle.lot_pool.specs.Pools.{IsPassOf, IsHomeOf};
 ghost use Rattle.aio_bh.specs.Running.{SeatComesBack};
 ghost use Rattle.aio_bh.specs.OneShots.{IsPoolFor};
+ghost use Rattle.aio_bh.specs.Ready.{IsBetweenPolls};
 
 use aio_bh::{BottomHalves, Call, LotBuilt, LotPass, LotPool, Runner, Turn};
 use aio_core::{Built, Home, LoopTable, Seat};
@@ -74,8 +74,7 @@ fn poll_each<'a, R: Abort + Wait>(
     requires runs { IsPoolFor table.now.sizes placing.pool.now × IsPassOf placing.pool.now placing.pass }
     requires pool { IsPoolFor table.now.sizes pool.now }
     requires lots { IsHomeOf pool.now lots }
-    requires seat { IsReady table.now home.seat }
-    requires empty { home.seat.known.stage ≡ empty_stage }
+    requires seat { IsBetweenPolls table.now home.seat }
 {
     let mut lots = lots;
     let mut home = home;

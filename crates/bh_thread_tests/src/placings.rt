@@ -1,10 +1,10 @@
 //! Two threads place one-shots over a few places while home polls.
 ghost use Rattle.std.specs.Prelude.{◌≡◌, ◌≤◌};
 ghost use Rattle.std.specs.Thread.{IsSync};
-ghost use Rattle.aio_core.specs.Known.{empty_stage};
 ghost use Rattle.lot_pool.specs.Pools.{IsPassOf, IsHomeOf};
 ghost use Rattle.aio_bh.specs.OneShots.{IsPoolFor};
 ghost use Rattle.aio_core.specs.Calls.{IsReady};
+ghost use Rattle.aio_bh.specs.Ready.{IsBetweenPolls};
 
 use aio_bh::{BottomHalves, Call, LotBuilt, LotPass, LotPool, Runner, Turn};
 use aio_core::{Built, Home, LoopTable, Seat};
@@ -148,8 +148,7 @@ fn poll_all<R: Wait>(
 ) -> (LotPass, Calls)
     requires pool { IsPoolFor table.now.sizes pool.now }
     requires pass { IsHomeOf pool.now pass }
-    requires seat { IsReady table.now home.seat }
-    requires empty { home.seat.known.stage ≡ empty_stage }
+    requires seat { IsBetweenPolls table.now home.seat }
 {
     let mut pass = pass;
     let mut home = home;
@@ -176,8 +175,7 @@ fn placed_and_called<R: Threads + Wait + Sync>(
 ) -> (LotPass, Calls)
     requires pool { IsPoolFor table.now.sizes pool.now }
     requires lots { IsHomeOf pool.now lots }
-    requires home { IsReady table.now home.seat }
-    requires empty { home.seat.known.stage ≡ empty_stage }
+    requires home { IsBetweenPolls table.now home.seat }
     requires low { IsPassOf pool.now low.0 × IsReady table.now low.1 }
     requires high { IsPassOf pool.now high.0 × IsReady table.now high.1 }
 {
@@ -187,7 +185,7 @@ fn placed_and_called<R: Threads + Wait + Sync>(
             requires { IsPoolFor table.now.sizes pool.now × IsPassOf pool.now low.0 × IsReady table.now low.1 × IsPassOf pool.now high.0 × IsReady table.now high.1 }
         { both_place(rt, table, pool, low, high) },
         || -> (LotPass, Calls)
-            requires { IsPoolFor table.now.sizes pool.now × IsHomeOf pool.now lots × IsReady table.now home.seat × (home.seat.known.stage ≡ empty_stage) }
+            requires { IsPoolFor table.now.sizes pool.now × IsHomeOf pool.now lots × IsBetweenPolls table.now home.seat }
         { poll_all(rt, table, pool, lots, home, calls) },
     );
     polled

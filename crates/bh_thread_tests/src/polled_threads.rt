@@ -1,9 +1,9 @@
 //! The home polls while two threads schedule, until each has said by a handle of its own that it is done.
 ghost use Rattle.std.specs.Prelude.{◌≡◌, ◌<◌, ◌≤◌};
 ghost use Rattle.std.specs.Thread.{IsSync};
-ghost use Rattle.aio_core.specs.Known.{empty_stage};
 ghost use Rattle.aio_bh.specs.OneShots.{ServesHome};
 ghost use Rattle.aio_core.specs.Calls.{IsReady};
+ghost use Rattle.aio_bh.specs.Ready.{IsBetweenPolls};
 
 use aio_bh::{BottomHalves, Call, LotBuilt, LotPool, Runner, Turn};
 use aio_core::{Built, Home, LoopTable, Seat};
@@ -132,8 +132,7 @@ fn both_schedule<R: Threads + Wait + Sync>(
 /// Polls until both threads are done.
 fn poll_all<R: Wait>(rt: &R, table: &LoopTable<u64>, lots: LotBuilt, home: Home<u64>) -> Tally
     requires lots { ServesHome table.now.sizes lots.pool lots.home }
-    requires seat { IsReady table.now home.seat }
-    requires empty { home.seat.known.stage ≡ empty_stage }
+    requires seat { IsBetweenPolls table.now home.seat }
 {
     let mut lots = lots;
     let mut home = home;
@@ -159,8 +158,7 @@ fn announced_and_called<R: Threads + Wait + Sync>(
 ) -> ((Tally, Tally), Tally)
     requires shared { (0 < shared) × (shared ≤ 62) }
     requires lots { ServesHome table.now.sizes lots.pool lots.home }
-    requires home { IsReady table.now home.seat }
-    requires empty { home.seat.known.stage ≡ empty_stage }
+    requires home { IsBetweenPolls table.now home.seat }
     requires first { IsReady table.now first }
     requires second { IsReady table.now second }
     requires handles { table.now.sizes.handles ≡ 64 }
@@ -171,7 +169,7 @@ fn announced_and_called<R: Threads + Wait + Sync>(
             requires { IsReady table.now first × IsReady table.now second × (table.now.sizes.handles ≡ 64) × (0 < shared) × (shared ≤ 62) }
         { both_schedule(rt, table, first, second, shared) },
         || -> Tally
-            requires { ServesHome table.now.sizes lots.pool lots.home × IsReady table.now home.seat × (home.seat.known.stage ≡ empty_stage) }
+            requires { ServesHome table.now.sizes lots.pool lots.home × IsBetweenPolls table.now home.seat }
         { poll_all(rt, table, lots, home) },
     )
 }

@@ -126,7 +126,7 @@ module _ {T N : Type 0} (note : T → ℕ → N) (n : ℕ) (built : T) where
     where
       first : IsSeat built [] (replicate n AtRest) (λ k. 0) 0 (first_view_of key)
       first =
-          record { opens = ap Some (sym value); sized = sym size ∙ sym (rest_long n); placed = rest_at n 0 (subst (λ z. 0 < z) (sym size) some_pass); part = record { sits = refl; seen_of = record { rest = []; longer = refl; none_missed = refl; mine_is = refl } }; value = λ owns. owning_rest owns; others = λ k x atx. (let t = new_at 1 (pred key.passes) k x atx in let number : x.number ≡ 1 + k = ap (λ (z : OtherPart T). z.number) t.0 in let seen : x.seen ≡ [] = ap (λ (z : OtherPart T). z.seen) t.0 in let made : x.mine ≡ [] = ap (λ (z : OtherPart T). z.mine) t.0 in let less = t.1 in let low : x.number < n = omega (arith, number, less, size) in (record { sits = refl; rest = []; longer = sym seen; none_missed = refl; mine_is = ap (made_by x.number) seen ∙ sym made }, rest_at n x.number low, λ q. omega (arith, number, q))) }
+          record { opens = ap Some (sym value); sized = sym size ∙ sym (rest_long n); placed = rest_at n 0 (subst (λ z. 0 < z) (sym size) some_pass); part = record { sits = refl; seen_of = record { rest = []; longer = refl; none_missed = refl; mine_is = refl } }; value = λ owns. owning_rest owns; others = λ k x atx. (let t = new_at 1 (pred key.passes) k x atx in let number : x.number ≡ 1 + k = ap (λ (z : OtherPart T). z.number) t.0 in let seen : x.seen ≡ [] = ap (λ (z : OtherPart T). z.seen) t.0 in let made : x.mine ≡ [] = ap (λ (z : OtherPart T). z.mine) t.0 in let less = t.1 in let low : x.number < n = omega (arith, number, less, size) in (record { sits = refl; seen_of = record { rest = []; longer = sym seen; none_missed = refl; mine_is = made ∙ sym (ap (made_by x.number) seen) } }, rest_at n x.number low, λ q. omega (arith, number, q))) }
 
       seats : SeatsStand built [] (replicate n AtRest) (λ k. 0) (first_view_of key ∷ [])
       seats zero u e lives = subst (IsSeat built [] (replicate n AtRest) (λ k. 0) 0) (some-injective (first_view_of key) u e) first

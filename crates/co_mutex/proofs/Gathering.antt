@@ -111,7 +111,7 @@ module _ {T N : Type 0} (note : T → ℕ → N) (n : ℕ) (built : T) where
       each : (x : OtherPart T) → In x (parts_of view) → ((rest : List (LockEntry T)) × (r.history ≡ rest ++ x.seen)) × (made_by x.number r.history ≡ x.mine)
       each x t =
           let p = (good t.0 x t.1).0 in
-          ((p.rest, p.longer), made_whole r.history r.seat id x.number x.seen x.mine p)
+          ((p.seen_of.rest, p.seen_of.longer), made_whole r.history r.seat id x.number x.seen x.mine p)
 
       resting_all : (p : ℕ) (place : PassPlace) → get_elem? r.places p ≡ some place → place ≡ AtRest
       resting_all p place e =

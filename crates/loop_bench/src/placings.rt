@@ -1,10 +1,10 @@
 //! Two threads place one-shots over a few places while home polls, until each was called.
 ghost use Rattle.std.specs.Prelude.{◌≡◌};
 ghost use Rattle.std.specs.Thread.{IsSync};
-ghost use Rattle.aio_core.specs.Known.{empty_stage};
 ghost use Rattle.lot_pool.specs.Pools.{IsPassOf, IsHomeOf};
 ghost use Rattle.aio_bh.specs.OneShots.{IsPoolFor};
 ghost use Rattle.aio_core.specs.Calls.{IsReady};
+ghost use Rattle.aio_bh.specs.Ready.{IsBetweenPolls};
 
 use crate::calls::{Calls, HANDLES, LOTS};
 use aio_bh::{BottomHalves, LotBuilt, LotPass, LotPool};
@@ -104,8 +104,7 @@ fn poll_all<R: Wait>(
 ) -> u64
     requires pool { IsPoolFor table.now.sizes pool.now }
     requires pass { IsHomeOf pool.now pass }
-    requires seat { IsReady table.now home.seat }
-    requires empty { home.seat.known.stage ≡ empty_stage }
+    requires seat { IsBetweenPolls table.now home.seat }
 {
     let mut pass = pass;
     let mut home = home;
@@ -131,8 +130,7 @@ fn refused_and_called<R: Threads + Wait + Sync>(
 ) -> (u64, u64)
     requires pool { IsPoolFor table.now.sizes pool.now }
     requires lots { IsHomeOf pool.now lots }
-    requires home { IsReady table.now home.seat }
-    requires empty { home.seat.known.stage ≡ empty_stage }
+    requires home { IsBetweenPolls table.now home.seat }
     requires low { IsPassOf pool.now low.0 × IsReady table.now low.1 }
     requires high { IsPassOf pool.now high.0 × IsReady table.now high.1 }
 {
@@ -142,7 +140,7 @@ fn refused_and_called<R: Threads + Wait + Sync>(
             requires { IsPoolFor table.now.sizes pool.now × IsPassOf pool.now low.0 × IsReady table.now low.1 × IsPassOf pool.now high.0 × IsReady table.now high.1 }
         { both_place(rt, table, pool, low, high) },
         || -> u64
-            requires { IsPoolFor table.now.sizes pool.now × IsHomeOf pool.now lots × IsReady table.now home.seat × (home.seat.known.stage ≡ empty_stage) }
+            requires { IsPoolFor table.now.sizes pool.now × IsHomeOf pool.now lots × IsBetweenPolls table.now home.seat }
         { poll_all(rt, table, pool, lots, home) },
     )
 }

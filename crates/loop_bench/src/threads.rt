@@ -3,8 +3,8 @@ ghost use Rattle.std.specs.Prelude.{◌≡◌, ◌<◌};
 ghost use Rattle.std.specs.Thread.{IsSync};
 ghost use Rattle.aio_model.specs.Loop.InFlight.{Announced as announced};
 ghost use Rattle.aio_core.specs.Calls.{IsSeatOf, IsReady};
-ghost use Rattle.aio_core.specs.Known.{empty_stage};
 ghost use Rattle.aio_bh.specs.OneShots.{ServesHome};
+ghost use Rattle.aio_bh.specs.Ready.{IsBetweenPolls};
 
 use crate::calls::HANDLES;
 use aio_bh::{BottomHalves, Call, LotBuilt, LotPool, Put, Runner, Turn};
@@ -174,8 +174,7 @@ fn both_schedule<R: Threads + Wait + Sync>(
 /// Polls until both threads are done, and tells how many calls were made.
 fn poll_all<R: Wait>(rt: &R, table: &LoopTable<u64>, lots: LotBuilt, home: Home<u64>) -> u64
     requires lots { ServesHome table.now.sizes lots.pool lots.home }
-    requires seat { IsReady table.now home.seat }
-    requires empty { home.seat.known.stage ≡ empty_stage }
+    requires seat { IsBetweenPolls table.now home.seat }
 {
     let mut lots = lots;
     let mut home = home;
@@ -199,8 +198,7 @@ fn pushed_and_called<R: Threads + Wait + Sync>(
     second: Seat<u64>,
 ) -> (Pushes, u64)
     requires lots { ServesHome table.now.sizes lots.pool lots.home }
-    requires home { IsReady table.now home.seat }
-    requires empty { home.seat.known.stage ≡ empty_stage }
+    requires home { IsBetweenPolls table.now home.seat }
     requires first { IsReady table.now first }
     requires second { IsReady table.now second }
     requires handles { table.now.sizes.handles ≡ 64 }
@@ -211,7 +209,7 @@ fn pushed_and_called<R: Threads + Wait + Sync>(
             requires { IsReady table.now first × IsReady table.now second × (table.now.sizes.handles ≡ 64) }
         { both_schedule(rt, table, first, second) },
         || -> u64
-            requires { ServesHome table.now.sizes lots.pool lots.home × IsReady table.now home.seat × (home.seat.known.stage ≡ empty_stage) }
+            requires { ServesHome table.now.sizes lots.pool lots.home × IsBetweenPolls table.now home.seat }
         { poll_all(rt, table, lots, home) },
     )
 }

@@ -1,9 +1,10 @@
 //! A home on a thread of its own sleeps, and another thread wakes it.
 ghost use Rattle.std.specs.Prelude.{◌≡◌, ◌<◌, true};
 ghost use Rattle.std.specs.Thread.{IsSync};
-ghost use Rattle.aio_core.specs.Known.{is_running, empty_stage};
+ghost use Rattle.aio_core.specs.Known.{is_running};
 ghost use Rattle.aio_bh.specs.OneShots.{ServesHome};
 ghost use Rattle.aio_core.specs.Calls.{IsReady};
+ghost use Rattle.aio_bh.specs.Ready.{IsBetweenPolls};
 
 use aio_bh::{BottomHalves, Call, LotBuilt, LotPool, Runner, Turn};
 use aio_core::{Built, Home, LoopTable, Seat};
@@ -65,12 +66,10 @@ fn sleep_once<R: Wait + Abort>(
     asleep: &AtomicU64,
     round: u64,
 )
-    requires home { IsReady table.now home.old.seat }
+    requires home { IsBetweenPolls table.now home.old.seat }
     requires running { is_running home.old.seat.known.sleep ≡ true }
-    requires empty { home.old.seat.known.stage ≡ empty_stage }
-    ensures home { IsReady table.now home.new.seat }
+    ensures home { IsBetweenPolls table.now home.new.seat }
     ensures running { is_running home.new.seat.known.sleep ≡ true }
-    ensures empty { home.new.seat.known.stage ≡ empty_stage }
 {
     let mut clock = StepClock { now: 0 };
     match table.commit(home, 1, None, 0) {
@@ -94,9 +93,8 @@ fn sleep_and_answer<R: Wait + Abort>(
     asleep: &AtomicU64,
 ) -> Answered
     requires lots { ServesHome table.now.sizes lots.pool lots.home }
-    requires home { IsReady table.now home.seat }
+    requires home { IsBetweenPolls table.now home.seat }
     requires running { is_running home.seat.known.sleep ≡ true }
-    requires empty { home.seat.known.stage ≡ empty_stage }
     requires event { 0 < table.now.sizes.events }
 {
     let mut lots = lots;
@@ -162,9 +160,8 @@ fn on_two_threads<R: Threads + Wait + Abort + Sync>(
     how: Wake,
 ) -> Answered
     requires lots { ServesHome table.now.sizes lots.pool lots.home }
-    requires home { IsReady table.now home.seat }
+    requires home { IsBetweenPolls table.now home.seat }
     requires running { is_running home.seat.known.sleep ≡ true }
-    requires empty { home.seat.known.stage ≡ empty_stage }
     requires seat { IsReady table.now seat }
     requires handle { 0 < table.now.sizes.handles }
     requires event { 0 < table.now.sizes.events }
@@ -173,7 +170,7 @@ fn on_two_threads<R: Threads + Wait + Abort + Sync>(
     let (all, ()) = join(
         rt,
         || -> Answered
-            requires { ServesHome table.now.sizes lots.pool lots.home × IsReady table.now home.seat × (is_running home.seat.known.sleep ≡ true) × (home.seat.known.stage ≡ empty_stage) × (0 < table.now.sizes.events) }
+            requires { ServesHome table.now.sizes lots.pool lots.home × IsBetweenPolls table.now home.seat × (is_running home.seat.known.sleep ≡ true) × (0 < table.now.sizes.events) }
         { sleep_and_answer(rt, table, lots, home, &asleep) },
         || -> ()
             requires { IsReady table.now seat × (0 < table.now.sizes.handles) × (0 < table.now.sizes.events) }

@@ -1,10 +1,10 @@
 //! A loop with one handle, and the table of the coroutines of its home.
 ghost use Rattle.std.specs.Prelude.{◌≡◌, IfOk};
-ghost use Rattle.aio_core.specs.Known.{empty_stage};
 ghost use Rattle.aio_bh.specs.OneShots.{ServesHome};
 ghost use Rattle.co_schedule.specs.Calls.{IsSeatOf};
 ghost use Rattle.co_schedule.specs.Homes.{IsIdle};
 ghost use Rattle.aio_core.specs.Calls.{IsReady};
+ghost use Rattle.aio_bh.specs.Ready.{IsBetweenPolls};
 
 use aio_bh::{LotBuilt, LotPool};
 use aio_core::{Built, LoopTable};
@@ -24,7 +24,7 @@ pub struct HomeParts {
 
 pub fn build_parts<R: Wait>(rt: &R, alloc: Global) -> io::Result<HomeParts>
     ensures lots { IfOk result (λ r. ServesHome r.of_loop.table.sizes r.lots.pool r.lots.home) }
-    ensures home { IfOk result (λ r. IsReady r.of_loop.table r.of_loop.home.seat × (r.of_loop.home.seat.known.stage ≡ empty_stage)) }
+    ensures home { IfOk result (λ r. IsBetweenPolls r.of_loop.table r.of_loop.home.seat) }
     ensures seat { IfOk result (λ r. IsReady r.of_loop.table r.of_loop.seat × (r.of_loop.table.sizes.handles ≡ 1)) }
     ensures idle { IfOk result (λ r. IsIdle r.of_coroutines.table r.of_coroutines.home r.run) }
     ensures coroutines { IfOk result (λ r. IsSeatOf r.of_coroutines.table r.of_coroutines.seat × (r.of_coroutines.table.coroutines ≡ 33)) }

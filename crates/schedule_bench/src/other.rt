@@ -1,10 +1,10 @@
 //! A thread posts wakes while the home polls, until it has said by a coroutine of its own that it is done.
 ghost use Rattle.std.specs.Prelude.{◌≡◌, ◌<◌};
-ghost use Rattle.aio_core.specs.Known.{empty_stage};
 ghost use Rattle.aio_bh.specs.OneShots.{ServesHome};
 ghost use Rattle.co_schedule.specs.Calls.{IsSeatOf};
 ghost use Rattle.co_schedule.specs.Homes.{IsIdle};
 ghost use Rattle.aio_core.specs.Calls.{IsReady};
+ghost use Rattle.aio_bh.specs.Ready.{IsBetweenPolls};
 
 use crate::built::{HomeParts, build_parts};
 use crate::callbacks::{Begun, HomeCallback, SHARED};
@@ -82,8 +82,7 @@ fn poll_all<R: Wait>(
     callback: HomeCallback,
 ) -> u64
     requires lots { ServesHome loop_table.now.sizes lots.pool lots.home }
-    requires loop_home { IsReady loop_table.now loop_home.seat }
-    requires empty { loop_home.seat.known.stage ≡ empty_stage }
+    requires loop_home { IsBetweenPolls loop_table.now loop_home.seat }
     requires idle { IsIdle callback.table.now callback.home callback.run }
 {
     let mut lots = lots;
@@ -116,8 +115,7 @@ fn both<R: Threads + Wait + Sync>(
     poster: Poster,
 ) -> u64
     requires lots { ServesHome loop_table.now.sizes lots.pool lots.home }
-    requires loop_home { IsReady loop_table.now loop_home.seat }
-    requires empty { loop_home.seat.known.stage ≡ empty_stage }
+    requires loop_home { IsBetweenPolls loop_table.now loop_home.seat }
     requires idle { IsIdle table.now home run }
     requires poster { IsReady loop_table.now poster.bh_seat × IsSeatOf table.now poster.seat }
     requires handles { loop_table.now.sizes.handles ≡ 1 }
@@ -129,7 +127,7 @@ fn both<R: Threads + Wait + Sync>(
             requires { IsReady loop_table.now poster.bh_seat × IsSeatOf table.now poster.seat × (loop_table.now.sizes.handles ≡ 1) × (table.now.coroutines ≡ 33) }
         { wake_all(rt, loop_table, table, poster) },
         || -> u64
-            requires { ServesHome loop_table.now.sizes lots.pool lots.home × IsReady loop_table.now loop_home.seat × (loop_home.seat.known.stage ≡ empty_stage) × IsIdle table.now home run }
+            requires { ServesHome loop_table.now.sizes lots.pool lots.home × IsBetweenPolls loop_table.now loop_home.seat × IsIdle table.now home run }
         {
             let callback = HomeCallback {
                 table,

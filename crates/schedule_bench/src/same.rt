@@ -1,10 +1,10 @@
 //! One thread schedules 32 coroutines and begins them in a poll, over and over.
 ghost use Rattle.std.specs.Prelude.{◌≡◌, ◌<◌};
-ghost use Rattle.aio_core.specs.Known.{empty_stage};
 ghost use Rattle.aio_bh.specs.OneShots.{ServesHome};
 ghost use Rattle.co_schedule.specs.Calls.{IsSeatOf};
 ghost use Rattle.co_schedule.specs.Homes.{IsIdle};
 ghost use Rattle.aio_core.specs.Calls.{IsReady};
+ghost use Rattle.aio_bh.specs.Ready.{IsBetweenPolls};
 
 use crate::built::{HomeParts, build_parts};
 use crate::callbacks::{Begun, HomeCallback, SHARED};
@@ -39,8 +39,7 @@ fn rounds<R: Wait>(
     seat: CoSeat<u64>,
 ) -> u64
     requires lots { ServesHome loop_table.now.sizes lots.pool lots.home }
-    requires loop_home { IsReady loop_table.now loop_home.seat }
-    requires empty { loop_home.seat.known.stage ≡ empty_stage }
+    requires loop_home { IsBetweenPolls loop_table.now loop_home.seat }
     requires bh_seat { IsReady loop_table.now bh_seat }
     requires handles { loop_table.now.sizes.handles ≡ 1 }
     requires idle { IsIdle callback.table.now callback.home callback.run }

@@ -1,10 +1,10 @@
 //! Two threads schedule wakes into one home, which takes and begins them from a callback.
 ghost use Rattle.std.specs.Prelude.{◌≡◌, ◌<◌};
-ghost use Rattle.aio_core.specs.Known.{empty_stage};
 ghost use Rattle.aio_bh.specs.OneShots.{ServesHome};
 ghost use Rattle.co_schedule.specs.Calls.{IsSeatOf};
 ghost use Rattle.co_schedule.specs.Homes.{IsIdle};
 ghost use Rattle.aio_core.specs.Calls.{IsReady};
+ghost use Rattle.aio_bh.specs.Ready.{IsBetweenPolls};
 
 use crate::callbacks::{HomeCallback, Log};
 use aio_bh::{BottomHalves, LotBuilt, LotPool};
@@ -120,8 +120,7 @@ fn poll_all<R: Wait>(
     callback: HomeCallback,
 ) -> Log
     requires lots { ServesHome loop_table.now.sizes lots.pool lots.home }
-    requires loop_home { IsReady loop_table.now loop_home.seat }
-    requires empty { loop_home.seat.known.stage ≡ empty_stage }
+    requires loop_home { IsBetweenPolls loop_table.now loop_home.seat }
     requires idle { IsIdle callback.table.now callback.home callback.run }
 {
     let mut lots = lots;
@@ -161,8 +160,7 @@ fn accepted_and_begun<R: Threads + Wait + Sync>(
     second: Poster,
 ) -> ((Log, Log), Log)
     requires lots { ServesHome loop_table.now.sizes lots.pool lots.home }
-    requires loop_home { IsReady loop_table.now loop_home.seat }
-    requires empty { loop_home.seat.known.stage ≡ empty_stage }
+    requires loop_home { IsBetweenPolls loop_table.now loop_home.seat }
     requires idle { IsIdle table.now home run }
     requires first { IsReady loop_table.now first.bh_seat × IsSeatOf table.now first.seat }
     requires second { IsReady loop_table.now second.bh_seat × IsSeatOf table.now second.seat }
@@ -175,7 +173,7 @@ fn accepted_and_begun<R: Threads + Wait + Sync>(
             requires { IsReady loop_table.now first.bh_seat × IsSeatOf table.now first.seat × IsReady loop_table.now second.bh_seat × IsSeatOf table.now second.seat × (loop_table.now.sizes.handles ≡ 1) × (table.now.coroutines ≡ 34) }
         { both_wake(rt, loop_table, table, first, second) },
         || -> Log
-            requires { ServesHome loop_table.now.sizes lots.pool lots.home × IsReady loop_table.now loop_home.seat × (loop_home.seat.known.stage ≡ empty_stage) × IsIdle table.now home run }
+            requires { ServesHome loop_table.now.sizes lots.pool lots.home × IsBetweenPolls loop_table.now loop_home.seat × IsIdle table.now home run }
         {
             let callback = HomeCallback {
                 table,

@@ -1,10 +1,9 @@
 use Rattle.std.proofs.Common.{◌≡◌}
-use Rattle.aio_core.specs.Known.{empty_stage}
 use Rattle.lot_pool.specs.Pools.{IsPassOf, IsHomeOf}
 use Rattle.aio_bh.specs.OneShots.{IsPoolFor}
 use Rattle.bh_tests.proofs.placing_callbacks.poll_each.Given as goal
-use Rattle.aio_core.specs.Calls.{IsReady}
+use Rattle.aio_bh.specs.Ready.{IsBetweenPolls}
 
 abbrev pub invariant-loop-poll : goal.invariant-loop-poll
 invariant-loop-poll g l =
-    IsPoolFor l.table.sizes l.placing.pool.now × IsPassOf l.placing.pool.now l.placing.pass × IsHomeOf l.pool l.lots × IsReady l.table l.home.seat × (l.home.seat.known.stage ≡ empty_stage)
+    IsPoolFor l.table.sizes l.placing.pool.now × IsPassOf l.placing.pool.now l.placing.pass × IsHomeOf l.pool l.lots × IsBetweenPolls l.table l.home.seat

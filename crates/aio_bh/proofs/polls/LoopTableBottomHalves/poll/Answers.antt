@@ -8,7 +8,7 @@ returns-clause-polls g c =
     let a = c.args in
     let home = c.frame.new.home in
     let between = c.frame.ensures.between in
-    Polls-of a.self.now.sizes g.R.Runner.does a.home.now.seat.known home.seat.known a.runner.now c.frame.new.runner c.zero-polled.result c.frame.new.polled c.requires.seat.of.sizes c.zero-polled.ensures c.frame.ensures.goes c.frame.ensures.none_out
+    Polls-of a.self.now.sizes g.R.Runner.does a.home.now.seat.known home.seat.known a.runner.now c.frame.new.runner c.zero-polled.result c.frame.new.polled c.requires.home.ready.of.sizes c.zero-polled.ensures c.frame.ensures.goes c.frame.ensures.none_out
     (no_slices home.seat.known.stage.slices _ between.left c.frame.ensures.none_out) between.hand between.job
 
 pub returns-clause-returns : goal.returns-clause-returns
