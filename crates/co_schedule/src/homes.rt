@@ -27,7 +27,7 @@ impl<C: Origin> Model for CoHome<C> {
 
     ghost view = { λ h. record { table = h.inner.table_id; known = h.inner.me.0.known; origin = h.inner.me.0.origin } };
 
-    ghost invariant = { λ h. (h.inner.me.1 ≡ []) × IsHomes h.inner.me.0.known × (h.inner.me.0.known.phase ≡ AtRest) × (h.inner.me.0.known.stage.word ≡ 0) × (h.inner.me.0.known.stage.hand ≡ None) × (h.inner.me.0.known.stage.run ≡ h.inner.me.0.known.stage.taken) × (are_within h.inner.me.0.known.coroutines h.inner.me.0.known.stage.taken ≡ true) × CountsOwn h.states h.inner.me.0.known };
+    ghost invariant = { λ h. (h.inner.me.1 ≡ []) × (h.inner.me.0.known.first ≡ 64) × (h.inner.me.0.known.count ≡ 1) × (h.inner.me.0.known.phase ≡ AtRest) × (h.inner.me.0.known.stage.word ≡ 0) × (h.inner.me.0.known.stage.hand ≡ None) × (h.inner.me.0.known.stage.run ≡ h.inner.me.0.known.stage.taken) × (are_within h.inner.me.0.known.coroutines h.inner.me.0.known.stage.taken ≡ true) × CountsOwn h.states h.inner.me.0.known };
 }
 
 impl<C: Origin> CoHome<C> {

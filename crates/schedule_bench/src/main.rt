@@ -1,8 +1,7 @@
 //! Schedules and begins of coroutines, to be measured from outside: it prints counts alone. With a word it does one part, else both.
 #![tactic(auto)]
 
-mod built;
-mod callbacks;
+mod begun;
 mod other;
 mod part;
 mod same;

@@ -1,63 +1,22 @@
 //! A thread posts wakes while the home polls, until it has said by a coroutine of its own that it is done.
-ghost use Rattle.std.specs.Prelude.{◌≡◌, ◌<◌};
+ghost use Rattle.std.specs.Prelude.{◌≡◌};
 ghost use Rattle.aio_bh.specs.OneShots.{ServesHome};
 ghost use Rattle.co_schedule.specs.Calls.{IsSeatOf};
 ghost use Rattle.co_schedule.specs.Homes.{IsIdle};
 ghost use Rattle.aio_core.specs.Calls.{IsReady};
 ghost use Rattle.aio_bh.specs.Ready.{IsBetweenPolls};
 
-use crate::built::{HomeParts, build_parts};
-use crate::callbacks::{Begun, HomeCallback, SHARED};
+use crate::begun::{Begun, COROUTINES, SHARED};
 use aio_bh::{BottomHalves, LotBuilt};
-use aio_core::{Built, Home, LoopTable, Seat};
-use co_schedule::{Cause, CoBuilt, CoHome, CoRun, CoSeat, CoTable};
+use aio_core::{Built, Home, LoopTable};
+use co_schedule::{CoBuilt, CoHome, CoRun, CoTable};
+use schedule_fixture::{HomeCallback, HomeParts, Poster, build_parts, wake};
 use std::alloc::Global;
 use std::io;
 use std::sync::Wait;
-use std::thread::{Threads, join, yield_now};
+use std::thread::{Threads, join};
 
 const WAKES: u32 = 200_000;
-
-/// The seats of the thread that posts.
-#[derive(Drop)]
-struct Poster {
-    seat: CoSeat<u64>,
-    bh_seat: Seat<()>,
-}
-
-/// Posts a wake until it is accepted.
-fn wake<R: Wait>(
-    rt: &R,
-    loop_table: &LoopTable<()>,
-    table: &CoTable<u64>,
-    poster: &mut Poster,
-    co: u32,
-)
-    requires bh_seat { IsReady loop_table.now poster.old.bh_seat }
-    requires handles { loop_table.now.sizes.handles ≡ 1 }
-    requires seat { IsSeatOf table.now poster.old.seat }
-    requires below { co < table.now.coroutines }
-    ensures bh_seat { IsReady loop_table.now poster.new.bh_seat }
-    ensures seat { IsSeatOf table.now poster.new.seat }
-{
-    for _ in rt.forever() {
-        if table
-            .post(
-                rt,
-                loop_table,
-                &mut poster.seat,
-                &mut poster.bh_seat,
-                co,
-                Cause::Wake,
-                None,
-            )
-            .is_ok()
-        {
-            return;
-        }
-        yield_now();
-    }
-}
 
 /// Wakes one coroutine after another, and then the one by which this thread says that it is done.
 fn wake_all<R: Wait>(rt: &R, loop_table: &LoopTable<()>, table: &CoTable<u64>, poster: Poster)
@@ -79,7 +38,7 @@ fn poll_all<R: Wait>(
     loop_table: &LoopTable<()>,
     lots: LotBuilt,
     loop_home: Home<()>,
-    callback: HomeCallback,
+    callback: HomeCallback<Begun>,
 ) -> u64
     requires lots { ServesHome loop_table.now.sizes lots.pool lots.home }
     requires loop_home { IsBetweenPolls loop_table.now loop_home.seat }
@@ -89,7 +48,7 @@ fn poll_all<R: Wait>(
     let mut loop_home = loop_home;
     let mut callback = callback;
     for _ in 0..u64::MAX {
-        if callback.begun.is_last {
+        if callback.notes.is_last {
             break;
         }
         loop_table.poll(
@@ -100,7 +59,7 @@ fn poll_all<R: Wait>(
             &mut callback,
         );
     }
-    callback.begun.count
+    callback.notes.count
 }
 
 /// Both at once.
@@ -133,10 +92,7 @@ fn both<R: Threads + Wait + Sync>(
                 table,
                 home,
                 run,
-                begun: Begun {
-                    count: 0,
-                    is_last: false,
-                },
+                notes: Begun::none(),
             };
             poll_all(rt, loop_table, lots, loop_home, callback)
         },
@@ -145,12 +101,15 @@ fn both<R: Threads + Wait + Sync>(
 }
 
 pub fn other_thread<R: Threads + Wait + Sync + Print>(rt: &R, alloc: Global) -> io::Result<()> {
+    let Ok(parts) = build_parts(rt, alloc, COROUTINES) else {
+        return Err(io::Error::from(io::ErrorKind::OutOfMemory));
+    };
     let HomeParts {
         lots,
         of_loop,
         of_coroutines,
         run,
-    } = build_parts(rt, alloc)?;
+    } = parts;
     let Built {
         table: loop_table,
         home: loop_home,

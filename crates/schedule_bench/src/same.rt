@@ -6,11 +6,11 @@ ghost use Rattle.co_schedule.specs.Homes.{IsIdle};
 ghost use Rattle.aio_core.specs.Calls.{IsReady};
 ghost use Rattle.aio_bh.specs.Ready.{IsBetweenPolls};
 
-use crate::built::{HomeParts, build_parts};
-use crate::callbacks::{Begun, HomeCallback, SHARED};
+use crate::begun::{Begun, COROUTINES, SHARED};
 use aio_bh::{BottomHalves, LotBuilt};
 use aio_core::{Built, Home, LoopTable, Seat};
 use co_schedule::{Cause, CoBuilt, CoSeat, CoTable};
+use schedule_fixture::{HomeCallback, HomeParts, build_parts};
 use std::alloc::Global;
 use std::io;
 use std::sync::Wait;
@@ -34,7 +34,7 @@ fn rounds<R: Wait>(
     lots: LotBuilt,
     loop_home: Home<()>,
     bh_seat: Seat<()>,
-    callback: HomeCallback,
+    callback: HomeCallback<Begun>,
     table: &CoTable<u64>,
     seat: CoSeat<u64>,
 ) -> u64
@@ -62,16 +62,19 @@ fn rounds<R: Wait>(
             &mut callback,
         );
     }
-    callback.begun.count
+    callback.notes.count
 }
 
 pub fn same_thread<R: Wait + Print>(rt: &R, alloc: Global) -> io::Result<()> {
+    let Ok(parts) = build_parts(rt, alloc, COROUTINES) else {
+        return Err(io::Error::from(io::ErrorKind::OutOfMemory));
+    };
     let HomeParts {
         lots,
         of_loop,
         of_coroutines,
         run,
-    } = build_parts(rt, alloc)?;
+    } = parts;
     let Built {
         table: loop_table,
         home: loop_home,
@@ -82,10 +85,7 @@ pub fn same_thread<R: Wait + Print>(rt: &R, alloc: Global) -> io::Result<()> {
         table: &table,
         home,
         run,
-        begun: Begun {
-            count: 0,
-            is_last: false,
-        },
+        notes: Begun::none(),
     };
     let count = rounds(
         rt,

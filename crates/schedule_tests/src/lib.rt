@@ -2,7 +2,7 @@
 #![tactic(auto)]
 
 #[cfg(test)]
-mod callbacks;
+mod log;
 #[cfg(test)]
 mod rows;
 #[cfg(test)]

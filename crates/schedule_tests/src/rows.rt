@@ -3,10 +3,11 @@ ghost use Rattle.std.specs.Prelude.{◌≡◌};
 ghost use Rattle.co_schedule.specs.Calls.{IsSeatOf};
 ghost use Rattle.aio_core.specs.Calls.{IsReady};
 
-use crate::callbacks::{Log, take_and_begin};
+use crate::log::Log;
 use aio_bh::{BottomHalves, Call, LotPool, Runner, Turn};
 use aio_core::{Built, LoopTable, Seat};
 use co_schedule::{Already, Cause, CoBuilt, CoClosed, CoHome, CoRun, CoSeat, CoTable};
+use schedule_fixture::take_and_begin;
 use std::alloc::Global;
 use std::process::Abort;
 use std::sync::Wait;

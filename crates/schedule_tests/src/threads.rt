@@ -1,65 +1,25 @@
 //! Two threads schedule wakes into one home, which takes and begins them from a callback.
-ghost use Rattle.std.specs.Prelude.{◌≡◌, ◌<◌};
+ghost use Rattle.std.specs.Prelude.{◌≡◌};
 ghost use Rattle.aio_bh.specs.OneShots.{ServesHome};
 ghost use Rattle.co_schedule.specs.Calls.{IsSeatOf};
 ghost use Rattle.co_schedule.specs.Homes.{IsIdle};
 ghost use Rattle.aio_core.specs.Calls.{IsReady};
 ghost use Rattle.aio_bh.specs.Ready.{IsBetweenPolls};
 
-use crate::callbacks::{HomeCallback, Log};
-use aio_bh::{BottomHalves, LotBuilt, LotPool};
-use aio_core::{Built, Home, LoopTable, Seat};
-use co_schedule::{Cause, CoBuilt, CoHome, CoRun, CoSeat, CoTable};
+use crate::log::Log;
+use aio_bh::{BottomHalves, LotBuilt};
+use aio_core::{Built, Home, LoopTable};
+use co_schedule::{CoBuilt, CoHome, CoRun, CoTable};
+use schedule_fixture::{HomeCallback, HomeParts, NotesBegun, Poster, build_parts, wake};
 use std::process::Abort;
 use std::sync::Wait;
 use std::test::Fail;
-use std::thread::{Threads, join, yield_now};
+use std::thread::{Threads, join};
 
 /// The coroutines that both threads wake; the two behind them say that a thread is done.
 const SHARED: u32 = 32;
 
 const WAKES: u32 = 10_000;
-
-/// The seats of one thread.
-#[derive(Drop)]
-struct Poster {
-    seat: CoSeat<u64>,
-    bh_seat: Seat<()>,
-}
-
-/// Posts a wake until it is accepted. Where the coroutine is scheduled already, home gets time to begin it.
-fn wake<R: Wait>(
-    rt: &R,
-    loop_table: &LoopTable<()>,
-    table: &CoTable<u64>,
-    poster: &mut Poster,
-    co: u32,
-)
-    requires bh_seat { IsReady loop_table.now poster.old.bh_seat }
-    requires handles { loop_table.now.sizes.handles ≡ 1 }
-    requires seat { IsSeatOf table.now poster.old.seat }
-    requires below { co < table.now.coroutines }
-    ensures bh_seat { IsReady loop_table.now poster.new.bh_seat }
-    ensures seat { IsSeatOf table.now poster.new.seat }
-{
-    for _ in rt.forever() {
-        if table
-            .post(
-                rt,
-                loop_table,
-                &mut poster.seat,
-                &mut poster.bh_seat,
-                co,
-                Cause::Wake,
-                None,
-            )
-            .is_ok()
-        {
-            return;
-        }
-        yield_now();
-    }
-}
 
 /// Wakes one coroutine after another, and then the one by which this thread says that it is done. Tells how often each was.
 fn wake_all<R: Wait>(
@@ -117,7 +77,7 @@ fn poll_all<R: Wait>(
     loop_table: &LoopTable<()>,
     lots: LotBuilt,
     loop_home: Home<()>,
-    callback: HomeCallback,
+    callback: HomeCallback<Log>,
 ) -> Log
     requires lots { ServesHome loop_table.now.sizes lots.pool lots.home }
     requires loop_home { IsBetweenPolls loop_table.now loop_home.seat }
@@ -127,7 +87,7 @@ fn poll_all<R: Wait>(
     let mut loop_home = loop_home;
     let mut callback = callback;
     for _ in 0..u64::MAX {
-        if callback.log.times[32] > 0 && callback.log.times[33] > 0 {
+        if callback.notes.times[32] > 0 && callback.notes.times[33] > 0 {
             break;
         }
         loop_table.poll(
@@ -142,9 +102,9 @@ fn poll_all<R: Wait>(
         table: _,
         home: _,
         run: _,
-        log,
+        notes,
     } = callback;
-    log
+    notes
 }
 
 /// What each of two threads scheduled, and what was begun.
@@ -179,7 +139,7 @@ fn accepted_and_begun<R: Threads + Wait + Sync>(
                 table,
                 home,
                 run,
-                log: Log::empty(),
+                notes: Log::empty(),
             };
             poll_all(rt, loop_table, lots, loop_home, callback)
         },
@@ -197,30 +157,25 @@ fn all_begun(rt: &impl Abort, first: &Log, second: &Log, begun: &Log) {
 
 #[test]
 fn each_accepted_schedule_is_begun_once(rt: HostRuntime) -> Result<(), Fail> {
-    let Ok(lots) = LotPool::build(&rt, rt.alloc(), 1, 0) else {
+    let Ok(parts) = build_parts(&rt, rt.alloc(), 34) else {
         return Err(Fail::from("no memory"));
     };
-    let Ok(built) = LoopTable::<()>::build(rt.alloc(), 1, 0, 0) else {
-        return Err(Fail::from("no memory"));
-    };
+    let HomeParts {
+        lots,
+        of_loop,
+        of_coroutines,
+        run,
+    } = parts;
     let Built {
         table: loop_table,
         home: loop_home,
         seat: mut bh_seat,
-    } = built;
-    let Ok(
-        CoBuilt {
-            table,
-            home,
-            mut seat,
-        },
-    ) = CoTable::<u64>::build(rt.alloc(), 34)
-    else {
-        return Err(Fail::from("no memory"));
-    };
-    let Ok(run) = CoRun::build(rt.alloc(), 34) else {
-        return Err(Fail::from("no memory"));
-    };
+    } = of_loop;
+    let CoBuilt {
+        table,
+        home,
+        mut seat,
+    } = of_coroutines;
     let Some(other) = table.split(&mut seat) else {
         return Err(Fail::from("64 numbers are not split"));
     };

@@ -1,5 +1,5 @@
 use Rattle.co_schedule.specs.Calls.{IsSeatOf}
-use Rattle.schedule_tests.proofs.threads.wake.Given as goal
+use Rattle.schedule_fixture.proofs.poster.wake.Given as goal
 use Rattle.aio_core.specs.Calls.{IsReady}
 
 abbrev pub invariant-loop : goal.invariant-loop

@@ -7,55 +7,56 @@ use aio_bh::{Call, Runner, Turn};
 use aio_core::{LoopTable, Seat};
 use co_schedule::{CoHome, CoRun, CoTable};
 
-/// The coroutines that are woken over and over.
-pub const SHARED: u32 = 32;
-
-/// How many were begun, and whether the one was by which a thread says that it is done.
-#[derive(Clone, Copy)]
-pub struct Begun {
-    pub count: u64,
-    pub is_last: bool,
+/// Somebody who is told of each coroutine that home begins.
+pub trait NotesBegun {
+    /// Told of one that was begun, with the state that came with it.
+    fn note(&mut self, co: u32, state: Option<u64>);
 }
 
 /// Begins all of a run.
-fn begin_all(table: &CoTable<u64>, home: &mut CoHome<u64>, run: &mut CoRun, begun: &mut Begun)
+fn begin_all<N: NotesBegun>(
+    table: &CoTable<u64>,
+    home: &mut CoHome<u64>,
+    run: &mut CoRun,
+    notes: &mut N,
+)
     requires home { IsSeatOf table.now home.old }
     requires run { run.old.cos ≡ home.old.known.stage.taken }
     requires room { table.now.coroutines ≤ run.old.room }
     ensures idle { IsIdle table.now home.new run.new }
 {
-    while let Some((co, _state)) = table.begin(home, run) {
-        begun.count = begun.count.wrapping_add(1);
-        begun.is_last = begun.is_last || co == SHARED;
+    while let Some((co, state)) = table.begin(home, run) {
+        notes.note(co, state);
     }
 }
 
-fn take_and_begin(
+/// Takes the list in a callback of handle 0, and begins all of it. Calls of other handles do nothing.
+pub fn take_and_begin<N: NotesBegun>(
     table: &CoTable<u64>,
     home: &mut CoHome<u64>,
     run: &mut CoRun,
     call: &Call<()>,
-    begun: &mut Begun,
+    notes: &mut N,
 )
     requires { IsIdle table.now home.old run.old }
     ensures { IsIdle table.now home.new run.new }
 {
     if call.bh == 0 {
         table.take_all(home, run, call);
-        begin_all(table, home, run, begun);
+        begin_all(table, home, run, notes);
     }
 }
 
 /// What a home needs for its coroutines.
 #[derive(Drop)]
-pub struct HomeCallback<'a> {
+pub struct HomeCallback<'a, N: Drop> {
     pub table: &'a CoTable<u64>,
     pub home: CoHome<u64>,
     pub run: CoRun,
-    pub begun: Begun,
+    pub notes: N,
 }
 
-impl<'a> Runner<()> for HomeCallback<'a> {
+impl<'a, N: NotesBegun + Drop> Runner<()> for HomeCallback<'a, N> {
     ghost use Rattle.std.specs.Prelude.{true};
     ghost use Rattle.co_schedule.specs.Homes.{IsIdle};
 
@@ -69,7 +70,7 @@ impl<'a> Runner<()> for HomeCallback<'a> {
             &mut self.home,
             &mut self.run,
             call,
-            &mut self.begun,
+            &mut self.notes,
         );
         Turn::Done
     }
