@@ -24,7 +24,7 @@ pub(crate) fn is_nest(what: ActKind) -> bool
 }
 
 fn asks_one(what: ActKind) -> bool
-    ensures { result ≡ Plain.asks what }
+    ensures { result ≡ Plain.is_notifying what }
 {
     match what {
         ActKind::Schedule(_) | ActKind::Idle(_) | ActKind::Delete(_) => true,

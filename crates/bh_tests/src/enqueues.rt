@@ -1,16 +1,15 @@
-//! Enqueues by each kind of call, their polls, and callbacks that note what they are called for.
+//! Enqueues of each kind, and what a poll of one loop then calls; and a push that lost.
 ghost use Rattle.std.specs.Prelude.{◌≡◌, ◌<◌, IfSome, None};
 ghost use Rattle.aio_model.specs.Loop.InFlight.{AtRest};
 ghost use Rattle.aio_model.specs.Loop.History.{History};
 ghost use Rattle.aio_model.specs.Loop.Legal.{IsLegal};
 ghost use Rattle.aio_core.specs.Calls.{IsSeatOf};
-ghost use Rattle.aio_core.specs.Known.{empty_stage};
 ghost use Rattle.aio_bh.specs.Running.{SeatComesBack};
-ghost use Rattle.aio_bh.specs.OneShots.{ServesHome};
 
-use aio_bh::{BottomHalves, Call, LotBuilt, LotPool, Polled, Put, Runner, Turn};
-use aio_core::{Built, Home, LoopTable, Seat};
-use aio_model::Kind;
+use aio_bh::{BottomHalves, Call, Polled, Put, Runner, Turn};
+use aio_core::{LoopTable, Seat};
+use aio_model::{Flags, Kind};
+use loop_fixture::LoopFixture;
 use std::alloc::Global;
 use std::process::Abort;
 use std::sync::Wait;
@@ -30,20 +29,16 @@ pub(crate) fn push(rt: &impl Abort, table: &LoopTable<()>, seat: &mut Seat<()>, 
     }
 }
 
-/// Enqueues a bottom half by the call of this kind.
-fn enqueue<R: Wait>(rt: &R, table: &LoopTable<()>, seat: &mut Seat<()>, bh: u32, kind: Kind)
-    requires seat { IsSeatOf table.now seat.old }
-    requires rest { seat.old.known.phase ≡ AtRest }
-    requires handle { bh < table.now.sizes.handles }
-    ensures seat { IsSeatOf table.now seat.new }
-    ensures rest { seat.new.known.phase ≡ AtRest }
-    ensures count { seat.new.known.count ≡ seat.old.known.count }
+/// Enqueues a bottom half by the call of this kind, and answers the flags that it found.
+fn enqueue<R: Wait>(rt: &R, fixture: &mut LoopFixture<()>, bh: u32, kind: Kind) -> Flags
+    requires handle { bh < fixture.old.table.sizes.handles }
+    ensures sizes { fixture.new.table.sizes ≡ fixture.old.table.sizes }
 {
     match kind {
-        Kind::Sched => table.schedule(rt, seat, bh),
-        Kind::Idle => table.schedule_idle(rt, seat, bh),
-        Kind::Del => table.delete(rt, seat, bh),
-    };
+        Kind::Sched => fixture.schedule(rt, bh),
+        Kind::Idle => fixture.schedule_idle(rt, bh),
+        Kind::Del => fixture.delete(rt, bh),
+    }
 }
 
 /// Callbacks that note which they are, and do the same each: schedule one, or cancel one, or nest.
@@ -111,57 +106,40 @@ impl<'a, T: Abort> Runner<()> for Notes<'a, T> {
 
 /// A loop of four handles on one thread.
 #[derive(Drop)]
-struct Bench {
-    table: LoopTable<()>,
-    home: Home<()>,
-    seat: Seat<()>,
-    lots: LotBuilt,
-    ghost serves: { ServesHome table.sizes lots.pool lots.home },
-    ghost four: { table.sizes.handles ≡ 4 },
-    ghost home_of: { IsSeatOf table home.seat },
-    ghost home_rests: { home.seat.known.phase ≡ AtRest },
-    ghost home_empty: { home.seat.known.stage ≡ empty_stage },
-    ghost seat_of: { IsSeatOf table seat },
-    ghost seat_some: { 0 < seat.known.count },
-    ghost seat_rests: { seat.known.phase ≡ AtRest },
+pub(crate) struct Bench {
+    fixture: LoopFixture<()>,
+    ghost four: { fixture.table.sizes.handles ≡ 4 },
 }
 
 impl Bench {
-    fn build<R: Abort + Wait>(rt: &R, alloc: Global) -> Bench {
-        let Ok(lots) = LotPool::build(rt, alloc, 4, 0) else {
-            panic!(rt; "no memory");
-        };
-        let Ok(built) = LoopTable::<()>::build(alloc, 4, 0, 0) else {
-            panic!(rt; "no memory");
-        };
-        let Built { table, home, seat } = built;
-        Bench {
-            table,
-            home,
-            seat,
-            lots,
-        }
+    pub(crate) fn build<R: Wait>(rt: &R, alloc: Global) -> Result<Bench, Fail> {
+        let fixture = LoopFixture::build(rt, alloc, 4, 0, 0)?;
+        Ok(Bench { fixture })
     }
 
-    fn ask<R: Wait>(&mut self, rt: &R, bh: u32, kind: Kind)
+    pub(crate) fn ask<R: Wait>(&mut self, rt: &R, bh: u32, kind: Kind) -> Flags
         requires { bh < 4 }
     {
-        enqueue(rt, &self.table, &mut self.seat, bh, kind);
+        enqueue(rt, &mut self.fixture, bh, kind)
     }
 
-    fn poll<T: Abort, R: Wait>(&mut self, rt: &R, notes: &mut Notes<T>) -> Polled
+    pub(crate) fn cancel(&mut self, bh: u32) -> Flags
+        requires { bh < 4 }
+    {
+        self.fixture.cancel(bh)
+    }
+
+    pub(crate) fn poll<T: Abort, R: Wait>(&mut self, rt: &R, notes: &mut Notes<T>) -> Polled
         requires { IfSome notes.old.schedules (λ bh. bh < 4) × IfSome notes.old.cancels (λ bh. bh < 4) }
         ensures { IfSome notes.new.schedules (λ bh. bh < 4) × IfSome notes.new.cancels (λ bh. bh < 4) }
     {
-        let lots = &mut self.lots;
-        self.table
-            .poll(rt, &lots.pool, &mut lots.home, &mut self.home, notes)
+        self.fixture.poll(rt, notes)
     }
 }
 
 #[test]
-fn the_last_scheduled_is_called_first(rt: HostRuntime) {
-    let mut bench = Bench::build(&rt, rt.alloc());
+fn the_last_scheduled_is_called_first(rt: HostRuntime) -> Result<(), Fail> {
+    let mut bench = Bench::build(&rt, rt.alloc())?;
     let mut notes = Notes::of(&rt);
     bench.ask(&rt, 0, Kind::Sched);
     bench.ask(&rt, 1, Kind::Sched);
@@ -175,11 +153,12 @@ fn the_last_scheduled_is_called_first(rt: HostRuntime) {
     assert_eq!(rt; notes.called, [2, 1, 0, 0, 0, 0, 0, 0]);
     let polled = bench.poll(&rt, &mut notes);
     assert_eq!(rt; (polled.ran, polled.progress, notes.count), (0, false, 3));
+    Ok(())
 }
 
 #[test]
-fn what_was_deleted_is_not_called(rt: HostRuntime) {
-    let mut bench = Bench::build(&rt, rt.alloc());
+fn what_was_deleted_is_not_called(rt: HostRuntime) -> Result<(), Fail> {
+    let mut bench = Bench::build(&rt, rt.alloc())?;
     let mut notes = Notes::of(&rt);
     bench.ask(&rt, 0, Kind::Sched);
     bench.ask(&rt, 0, Kind::Del);
@@ -192,22 +171,24 @@ fn what_was_deleted_is_not_called(rt: HostRuntime) {
         (polled.ran, polled.progress, notes.called[0]),
         (1, false, 3)
     );
+    Ok(())
 }
 
 #[test]
-fn what_a_callback_schedules_is_for_the_next_poll(rt: HostRuntime) {
-    let mut bench = Bench::build(&rt, rt.alloc());
+fn what_a_callback_schedules_is_for_the_next_poll(rt: HostRuntime) -> Result<(), Fail> {
+    let mut bench = Bench::build(&rt, rt.alloc())?;
     let mut notes = Notes::of(&rt);
     notes.schedules = Some(0);
     bench.ask(&rt, 0, Kind::Sched);
     assert_eq!(rt; bench.poll(&rt, &mut notes).ran, 1);
     assert_eq!(rt; bench.poll(&rt, &mut notes).ran, 1);
     assert_eq!(rt; notes.count, 2);
+    Ok(())
 }
 
 #[test]
-fn one_that_a_callback_cancels_is_not_called(rt: HostRuntime) {
-    let mut bench = Bench::build(&rt, rt.alloc());
+fn one_that_a_callback_cancels_is_not_called(rt: HostRuntime) -> Result<(), Fail> {
+    let mut bench = Bench::build(&rt, rt.alloc())?;
     let mut notes = Notes::of(&rt);
     notes.cancels = Some(0);
     notes.nests = true;
@@ -219,6 +200,7 @@ fn one_that_a_callback_cancels_is_not_called(rt: HostRuntime) {
         (1, true, 1)
     );
     assert_eq!(rt; (notes.count, notes.called[0]), (5, 1));
+    Ok(())
 }
 
 /// Two seats want to push at once: 0 is aimed at the empty list, and 1 is pushed before it.
@@ -257,17 +239,12 @@ fn lose_once<R: Abort + Wait>(
 
 #[test]
 fn a_push_that_lost_is_owed(rt: HostRuntime) -> Result<(), Fail> {
-    let Ok(built) = LoopTable::<()>::build(rt.alloc(), 4, 0, 0) else {
-        return Err(Fail::from("no memory"));
-    };
-    let Built {
+    let LoopFixture {
         table,
         mut home,
         mut seat,
-    } = built;
-    let Ok(mut lots) = LotPool::build(&rt, rt.alloc(), 4, 0) else {
-        return Err(Fail::from("no memory"));
-    };
+        mut lots,
+    } = LoopFixture::build(&rt, rt.alloc(), 4, 0, 0)?;
     let mut notes = Notes::of(&rt);
     lose_once(&rt, &table, &mut seat, &mut home.seat);
     let polled = table.poll(&rt, &lots.pool, &mut lots.home, &mut home, &mut notes);

@@ -4,13 +4,12 @@ ghost use Rattle.aio_model.specs.Loop.InFlight.{AtRest};
 ghost use Rattle.aio_model.specs.Loop.History.{History};
 ghost use Rattle.aio_model.specs.Loop.Legal.{IsLegal};
 ghost use Rattle.aio_core.specs.Calls.{IsSeatOf};
-ghost use Rattle.aio_core.specs.Known.{empty_stage};
 ghost use Rattle.aio_bh.specs.Running.{SeatComesBack};
-ghost use Rattle.aio_bh.specs.OneShots.{ServesHome};
 
 use crate::enqueues::push;
-use aio_bh::{BottomHalves, Call, LotBuilt, LotPool, Polled, Runner, Turn};
-use aio_core::{Built, Home, LoopTable, Seat};
+use aio_bh::{Call, Polled, Runner, Turn};
+use aio_core::{LoopTable, Seat};
+use loop_fixture::LoopFixture;
 use std::alloc::Global;
 use std::process::Abort;
 use std::sync::Wait;
@@ -100,17 +99,8 @@ impl<'a, T: Abort> Runner<()> for Scripts<'a, T> {
 /// A shared loop, and its callbacks.
 #[derive(Drop)]
 struct Shared<'a, T: Abort> {
-    table: LoopTable<()>,
-    home: Home<()>,
-    seat: Seat<()>,
-    lots: LotBuilt,
+    fixture: LoopFixture<()>,
     callbacks: Scripts<'a, T>,
-    ghost serves: { ServesHome table.sizes lots.pool lots.home },
-    ghost home_of: { IsSeatOf table home.seat },
-    ghost home_rests: { home.seat.known.phase ≡ AtRest },
-    ghost home_empty: { home.seat.known.stage ≡ empty_stage },
-    ghost seat_of: { IsSeatOf table seat },
-    ghost seat_rests: { seat.known.phase ≡ AtRest },
 }
 
 impl<'a, R: Abort + Wait> Shared<'a, R> {
@@ -118,19 +108,8 @@ impl<'a, R: Abort + Wait> Shared<'a, R> {
         if scripts.len() > 64 {
             return Err(Fail::from("too many callbacks"));
         }
-        let handles = scripts.len() as u32;
-        let Ok(lots) = LotPool::build(rt, alloc, handles, 0) else {
-            return Err(Fail::from("no memory"));
-        };
-        let Ok(built) = LoopTable::<()>::build(alloc, handles, 0, 0) else {
-            return Err(Fail::from("no memory"));
-        };
-        let Built { table, home, seat } = built;
         Ok(Shared {
-            table,
-            home,
-            seat,
-            lots,
+            fixture: LoopFixture::build(rt, alloc, scripts.len() as u32, 0, 0)?,
             callbacks: Scripts {
                 rt,
                 scripts: scripts.to_vec(alloc)?,
@@ -140,20 +119,13 @@ impl<'a, R: Abort + Wait> Shared<'a, R> {
     }
 
     fn schedule(&mut self, rt: &R, bh: u32) {
-        if bh < self.table.handles() {
-            self.table.schedule(rt, &mut self.seat, bh);
+        if bh < self.fixture.table.handles() {
+            self.fixture.schedule(rt, bh);
         }
     }
 
     fn poll(&mut self, rt: &R) -> Polled {
-        let lots = &mut self.lots;
-        self.table.poll(
-            rt,
-            &lots.pool,
-            &mut lots.home,
-            &mut self.home,
-            &mut self.callbacks,
-        )
+        self.fixture.poll(rt, &mut self.callbacks)
     }
 }
 

@@ -1,13 +1,9 @@
 //! One-shots over pools of one place, of two and of none.
 ghost use Rattle.std.specs.Prelude.{◌≡◌, ◌≤◌};
-ghost use Rattle.aio_model.specs.Loop.InFlight.{AtRest};
-ghost use Rattle.aio_core.specs.Known.{empty_stage};
-ghost use Rattle.aio_core.specs.Calls.{IsSeatOf};
-ghost use Rattle.lot_pool.specs.Pools.{IsPassOf};
-ghost use Rattle.aio_bh.specs.OneShots.{ServesHome};
 
-use aio_bh::{BottomHalves, Call, LotBuilt, LotPool, Runner, Turn};
-use aio_core::{Built, Home, LoopTable, Seat};
+use aio_bh::{Call, Runner, Turn};
+use aio_core::{LoopTable, Seat};
+use loop_fixture::LoopFixture;
 use std::alloc::Global;
 use std::process::Abort;
 use std::sync::Wait;
@@ -55,53 +51,28 @@ impl Runner<u64> for Entries {
 /// A loop of one handle, 0, and some lots.
 #[derive(Drop)]
 struct Lots {
-    table: LoopTable<u64>,
-    home: Home<u64>,
-    seat: Seat<u64>,
-    lots: LotBuilt,
-    ghost one: { table.sizes.handles ≡ 1 },
-    ghost serves: { ServesHome table.sizes lots.pool lots.home },
-    ghost pass_of: { IsPassOf lots.pool lots.pass },
-    ghost home_of: { IsSeatOf table home.seat },
-    ghost home_rests: { home.seat.known.phase ≡ AtRest },
-    ghost home_empty: { home.seat.known.stage ≡ empty_stage },
-    ghost seat_of: { IsSeatOf table seat },
-    ghost seat_rests: { seat.known.phase ≡ AtRest },
+    fixture: LoopFixture<u64>,
+    ghost one: { fixture.table.sizes.handles ≡ 1 },
 }
 
 impl Lots {
     fn build<R: Wait>(rt: &R, alloc: Global, count: u32) -> Result<Lots, Fail>
         requires { count ≤ 4095 }
     {
-        let Ok(lots) = LotPool::build(rt, alloc, 1, count) else {
-            return Err(Fail::from("no memory"));
-        };
-        let Ok(built) = LoopTable::<u64>::build(alloc, 1, count, 0) else {
-            return Err(Fail::from("no memory"));
-        };
-        let Built { table, home, seat } = built;
-        Ok(Lots {
-            table,
-            home,
-            seat,
-            lots,
-        })
+        let fixture = LoopFixture::build(rt, alloc, 1, count, 0)?;
+        Ok(Lots { fixture })
     }
 
     /// The job comes back where there is no room.
     fn once<R: Wait>(&mut self, rt: &R, job: u64) -> Option<u64> {
-        let lots = &mut self.lots;
-        let placed = self
-            .table
-            .once(rt, &lots.pool, &mut lots.pass, &mut self.seat, job);
-        match placed {
+        match self.fixture.once(rt, job) {
             Ok(()) => None,
             Err(refused) => Some(refused.job),
         }
     }
 
     fn schedule<R: Wait>(&mut self, rt: &R) {
-        self.table.schedule(rt, &mut self.seat, 0);
+        self.fixture.schedule(rt, 0);
     }
 
     /// One poll, and what it is to call.
@@ -110,11 +81,10 @@ impl Lots {
             entries: [NO_ENTRY; 4],
             count: 0,
         };
-        let lots = &mut self.lots;
-        let polled = self.table.poll(rt, &lots.pool, &mut lots.home, &mut self.home, &mut entries);
+        let polled = self.fixture.poll(rt, &mut entries);
         assert_eq!(rt; (polled.ran, polled.progress), (ran, ran > 0));
         assert_eq!(rt; (entries.count as u64, entries.entries), (ran, wanted));
-        assert_eq!(rt; self.lots.home.kept(), 0);
+        assert_eq!(rt; self.fixture.lots.home.kept(), 0);
     }
 }
 

@@ -1,15 +1,10 @@
 //! What the calls on the shared loop answer: in worked lists of calls, and beside the plain loop of one thread, over lists that a
 //! small generator makes.
-ghost use Rattle.std.specs.Prelude.{◌≡◌, ◌<◌, IfSome};
-ghost use Rattle.aio_model.specs.Loop.InFlight.{AtRest};
-ghost use Rattle.aio_core.specs.Known.{empty_stage};
-ghost use Rattle.aio_core.specs.Calls.{IsSeatOf, IsReady};
-ghost use Rattle.aio_bh.specs.OneShots.{ServesHome};
+ghost use Rattle.std.specs.Prelude.{◌≡◌, ◌<◌};
 
-use crate::enqueues::Notes;
-use aio_bh::{BottomHalves, LotBuilt, LotPool, Polled};
-use aio_core::{Built, Home, LoopTable, Seat};
-use aio_model::{Flags, OneLoop};
+use crate::enqueues::{Bench, Notes};
+use aio_bh::Polled;
+use aio_model::{Flags, Kind, OneLoop};
 use std::alloc::Global;
 use std::process::Abort;
 use std::sync::Wait;
@@ -29,65 +24,15 @@ enum Act {
     Delete,
 }
 
-/// A shared loop of four handles.
-#[derive(Drop)]
-struct Shared {
-    table: LoopTable<()>,
-    home: Home<()>,
-    seat: Seat<()>,
-    lots: LotBuilt,
-    ghost serves: { ServesHome table.sizes lots.pool lots.home },
-    ghost four: { table.sizes.handles ≡ 4 },
-    ghost home_of: { IsSeatOf table home.seat },
-    ghost home_rests: { home.seat.known.phase ≡ AtRest },
-    ghost home_empty: { home.seat.known.stage ≡ empty_stage },
-    ghost seat_of: { IsSeatOf table seat },
-    ghost seat_rests: { seat.known.phase ≡ AtRest },
-}
-
-/// One call through a seat, which is at rest again.
-fn act_on<R: Wait>(rt: &R, table: &LoopTable<()>, seat: &mut Seat<()>, act: Act, bh: u32) -> Flags
-    requires seat { IsReady table.now seat.old }
-    requires handle { bh < table.now.sizes.handles }
-    ensures seat { IsReady table.now seat.new }
+/// One call on the shared loop.
+fn act_on<R: Wait>(rt: &R, shared: &mut Bench, act: Act, bh: u32) -> Flags
+    requires { bh < 4 }
 {
     match act {
-        Act::Schedule => table.schedule(rt, seat, bh),
-        Act::ScheduleIdle => table.schedule_idle(rt, seat, bh),
-        Act::Cancel => table.cancel(seat, bh),
-        Act::Delete => table.delete(rt, seat, bh),
-    }
-}
-
-impl Shared {
-    fn build<R: Wait>(rt: &R, alloc: Global) -> Result<Shared, Fail> {
-        let Ok(lots) = LotPool::build(rt, alloc, 4, 0) else {
-            return Err(Fail::from("no memory"));
-        };
-        let Ok(built) = LoopTable::<()>::build(alloc, 4, 0, 0) else {
-            return Err(Fail::from("no memory"));
-        };
-        let Built { table, home, seat } = built;
-        Ok(Shared {
-            table,
-            home,
-            seat,
-            lots,
-        })
-    }
-
-    fn act<R: Wait>(&mut self, rt: &R, act: Act, bh: u32) -> Flags
-        requires { bh < 4 }
-    {
-        act_on(rt, &self.table, &mut self.seat, act, bh)
-    }
-
-    fn poll<T: Abort, R: Wait>(&mut self, rt: &R, notes: &mut Notes<T>) -> Polled
-        requires { IfSome notes.old.schedules (λ bh. bh < 4) × IfSome notes.old.cancels (λ bh. bh < 4) }
-    {
-        let lots = &mut self.lots;
-        self.table
-            .poll(rt, &lots.pool, &mut lots.home, &mut self.home, notes)
+        Act::Schedule => shared.ask(rt, bh, Kind::Sched),
+        Act::ScheduleIdle => shared.ask(rt, bh, Kind::Idle),
+        Act::Cancel => shared.cancel(bh),
+        Act::Delete => shared.ask(rt, bh, Kind::Del),
     }
 }
 
@@ -154,7 +99,7 @@ impl Plain {
 }
 
 /// One poll of both: they call the same, one after the other.
-fn both_poll<R: Abort + Wait>(rt: &R, shared: &mut Shared, plain: &mut Plain) {
+fn both_poll<R: Abort + Wait>(rt: &R, shared: &mut Bench, plain: &mut Plain) {
     let mut called = Notes::of(rt);
     let mut wanted = Notes::of(rt);
     assert_eq!(rt; shared.poll(rt, &mut called), plain.poll(&mut wanted));
@@ -174,17 +119,17 @@ fn chosen(number: u32) -> Option<Act> {
 }
 
 /// One call on both, as the number says, answers the same.
-fn step<R: Abort + Wait>(rt: &R, shared: &mut Shared, plain: &mut Plain, number: u32) {
+fn step<R: Abort + Wait>(rt: &R, shared: &mut Bench, plain: &mut Plain, number: u32) {
     let bh = number / 65536 % 4;
     match chosen(number) {
-        Some(act) => assert_eq!(rt; shared.act(rt, act, bh), plain.act(act, bh)),
+        Some(act) => assert_eq!(rt; act_on(rt, shared, act, bh), plain.act(act, bh)),
         None => both_poll(rt, shared, plain),
     }
 }
 
 /// Thirty calls, one after the other. The numbers go on from the last one.
 fn compared<R: Abort + Wait>(rt: &R, alloc: Global, seed: u32) -> Result<u32, Fail> {
-    let mut shared = Shared::build(rt, alloc)?;
+    let mut shared = Bench::build(rt, alloc)?;
     let mut plain = Plain::build(alloc)?;
     let mut number = seed;
     for _ in 0..30 {
@@ -247,7 +192,7 @@ enum Row {
 }
 
 /// One poll.
-fn polls<R: Abort + Wait>(rt: &R, shared: &mut Shared, ran: u64, calls: [u32; 3], progress: bool) {
+fn polls<R: Abort + Wait>(rt: &R, shared: &mut Bench, ran: u64, calls: [u32; 3], progress: bool) {
     let mut notes = Notes::of(rt);
     let polled = shared.poll(rt, &mut notes);
     assert_eq!(rt;
@@ -262,10 +207,13 @@ fn polls<R: Abort + Wait>(rt: &R, shared: &mut Shared, ran: u64, calls: [u32; 3]
 
 /// One row after another is as wanted.
 fn holds<R: Abort + Wait>(rt: &R, alloc: Global, rows: &[Row]) -> Result<(), Fail> {
-    let mut shared = Shared::build(rt, alloc)?;
+    let mut shared = Bench::build(rt, alloc)?;
     for row in rows {
         match *row {
-            Row::Finds(act, bh, found) => assert_eq!(rt; shared.act(rt, act, bh % 4), found),
+            Row::Finds(act, bh, found) => assert_eq!(rt;
+                act_on(rt, &mut shared, act, bh % 4),
+                found
+            ),
             Row::Polls(ran, calls, progress) => polls(rt, &mut shared, ran, calls, progress),
         }
     }

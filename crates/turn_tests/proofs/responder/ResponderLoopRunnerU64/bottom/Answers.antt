@@ -4,4 +4,4 @@ use Rattle.turn_tests.proofs.responder.ResponderLoopRunnerU64.bottom.Goals as go
 
 pub returns-clause-runs : goal.returns-clause-runs
 returns-clause-runs g c =
-    runs_alone _ _ c.args.self.now _ c.args._side.now c.args._seat.now.known _ c.requires.seat.sizes c.requires.legal refl
+    runs_alone _ _ c.args.self.now _ c.args._side.now c.args._seat.now.known _ c.requires.seat.of.sizes c.requires.legal refl
