@@ -1,5 +1,5 @@
 //! Two threads schedule wakes into one home, which takes and begins them from a callback.
-ghost use Rattle.std.specs.Prelude.{◌≡◌};
+ghost use Rattle.std.specs.Prelude.{◌≡◌, ◌<◌};
 ghost use Rattle.aio_bh.specs.OneShots.{ServesHome};
 ghost use Rattle.co_schedule.specs.Calls.{IsSeatOf};
 ghost use Rattle.co_schedule.specs.Homes.{IsIdle};

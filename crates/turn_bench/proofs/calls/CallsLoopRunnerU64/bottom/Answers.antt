@@ -4,4 +4,4 @@ use Rattle.turn_bench.proofs.calls.CallsLoopRunnerU64.bottom.Goals as goal
 
 pub returns-clause-runs : goal.returns-clause-runs
 returns-clause-runs c =
-    runs_alone _ _ c.args.self.now _ c.args._side.now c.args._seat.now.known _ c.requires.seat.sizes c.requires.legal refl
+    runs_alone _ _ c.args.self.now _ c.args._side.now c.args._seat.now.known _ c.requires.seat.of.sizes c.requires.legal refl
